@@ -1,0 +1,67 @@
+-- Document 01, "Refusal numbers": the number of each row, in the table's order. Assumes nothing.
+use Prim.Native.Nat.{ℕ}
+use Rattle.refusals.specs.declared.Refusal.{Refusal}
+use Rattle.refusals.specs.declared.Refusal.the-variants.{
+  TooShort,
+  Authority,
+  LabelControl,
+  UnknownKind,
+  LabelLength,
+  Truncated,
+  AggregationLabel,
+  PrimaryLabel,
+  SecondaryLabel,
+  DataType,
+  DataLength,
+  Nesting,
+  WrongKind,
+  FieldRange,
+  WriterInput,
+  WriterSpace,
+  ListFull,
+  BufferSize,
+  NotSheet,
+  NoDesk,
+  BadKey,
+  AlreadyEnrolled,
+  LedgerFull,
+  NoRow,
+  DeskOpen,
+  DeskClosed,
+  OutsideRow,
+  AlreadyTicked,
+  NotTicked,
+  Stale,
+}
+
+abbrev pub numberOf : Refusal → ℕ
+numberOf TooShort = 1
+numberOf Authority = 2
+numberOf LabelControl = 3
+numberOf UnknownKind = 4
+numberOf LabelLength = 5
+numberOf Truncated = 6
+numberOf AggregationLabel = 7
+numberOf PrimaryLabel = 8
+numberOf SecondaryLabel = 9
+numberOf DataType = 10
+numberOf DataLength = 11
+numberOf Nesting = 18
+numberOf WrongKind = 15
+numberOf FieldRange = 12
+numberOf WriterInput = 14
+numberOf WriterSpace = 13
+numberOf ListFull = 16
+numberOf BufferSize = 17
+numberOf NotSheet = 20
+numberOf NoDesk = 21
+numberOf BadKey = 22
+numberOf AlreadyEnrolled = 23
+numberOf LedgerFull = 24
+numberOf NoRow = 25
+numberOf DeskOpen = 26
+numberOf DeskClosed = 27
+numberOf OutsideRow = 28
+numberOf AlreadyTicked = 29
+numberOf NotTicked = 30
+numberOf Stale = 31
