@@ -1,0 +1,193 @@
+-- Laws of the definitions of `specs/Field.antt`, each stated once, over the width or the index.
+-- Assumes nothing.
+use Prim.Native.Nat.{ℕ, zero, suc, _+_, _*_, _/_, _%_, _^_, _-_, _<_, _≤_}
+use native.Mathlib.Nat.{pow-suc, pow-le-pow-right, not-suc-le-zero, le-of-suc-le-suc, eq-or-lt-of-le, lt-of-lt-of-le, le-add-right, le-refl}
+use native.Mathlib.Numerals.{add-one}
+use native.Mathlib.Omega.{arith}
+use mathlib.Core.Bool.{Bool, true, false, not, _&&_, false≢true}
+use mathlib.Core.List.{List, [], _∷_, _++_, append-assoc}
+use mathlib.Core.Logic.{⊎-elim, _⊎_, inl, inr}
+use mathlib.Core.Path.{_≡_, refl, sym, ap, _∙_}
+use borrow.Author.Tests.{not-true, not-false, ne-eqb, eqb-true, eqb-false}
+use lib.Bits.{bitOr, bitXor, or-zero-l, or-add-and, xor-add-and, xor-self, and-le-l, and-le-r}
+use lib.Dec.{eqb, lit<, eqb·suc-zero}
+use mir.Syntax.{w8}
+use mir.Val.{Fits}
+use lib.ListN.{length, take, drop, getD, set, length-append, length-drop, length-set, List·getD-append}
+use lib.Seq.{paste, paste-zero, paste-suc, length-paste, take-length, take-set-le, drop-cons, drop-set-lt, getD-set-same, length-take-le, append-snoc, getD-take, getD-drop, length-paste-head, getD-append-add}
+use Rattle.octets.specs.Octets.{numberAt, bytesOf, part, put, all}
+
+-- ---- numbers
+
+-- every element is a byte
+abbrev pub Bytes : List ℕ → Type 0
+Bytes s = (k : ℕ) → Fits w8 (getD s k 0)
+
+-- n bytes make a number below 256 ^ n
+pub number-lt : (s : List ℕ) (a n : ℕ) → Bytes s → numberAt s a n < 256 ^ n
+unfolding numberAt
+number-lt s a zero b = lit< tt
+number-lt s a (suc n) b = rw pow-suc (omega (arith, number-lt s a n b, b (a + n)))
+
+-- one byte more still fits 64 bits
+pub number-room : (s : List ℕ) (a n : ℕ) → Bytes s → n < 8 → numberAt s a n < 256 ^ 7
+number-room s a n b h = lt-of-lt-of-le (number-lt s a n b) (pow-le-pow-right (lit< tt) (le-of-suc-le-suc h))
+
+pub number-none : (s : List ℕ) (a : ℕ) → numberAt s a 0 ≡ 0
+unfolding numberAt
+number-none s a = refl
+
+pub number-more : (s : List ℕ) (a i : ℕ) → numberAt s a (i + 1) ≡ numberAt s a i * 256 + getD s (a + i) 0
+unfolding numberAt
+number-more s a i = rw add-one
+
+pub length-bytesOf : (n v : ℕ) → length (bytesOf n v) ≡ n
+unfolding bytesOf
+length-bytesOf zero v = refl
+length-bytesOf (suc n) v = length-append (bytesOf n (v / 256)) (v % 256 ∷ []) ∙ ap (λ (k : ℕ). k + 1) (length-bytesOf n (v / 256)) ∙ add-one n
+
+-- ---- a test of every number below n
+
+-- what a branch on the negation of a call's result says of the definition that the result equals
+pub failed : {r b : Bool} → r ≡ b → not r ≡ true → b ≡ false
+failed {r} e h = sym e ∙ not-true r h
+
+pub passed : {r b : Bool} → r ≡ b → not r ≡ false → b ≡ true
+passed {r} e h = sym e ∙ not-false r h
+
+pub and-split : (a b : Bool) → a && b ≡ true → (a ≡ true) × (b ≡ true)
+and-split true b e = (refl, e)
+and-split false b e = absurd (false≢true e)
+
+and-false : (b : Bool) → b && false ≡ false
+and-false true = refl
+and-false false = refl
+
+pub all-none : (p : ℕ → Bool) → all 0 p ≡ true
+unfolding all
+all-none p = refl
+
+pub all-more : (i : ℕ) (p : ℕ → Bool) → all i p ≡ true → p i ≡ true → all (i + 1) p ≡ true
+unfolding all
+all-more i p h e = rw (add-one, h, e)
+
+pub all-fails : (n i : ℕ) (p : ℕ → Bool) → i < n → p i ≡ false → all n p ≡ false
+unfolding all
+all-fails zero i p l e = absurd (not-suc-le-zero l)
+all-fails (suc n) i p l e =
+    ⊎-elim
+    (λ (q : i ≡ n). ap (λ (b : Bool). all n p && b) (ap p (sym q) ∙ e) ∙ and-false (all n p))
+    (λ (q : i < n). ap (λ (b : Bool). b && p n) (all-fails n i p q e))
+    (eq-or-lt-of-le (le-of-suc-le-suc l))
+
+pub all-at : (n i : ℕ) (p : ℕ → Bool) → all n p ≡ true → i < n → p i ≡ true
+all-at n i p h l = by (p i) refl
+  where
+    by : (b : Bool) → p i ≡ b → p i ≡ true
+    by true e = e
+    by false e = absurd (false≢true (sym (all-fails n i p l e) ∙ h))
+
+pub all-each : (n : ℕ) (p : ℕ → Bool) → ((i : ℕ) → i < n → p i ≡ true) → all n p ≡ true
+unfolding all
+all-each zero p h = refl
+all-each (suc n) p h = rw (all-each n p (λ i l. h i (omega arith)), h n (le-refl _))
+
+pub all-next : (i : ℕ) (p : ℕ → Bool) → all (i + 1) p ≡ (all i p && p i)
+unfolding all
+all-next i p = rw add-one
+
+-- ---- bytes gathered by `|`: zero exactly when each of them is
+
+pub or-zero : (x y : ℕ) → eqb (bitOr x y) 0 ≡ (eqb x 0 && eqb y 0)
+or-zero zero y = rw or-zero-l
+or-zero (suc x) y =
+    rw (eqb·suc-zero x) (ne-eqb _ _ (λ (e : bitOr (suc x) y ≡ 0). omega (arith, or-add-and (suc x) y, and-le-r (suc x) y)))
+
+pub xor-zero : (x y : ℕ) → eqb (bitXor x y) 0 ≡ eqb x y
+xor-zero x y = by (eqb x y) refl
+  where
+    by : (b : Bool) → eqb x y ≡ b → eqb (bitXor x y) 0 ≡ b
+    by true e = rw (eqb-true x y e) (rw xor-self refl)
+    by false e =
+        ne-eqb _ _ (λ (z : bitXor x y ≡ 0).
+        eqb-false x y e (omega (arith, xor-add-and x y, and-le-l x y, and-le-r x y)))
+
+-- one byte more is gathered
+pub gathered : (p : ℕ → Bool) (i any x : ℕ) → eqb any 0 ≡ all i p → eqb x 0 ≡ p i → eqb (bitOr any x) 0 ≡ all (i + 1) p
+gathered p i any x e f = or-zero any x ∙ rw (e, f, all-next)
+
+-- ---- a part replaced, byte by byte
+
+pub put-none : (s : List ℕ) (a : ℕ) → put s a [] ≡ s
+unfolding put
+put-none s a = sym (paste-zero s a [])
+
+-- where no byte is left to write
+pub put-zero : (s : List ℕ) (a n v : ℕ) → n ≡ 0 → put s a (bytesOf n v) ≡ s
+unfolding bytesOf
+put-zero s a n v e = rw e (put-none s a)
+
+pub put-all : (s : List ℕ) (a : ℕ) (v : List ℕ) → paste s a v (length v) ≡ put s a v
+unfolding put
+put-all s a v = rw take-length
+
+pub length-put : (s : List ℕ) (a : ℕ) (v : List ℕ) → a + length v ≤ length s → length (put s a v) ≡ length s
+length-put s a v h = rw (← put-all) (length-paste s a v (length v) h (omega arith))
+
+-- i of the bytes of v are put in
+unfoldable pub putting : List ℕ → ℕ → List ℕ → ℕ → List ℕ
+putting s a v i = paste s a v i
+
+pub putting-none : (s : List ℕ) (a : ℕ) (v : List ℕ) → s ≡ putting s a v 0
+unfolding putting
+putting-none s a v = paste-zero s a v
+
+pub putting-more : {s : List ℕ} (s₀ : List ℕ) (a : ℕ) (v : List ℕ) (i x : ℕ) → s ≡ putting s₀ a v i → getD v i 0 ≡ x → a + i < length s₀ → i < length v
+    → set s (a + i) x ≡ putting s₀ a v (i + 1)
+unfolding putting
+putting-more s₀ a v i x e g h l = rw (e, ← g, add-one, paste-suc s₀ a v i 0)
+
+pub putting-all : {s : List ℕ} (s₀ : List ℕ) (a : ℕ) (v : List ℕ) (i : ℕ) → s ≡ putting s₀ a v i → length v ≡ i → s ≡ put s₀ a v
+unfolding putting
+putting-all s₀ a v i e l = e ∙ rw (← l) (put-all s₀ a v)
+
+-- the last of n big-endian bytes is stored first
+pub put-number : (s : List ℕ) (a n v : ℕ) → 0 < n → a + n ≤ length s
+    → put (set s (a + (n - 1)) (v % 256)) a (bytesOf (n - 1) (v / 256)) ≡ put s a (bytesOf n v)
+unfolding put bytesOf
+put-number s a zero v p h = absurd (not-suc-le-zero p)
+put-number s a (suc n) v p h =
+    let m : suc n - 1 ≡ n = omega arith in
+    let l : a + n < length s = omega arith in
+    let b = v % 256 in
+    let tail : drop (a + n) (set s (a + n) b) ≡ b ∷ drop (suc (a + n)) s =
+    drop-cons (set s (a + n) b) (a + n) 0 (rw length-set l) ∙ rw (getD-set-same s (a + n) b 0, drop-set-lt (suc (a + n)) s (a + n) b (le-refl _)) in
+    let next : a + (n + 1) ≡ suc (a + n) = omega arith in
+    rw (m, take-set-le a s (a + n) b (le-add-right a n), length-append, length-bytesOf, tail, next, ← append-assoc (take a s) (bytesOf n (v / 256)), append-snoc)
+
+-- an element of the second of two lists
+pub getD-past : (p q : List ℕ) (n k : ℕ) → length p ≡ n → n ≤ k → getD (p ++ q) k 0 ≡ getD q (k - n) 0
+getD-past p q n k l h =
+    let e : length p + (k - n) ≡ k = omega arith in
+    ap (λ (m : ℕ). getD (p ++ q) m 0) (sym e) ∙ getD-append-add p q (k - n) 0
+
+-- a byte outside of what has been replaced is as it was
+pub putting-outside : (s : List ℕ) (a : ℕ) (v : List ℕ) (i k : ℕ) → a + i ≤ length s → i ≤ length v → (k < a) ⊎ (a + i ≤ k)
+    → getD (putting s a v i) k 0 ≡ getD s k 0
+unfolding putting
+putting-outside s a v i k h l (inl q) =
+    let la : length (take a s) ≡ a = length-take-le a s (omega arith) in
+    rw (List·getD-append (take a s ++ take i v) (drop (a + i) s) 0 k (rw length-append (omega arith)), List·getD-append (take a s) (take i v) 0 k (omega arith), getD-take)
+putting-outside s a v i k h l (inr q) =
+    let e : a + i + (k - (a + i)) ≡ k = omega arith in
+    rw (getD-past (take a s ++ take i v) (drop (a + i) s) (a + i) k (length-paste-head s a v i (omega arith) l) q, getD-drop, e)
+
+-- ---- a part
+
+pub length-part : (s : List ℕ) (a n : ℕ) → a + n ≤ length s → length (part s a n) ≡ n
+unfolding part
+length-part s a n h = length-take-le n (drop a s) (rw length-drop (omega arith))
+
+pub part-at : (s : List ℕ) (a n i : ℕ) → i < n → getD (part s a n) i 0 ≡ getD s (a + i) 0
+unfolding part
+part-at s a n i h = rw (getD-take, getD-drop)

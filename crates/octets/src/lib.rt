@@ -1,0 +1,83 @@
+// Numbers and ranges in byte slices: big-endian numbers of 1 to 8 bytes read and written, ranges tested, cleared and copied.
+ghost use mathlib.Core.Path.{_≡_};
+ghost use mathlib.Core.Logic.{_⊎_};
+ghost use Prim.Native.Nat.{_+_, _≤_};
+ghost use lib.ListN.{length, replicate};
+ghost use Rattle.octets.specs.Octets.{numberAt, bytesOf, part, put, zeroAt, sameAt};
+
+// The big-endian number in the n bytes from index a.
+pub fn read_be(s: &[u8], a: usize, n: usize) -> u64
+    requires { ⌜ (n ≤ 8) × (a + n ≤ length (now s)) ⌝ }
+    ensures { λ r. ⌜ r ≡ numberAt (now (s .entry)) a n ⌝ }
+{
+    let mut v: u64 = 0;
+    for i in 0..n {
+        v = v * 256 + wide(s[a + i]);
+    }
+    v
+}
+
+fn wide(x: u8) -> u64
+    ensures { λ r. ⌜ r ≡ x ⌝ }
+{
+    x as u64
+}
+
+// Whether the n bytes from index a are zero. The bytes are gathered with no early exit, so that LLVM vectorizes the loop.
+pub fn is_zero(s: &[u8], a: usize, n: usize) -> bool
+    requires { ⌜ a + n ≤ length (now s) ⌝ }
+    ensures { λ r. ⌜ r ≡ zeroAt (now (s .entry)) a n ⌝ }
+{
+    let mut any: u8 = 0;
+    for i in 0..n {
+        any |= s[a + i];
+    }
+    any == 0
+}
+
+// Whether the n bytes of s from index a equal the n bytes of t from index b; s and t may be one slice.
+pub fn is_same(s: &[u8], a: usize, t: &[u8], b: usize, n: usize) -> bool
+    requires { ⌜ (a + n ≤ length (now s)) × (b + n ≤ length (now t)) ⌝ }
+    ensures { λ r. ⌜ r ≡ sameAt (now (s .entry)) a (now (t .entry)) b n ⌝ }
+{
+    let mut any: u8 = 0;
+    for i in 0..n {
+        any |= s[a + i] ^ t[b + i];
+    }
+    any == 0
+}
+
+// Writes v as n big-endian bytes from index a.
+pub fn write_be(s: &mut [u8], a: usize, n: usize, v: u64)
+    requires { ⌜ a + n ≤ length (now s) ⌝ }
+    ensures { λ _. ⌜ now (s .exit) ≡ put (now (s .entry)) a (bytesOf n v) ⌝ }
+{
+    let mut left = v;
+    let mut i = n;
+    while 0 < i {
+        i -= 1;
+        s[a + i] = (left % 256) as u8;
+        left = left / 256;
+    }
+}
+
+// Sets the n bytes from index a to zero.
+pub fn clear(s: &mut [u8], a: usize, n: usize)
+    requires { ⌜ a + n ≤ length (now s) ⌝ }
+    ensures { λ _. ⌜ now (s .exit) ≡ put (now (s .entry)) a (replicate n 0) ⌝ }
+{
+    for i in 0..n {
+        s[a + i] = 0;
+    }
+}
+
+// Copies the n bytes from index a to index b. The ranges may overlap where b is at most a.
+pub fn copy(s: &mut [u8], a: usize, b: usize, n: usize)
+    requires { ⌜ (a + n ≤ length (now s)) × (b + n ≤ length (now s)) ⌝ }
+    requires { ⌜ (a + n ≤ b) ⊎ (b ≤ a) ⌝ }
+    ensures { λ _. ⌜ now (s .exit) ≡ put (now (s .entry)) b (part (now (s .entry)) a n) ⌝ }
+{
+    for i in 0..n {
+        s[b + i] = s[a + i];
+    }
+}
