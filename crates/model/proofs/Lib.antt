@@ -6,3 +6,4 @@ pub mod WellFormed
 pub mod Replay
 pub mod Stale
 pub mod History
+pub mod Claim
