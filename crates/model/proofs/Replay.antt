@@ -52,6 +52,7 @@ use Rattle.model.specs.Book.{
   run,
 }
 use Rattle.model.specs.History.{noted, transactionFrom, transaction, kept, serialFrom, serial}
+use Rattle.model.specs.Chain.{Chain, stop, next, Steps}
 use Rattle.model.proofs.Basics.{same-true, row-not-free, row-in, put-all, idle-desk, idle-close, at-desk}
 use Rattle.model.proofs.Steps.{markVerdict, open-step, mark-step, save-step}
 use Rattle.model.proofs.Outcome.{isMark, Has, Outcome, refusal, enrolment, finding, opening, unopened, unmarked, marking, saving, stale, dropping, outcome}
@@ -67,10 +68,8 @@ transaction-snoc d t (x ∷ past) e = transaction-snoc d (noted d t x) past e
 -- ---- replaying entries
 
 -- Run from b, the calls of the entries get the entries' answers, and end at b′.
-pub data Replays : Book → List Entry → Book → Type 0 where
-  stop : {b : Book} → Replays b [] b
-  next : {b b₁ b₂ : Book} {c : Call} {a : Answer} {es : List Entry} → step c b ≡ reply a b₁ → Replays b₁ es b₂
-      → Replays b ((c ⇒ a) ∷ es) b₂
+abbrev pub Replays : Book → List Entry → Book → Type 0
+Replays b es b′ = Chain Steps b es b′
 
 one : {b b₁ : Book} {c : Call} {a : Answer} → step c b ≡ reply a b₁ → Replays b ((c ⇒ a) ∷ []) b₁
 one e = next e stop
