@@ -7,7 +7,8 @@ use mathlib.Core.Bool.{Bool, true, false, cond, _&&_}
 use mathlib.Core.List.{List, [], _∷_, _++_, map}
 use lib.Dec.{eqb}
 use Rattle.model.specs.Positions.{Positions}
-use Rattle.model.specs.Book.{working, Book, idle, fresh, desk, Call, Enrol, Find, Open, Mark, Save, Drop, Answer, accepted, reply, refused, step, Entry, _⇒_, callOf, Run, run}
+use Rattle.model.specs.Book.{working, Book, idle, fresh, desk}
+use Rattle.model.specs.Step.{Call, Enrol, Find, Open, Mark, Save, Drop, Answer, accepted, reply, refused, step, Entry, _⇒_, callOf, Run, run}
 use Rattle.model.specs.History.{noted, transactionFrom, transaction, kept, serialFrom, serial}
 use Rattle.model.specs.WellFormed.{WellFormed, InRange, AllInRange}
 use Rattle.model.specs.Chain.{Chain, stop, next, Steps}

@@ -13,42 +13,9 @@ use lib.ListN.{length, getD, set}
 use lib.Seq.{getD-set-same}
 use borrow.Author.Tests.{eqb-true, eqb-false, ltb-true, not-true, not-false}
 use Rattle.refusals.specs.Judge.{verdict}
-use Rattle.model.specs.Positions.{rowLength, Positions, has, size, missing}
-use Rattle.model.specs.Book.{
-  Place,
-  free,
-  row,
-  working,
-  Book,
-  place,
-  desk,
-  isFree,
-  ticksOf,
-  workedOf,
-  isDesk,
-  hasKey,
-  placeWith,
-  lowestFree,
-  inRow,
-  Call,
-  Enrol,
-  Find,
-  Open,
-  Mark,
-  Save,
-  Drop,
-  Answer,
-  done,
-  atRow,
-  refused,
-  answerWords,
-  Reply,
-  alreadySo,
-  refusals,
-  effect,
-  step,
-  run,
-}
+use Rattle.model.specs.Positions.{rowLength, Positions, has, size, missing, inRow}
+use Rattle.model.specs.Book.{Place, free, row, working, Book, place, desk, isFree, ticksOf, workedOf, isDesk, hasKey, placeWith, lowestFree}
+use Rattle.model.specs.Step.{Call, Enrol, Find, Open, Mark, Save, Drop, Answer, done, atRow, refused, answerWords, Reply, alreadySo, refusals, effect, step, run}
 use Rattle.model.specs.WellFormed.{WellFormed, PlaceOk, IsSet, keyOf}
 use Rattle.model.proofs.Basics.{by-test, by-bool, beq-true}
 use Rattle.model.proofs.Steps.{markVerdict}

@@ -2,7 +2,8 @@
 -- call c on the store s that answered a and left t, as a function's contract has it. Assumes nothing.
 use mathlib.Core.Path.{_≡_}
 use mathlib.Core.List.{List, [], _∷_}
-use Rattle.model.specs.Book.{Book, Call, Answer, reply, step, Entry, _⇒_}
+use Rattle.model.specs.Book.{Book}
+use Rattle.model.specs.Step.{Call, Answer, reply, step, Entry, _⇒_}
 
 pub data Chain {S : Type 0} (Meets : Call → S → Answer → S → Type 0) : S → List Entry → S → Type 0 where
   stop : {s : S} → Chain Meets s [] s
