@@ -16,7 +16,7 @@ use Rattle.keys.specs.Stream.{Stream, telemetry, rsr, keyCall}
 
 -- ---- the widths
 
-and-true : (x y : Bool) → (x && y) ≡ true → (x ≡ true) × (y ≡ true)
+pub and-true : (x y : Bool) → (x && y) ≡ true → (x ≡ true) × (y ≡ true)
 and-true true y e = (refl, e)
 and-true false y e = (e, cc)
 
