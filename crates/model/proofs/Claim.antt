@@ -3,17 +3,13 @@
 -- Assumes nothing.
 use Prim.Native.Nat.{ℕ}
 use mathlib.Core.Path.{_≡_, refl, sym, ap, _∙_, subst}
-use mathlib.Core.Bool.{Bool, true, false, cond, _&&_}
 use mathlib.Core.List.{List, [], _∷_, _++_, map}
-use lib.Dec.{eqb}
-use Rattle.model.specs.Positions.{Positions}
-use Rattle.model.specs.Book.{working, Book, idle, fresh, desk}
-use Rattle.model.specs.Step.{Call, Enrol, Find, Open, Mark, Save, Drop, Answer, accepted, reply, refused, step, Entry, _⇒_, callOf, Run, run}
+use Rattle.model.specs.Book.{Book, idle, fresh}
+use Rattle.model.specs.Step.{Call, Save, Answer, step, Entry, _⇒_, callOf, run}
 use Rattle.model.specs.History.{serial}
 use Rattle.model.specs.WellFormed.{WellFormed, InRange, AllInRange}
 use Rattle.model.specs.Chain.{Chain, stop, next, Steps}
 use Rattle.model.specs.Claim.{bookAfter, Claim}
-use Rattle.model.proofs.Basics.{by-test}
 use Rattle.model.proofs.Outcome.{outcome}
 use Rattle.model.proofs.WellFormed.{well-formed, fresh-well-formed}
 use Rattle.model.proofs.Replay.{replays-run, serial-run}

@@ -1,5 +1,5 @@
 -- Numbers and positions undo each other. Assumes nothing.
-use Prim.Native.Nat.{ℕ, _+_, _-_, _^_, _%_, _<_}
+use Prim.Native.Nat.{ℕ, _+_, _^_, _%_, _<_}
 use native.Mathlib.Omega.{arith}
 use mathlib.Core.Path.{_≡_}
 use Rattle.model.specs.Positions.{modulus, position, numberAt}
