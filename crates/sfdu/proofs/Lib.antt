@@ -1,0 +1,3 @@
+pub mod Placed
+pub mod Accepted
+pub mod Parts
