@@ -1,3 +1,4 @@
 pub mod Placed
 pub mod Accepted
 pub mod Parts
+pub mod Written

@@ -1,10 +1,12 @@
 // One record: its label, its nested blocks and its parts, for telemetry and for the radio science receiver (RSR).
 mod nesting;
 mod reader;
+mod writer;
 
 pub use reader::data_part;
 pub use reader::read_one;
 pub use reader::secondary_part;
+pub use writer::write_one;
 
 pub enum Kind {
     Telemetry,

@@ -3,6 +3,11 @@ ghost use mathlib.Core.Path.{_≡_};
 ghost use Rattle.sfdu.specs.Nesting.{secondaryLength, secondaryType, dataAt, dataValueAt, aggregationLength, leastLabelLength};
 use crate::Kind;
 
+// The numbers that name the kinds in calls and answers.
+pub const TELEMETRY_NUMBER: u32 = 1;
+
+pub const RSR_NUMBER: u32 = 2;
+
 // The label: three tags of four bytes, and the length of what follows it.
 pub const AUTHORITY_AT: usize = 0;
 
