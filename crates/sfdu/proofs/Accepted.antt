@@ -47,6 +47,10 @@ pub record-length : (s : List ℕ) (n : ℕ) → n ≡ labelLength s → labelSi
 unfolding recordLength
 record-length s n e = rw e
 
+pub block-is : (s : List ℕ) (at type size : ℕ) → isBlock s at type size ≡ true → (blockType s at ≡ type) × (blockLength s at ≡ size)
+unfolding isBlock
+block-is s at type size e = let p = and-split _ _ e in (eqb-true _ _ (p .0), eqb-true _ _ (p .1))
+
 -- ---- the words of an accepted slice
 
 numbered : (s : List ℕ) → Numbered (readRows s)
