@@ -7,8 +7,8 @@ use mathlib.Core.Path.{_≡_, refl, sym, ap, _∙_}
 use borrow.Author.Tests.{leb-true, ltb-false, eqb-true, eq-eqb, not-false}
 use lib.Dec.{lit<}
 use lib.ListN.{length}
-use Rattle.refusals.specs.Judge.{judge, verdict, answered}
-use Rattle.refusals.proofs.Judged.{NoneHolds, Numbered, judged-none, verdict-none, answered-none}
+use Rattle.refusals.specs.Judge.{verdict}
+use Rattle.refusals.proofs.Judged.{NoneHolds, Numbered, none-verdict, verdict-none, answered-none}
 use Rattle.octets.specs.Octets.{sameAt}
 use Rattle.octets.proofs.Laws.{and-split}
 use Rattle.sfdu.specs.declared.Kind.{Kind}
@@ -63,12 +63,11 @@ none-holds s e = verdict-none (readRows s) (numbered s) (eqb-true _ _ e)
 
 pub accepted-words : (s : List ℕ) → accepts s ≡ true → readOne s ≡ recordWords (kindOf s) s
 unfolding readOne
-accepted-words s e = judged-none (λ n. n ∷ []) (readRows s) (recordWords (kindOf s) s) (none-holds s e)
+accepted-words s e = rw (none-verdict (readRows s) (none-holds s e))
 
 pub words-accepted : (s rest : List ℕ) → readOne s ≡ 0 ∷ rest → accepts s ≡ true
 unfolding readOne accepts
-words-accepted s rest e =
-    eq-eqb _ _ (judged-none (λ n. n) (readRows s) 0 (answered-none (readRows s) (recordWords (kindOf s) s) rest (numbered s) e))
+words-accepted s rest e = eq-eqb _ _ (answered-none (readRows s) (recordWords (kindOf s) s) rest e)
 
 pub words-refused : (s : List ℕ) (n : ℕ) → readOne s ≡ n ∷ [] → accepts s ≡ false
 words-refused s n e = by (accepts s) refl
@@ -79,7 +78,7 @@ words-refused s n e = by (accepts s) refl
 
 -- ---- each fact by its name
 
-same-kind : (k l : Kind) → kindNumber k ≡ kindNumber l → k ≡ l
+pub same-kind : (k l : Kind) → kindNumber k ≡ kindNumber l → k ≡ l
 same-kind Telemetry Telemetry e = refl
 same-kind Telemetry Rsr e = absurd (omega arith)
 same-kind Rsr Telemetry e = absurd (omega arith)

@@ -9,8 +9,7 @@ use borrow.Author.Tests.{eq-eqb, le-leb, le-ltb}
 use lib.Dec.{eqb, leb, ltb, lit<, lit≤}
 use lib.ListN.{length, getD, length-append}
 use lib.Seq.{getD-append-add}
-use Rattle.refusals.specs.Judge.{judge}
-use Rattle.refusals.proofs.Judged.{NoneHolds, judged-none}
+use Rattle.refusals.proofs.Judged.{NoneHolds, none-verdict}
 use Rattle.octets.specs.Octets.{numberAt, bytesOf, part, sameAt}
 use Rattle.octets.proofs.Laws.{length-bytesOf, part-at}
 use Rattle.octets.proofs.Parts.{number-first, number-second, number-bytes, part-first, part-second, part-whole, part-same, same-part}
@@ -293,7 +292,7 @@ module _ (k : Kind) (p : Primary) (secondary value rest : List ℕ) (hs : length
 
   written-accepted : accepts slice ≡ true
   unfolding accepts
-  written-accepted = eq-eqb _ _ (judged-none (λ n. n) (readRows slice) 0 none-holds)
+  written-accepted = eq-eqb _ _ (none-verdict (readRows slice) none-holds)
 
   primary-byte : (i : ℕ) → i < primaryLength → getD slice (primaryValueAt + i) 0 ≡ getD (primaryWords p) i 0
   primary-byte i h = sym (part-at slice primaryValueAt primaryLength i h) ∙ ap (λ (x : List ℕ). getD x i 0) primary-value

@@ -5,3 +5,4 @@ pub mod Written
 pub mod Again
 pub mod Back
 pub mod RoundTrip
+pub mod Words

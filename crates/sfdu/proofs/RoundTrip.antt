@@ -8,7 +8,7 @@ use mathlib.Core.Path.{_≡_, refl, sym, ap, subst, _∙_}
 use borrow.Author.Tests.{eq-eqb, le-leb, eqb-true, eqb-false, ltb-false, ltb-true}
 use lib.Dec.{eqb, ltb, leb}
 use lib.ListN.{length, getD, take, drop}
-use Rattle.refusals.specs.Judge.{judge}
+use Rattle.refusals.specs.Judge.{verdict}
 use Rattle.octets.specs.Octets.{part, put}
 use Rattle.octets.proofs.Laws.{Bytes, and-split, length-part}
 use Rattle.octets.proofs.Puts.{put-start}

@@ -1,6 +1,6 @@
 -- `sfdu::reader::read_data` meets its contract. Assumes nothing.
 use native.Mathlib.Omega.{arith}
-use Rattle.refusals.specs.Judge.{judge}
+use Rattle.refusals.specs.Judge.{verdict}
 use Rattle.octets.proofs.Laws.{failed, passed}
 use Rattle.sfdu.proofs.Placed.{placed}
 use borrow.Author.Needs.{needs}
@@ -16,21 +16,21 @@ has-data-type-requires : tie.Need-has-data-type-requires
 has-data-type-requires c κs = search needs
 
 returns : tie.Need-returns
-unfolding judge
+unfolding verdict
 returns c = rw (failed (c .before .has-data-type .ensures) (c .if1 .taken))
 
 has-data-length-requires : tie.Need-has-data-length-requires
 has-data-length-requires c κs = search needs
 
 returns-2 : tie.Need-returns-2
-unfolding judge
+unfolding verdict
 returns-2 c = rw (passed (c .before .before .before .has-data-type .ensures) (c .before .before .if1 .left), failed (c .before .has-data-length .ensures) (c .if2 .taken))
 
 blocks-nest-requires : tie.Need-blocks-nest-requires
 blocks-nest-requires c κs = search needs
 
 returns-3 : tie.Need-returns-3
-unfolding judge
+unfolding verdict
 returns-3 c = rw (passed (c .before .before .before .before .before .has-data-type .ensures) (c .before .before .before .before .if1 .left), passed (c .before .before .before .has-data-length .ensures) (c .before .before .if2 .left), failed (c .before .blocks-nest .ensures) (c .if3 .taken))
 
 shared-slice-read-t10 : tie.Need-shared-slice-read-t10
@@ -55,7 +55,7 @@ shared-slice-read-t19 : tie.Need-shared-slice-read-t19
 shared-slice-read-t19 c = let k = placed (c .before .before .before .before .before .before .before .before .before .before .before .args .kind) in omega arith
 
 returns-4 : tie.Need-returns-4
-unfolding judge
+unfolding verdict
 returns-4 c = rw (passed (c .before .before .before .before .before .before .before .before .before .has-data-type .ensures) (c .before .before .before .before .before .before .before .before .if1 .left), passed (c .before .before .before .before .before .before .before .has-data-length .ensures) (c .before .before .before .before .before .before .if2 .left), passed (c .before .before .before .before .before .blocks-nest .ensures) (c .before .before .before .before .if3 .left), c .before .before .before .before .before .before .before .before .before .before .before .pre .0)
 
 pub read-data-spec : {M : Type 1} → statement M

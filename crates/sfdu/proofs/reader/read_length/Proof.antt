@@ -7,7 +7,7 @@ use borrow.Author.Tests.{lt-ltb, le-ltb}
 use lib.Dec.{ltb}
 use lib.ListN.{length}
 use Rattle.sfdu.specs.Nesting.{labelSize}
-use Rattle.refusals.specs.Judge.{judge}
+use Rattle.refusals.specs.Judge.{verdict}
 use Rattle.octets.proofs.Laws.{failed, passed}
 use Rattle.sfdu.specs.Read.{recordLength}
 use Rattle.sfdu.proofs.Placed.{placed}
@@ -25,7 +25,7 @@ length-in-range-requires : tie.Need-length-in-range-requires
 length-in-range-requires c κs = search needs
 
 returns : tie.Need-returns
-unfolding judge
+unfolding verdict
 returns c = rw (failed (c .before .length-in-range .ensures) (c .if1 .taken))
 
 label-length-requires : tie.Need-label-length-requires
@@ -38,7 +38,7 @@ add-size c =
     omega arith
 
 returns-2 : tie.Need-returns-2
-unfolding judge
+unfolding verdict
 returns-2 c =
     let s = c .before .before .before .before .before .args .s .now in
     let n : labelSize + c .before .label-length .result ≡ recordLength s = record-length s _ (c .before .label-length .ensures) in
@@ -52,7 +52,7 @@ read-blocks-requires c κs =
     (record-length _ _ (c .before .label-length .ensures), omega arith, omega arith)
 
 returns-3 : tie.Need-returns-3
-unfolding judge
+unfolding verdict
 returns-3 c =
     let s = c .before .before .before .before .before .before .args .s .now in
     let n : labelSize + c .before .before .label-length .result ≡ recordLength s = record-length s _ (c .before .before .label-length .ensures) in
