@@ -1,10 +1,12 @@
 -- Different answers have different words. Assumes nothing.
 use Prim.Native.Nat.{ℕ}
 use native.Mathlib.Omega.{arith}
-use mathlib.Core.List.{List, _∷_, []}
+use mathlib.Core.List.{List, _∷_, [], map}
 use mathlib.Core.Path.{_≡_, ap}
 use Rattle.refusals.specs.Table.{numberOf}
 use Rattle.refusals.proofs.Laws.{number-injective}
+use lib.ListN.{take, drop}
+use Rattle.sfdu.specs.declared.Primary.{Primary}
 use Rattle.sfdu.specs.Read.{primaryWords}
 use Rattle.sfdu.proofs.Words.{same-primary}
 use Rattle.headers.specs.declared.Band.{Band}
@@ -81,27 +83,35 @@ same-time f g e =
     let c : f .frequency ≡ g .frequency = cc in
     λ i. record { year = a i; day = b i; frequency = c i }
 
+-- The words from a place on.
+abbrev part : (at count : ℕ) → List Word → List Word
+part at count words = take count (drop at words)
+
+same-number : (x y : ℕ) → number x ∷ [] ≡ number y ∷ [] → x ≡ y
+same-number x y e = cc
+
+same-primary-words : (p q : Primary) → map number (primaryWords p) ≡ map number (primaryWords q) → p ≡ q
+same-primary-words p q e =
+    let a : p .major ≡ q .major = cc in
+    let b : p .minor ≡ q .minor = cc in
+    let c : p .mission ≡ q .mission = cc in
+    let d : p .format ≡ q .format = cc in
+    same-primary p q (rw (a, b, c, d))
 
 pub same-headers : (a b : Headers) → wordsOf a ≡ wordsOf b → a ≡ b
 same-headers (Telemetry n p f key) (Telemetry m q g l) e =
-    let size : n ≡ m = cc in
-    let pw : primaryWords p ≡ primaryWords q = cc in
-    let fw : telemetryFieldWords f ≡ telemetryFieldWords g = cc in
-    let k : key ≡ l = cc in
-    let primary = same-primary p q pw in
-    let fields = same-fields f g fw in
+    let size : n ≡ m = same-number n m (ap (part 2 1) e) in
+    let primary = same-primary-words p q (ap (part 3 4) e) in
+    let fields = same-fields f g (ap (part 7 8) e) in
+    let k : key ≡ l = same-number key l (ap (part 15 1) e) in
     λ i. Telemetry (size i) (primary i) (fields i) (k i)
 same-headers (Rsr n p f s t key) (Rsr m q g u v l) e =
-    let size : n ≡ m = cc in
-    let pw : primaryWords p ≡ primaryWords q = cc in
-    let fw : sourceWords f ≡ sourceWords g = cc in
-    let sw : signalWords s ≡ signalWords u = cc in
-    let tw : timeWords t ≡ timeWords v = cc in
-    let k : key ≡ l = cc in
-    let primary = same-primary p q pw in
-    let source = same-source f g fw in
-    let signal = same-signal s u sw in
-    let time = same-time t v tw in
+    let size : n ≡ m = same-number n m (ap (part 2 1) e) in
+    let primary = same-primary-words p q (ap (part 3 4) e) in
+    let source = same-source f g (ap (part 7 8) e) in
+    let signal = same-signal s u (ap (part 15 10) e) in
+    let time = same-time t v (ap (part 25 3) e) in
+    let k : key ≡ l = same-number key l (ap (part 28 1) e) in
     λ i. Rsr (size i) (primary i) (source i) (signal i) (time i) (k i)
 same-headers (OutOfRange x) (OutOfRange y) e = cc
 same-headers (Refused r) (Refused s) e = let n : numberOf r ≡ numberOf s = cc in ap Refused (number-injective r s n)

@@ -32,7 +32,7 @@ kind-number-requires : tie.Need-kind-number-requires
 kind-number-requires c κs = search needs
 
 returns : tie.Need-returns
-returns c = 
+returns c =
     let s = c .before .before .before .before .before .before .before .args .s .now in
     let g = c .before .before .before .found .given in
     let f = found s (g .0 .0) (g .0 .1 .0) (primaryWords (g .0 .1 .1 .0)) (sym (ap wordsOf (g .1)) ∙ c .before .before .before .before .before .read-one .ensures) in
@@ -42,7 +42,7 @@ enum-told : tie.Need-enum-told
 enum-told c = search needs
 
 fields-requires : tie.Need-fields-requires
-fields-requires c κs = 
+fields-requires c κs =
     let s = c .before .before .before .before .before .before .before .before .before .args .s .now in
     let g = c .before .before .before .before .before .found .given in
     let f = found s (g .0 .0) (g .0 .1 .0) (primaryWords (g .0 .1 .1 .0)) (sym (ap wordsOf (g .1)) ∙ c .before .before .before .before .before .before .before .read-one .ensures) in
@@ -54,7 +54,7 @@ enum-told-2 : tie.Need-enum-told-2
 enum-told-2 c = search needs
 
 fields-requires-2 : tie.Need-fields-requires-2
-fields-requires-2 c κs = 
+fields-requires-2 c κs =
     let s = c .before .before .before .before .before .before .before .before .before .args .s .now in
     let g = c .before .before .before .before .before .found .given in
     let f = found s (g .0 .0) (g .0 .1 .0) (primaryWords (g .0 .1 .1 .0)) (sym (ap wordsOf (g .1)) ∙ c .before .before .before .before .before .before .before .read-one .ensures) in
@@ -66,7 +66,7 @@ enum-known-found-2 : tie.Need-enum-known-found-2
 enum-known-found-2 c = search needs
 
 returns-2 : tie.Need-returns-2
-returns-2 c = 
+returns-2 c =
     let s = c .before .before .before .before .before .before .before .before .before .before .args .s .now in
     let g = c .before .before .before .before .before .before .found .given in
     let f = found s (g .0 .0) (g .0 .1 .0) (primaryWords (g .0 .1 .1 .0)) (sym (ap wordsOf (g .1)) ∙ c .before .before .before .before .before .before .before .before .read-one .ensures) in
@@ -76,7 +76,7 @@ returns-2 c =
     c .fields .ensures ∙ sym (right-kind _ s (f .accepted) same ∙ ap (λ (k : Kind). judgedFields k s) kind)
 
 returns-3 : tie.Need-returns-3
-returns-3 c = 
+returns-3 c =
     let s = c .before .before .before .before .before .before .before .before .before .before .args .s .now in
     let g = c .before .before .before .before .before .before .found .given in
     let f = found s (g .0 .0) (g .0 .1 .0) (primaryWords (g .0 .1 .1 .0)) (sym (ap wordsOf (g .1)) ∙ c .before .before .before .before .before .before .before .before .read-one .ensures) in
@@ -86,7 +86,7 @@ returns-3 c =
     c .fields2 .ensures ∙ sym (right-kind _ s (f .accepted) same ∙ ap (λ (k : Kind). judgedFields k s) kind)
 
 returns-4 : tie.Need-returns-4
-returns-4 c = 
+returns-4 c =
     let s = c .before .before .before .before .before .args .s .now in
     let g = c .before .found2 .given in
     sym (refused-first _ s (numberOf (g .0 .0)) (sym (c .before .before .before .read-one .ensures) ∙ ap wordsOf (g .1)))

@@ -27,7 +27,7 @@ judged-requires : tie.Need-judged-requires Inv-loop μ-loop
 judged-requires c κs = omega arith
 
 shared-slice-read-in-range : tie.Need-shared-slice-read-in-range Inv-loop μ-loop
-shared-slice-read-in-range c = 
+shared-slice-read-in-range c =
     let i = c .before .before .before .loop .i in
     omega (arith, at-low i (omega arith), ap (λ (f : Judged). f .at) (c .before .judged .ensures))
 
@@ -35,7 +35,7 @@ in-range-requires : tie.Need-in-range-requires Inv-loop μ-loop
 in-range-requires c κs = tt
 
 returns : tie.Need-returns Inv-loop μ-loop
-returns c = 
+returns c =
     let s = c .before .before .before .before .before .before .before .args .s .now in
     let i = c .before .before .before .before .before .loop .i in
     let e = rw (c .before .before .before .judged .ensures) at (failed (c .before .in-range .ensures) (c .if1 .taken)) in
@@ -48,14 +48,14 @@ loop-less : tie.Need-loop-less Inv-loop μ-loop
 loop-less c = omega arith
 
 loop-again : tie.Need-loop-again Inv-loop μ-loop
-loop-again c = 
+loop-again c =
     let s = c .before .before .before .before .before .before .before .args .s .now in
     let i = c .before .before .before .before .before .loop .i in
     let e = rw (c .before .before .before .judged .ensures) at (passed (c .before .in-range .ensures) (c .if1 .left)) in
     (omega arith, c .before .before .before .before .before .loop .inv .1 ∙ fault-past s i (omega arith) e)
 
 returns-2 : tie.Need-returns-2 Inv-loop μ-loop
-returns-2 c = 
+returns-2 c =
     let s = c .before .before .before .args .s .now in
     let i : c .before .loop .i ≡ entries = omega arith in
     sym (c .before .loop .inv .1 ∙ ap (faultFrom s) i ∙ from-end s)

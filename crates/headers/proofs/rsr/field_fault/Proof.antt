@@ -16,7 +16,7 @@ byte-fault-requires c κs = search needs
 
 returns : tie.Need-returns
 unfolding fault
-returns c = 
+returns c =
     let s = c .before .before .before .args .s .now in
     let e = c .before .byte-fault .ensures in
     e ∙ sym (verdict-first (byteRows s) (dateRows s) (λ z. c .if1 .taken (e ∙ z)))
@@ -26,7 +26,7 @@ date-fault-requires c κs = search needs
 
 returns-2 : tie.Need-returns-2
 unfolding fault
-returns-2 c = 
+returns-2 c =
     let s = c .before .before .before .before .args .s .now in
     let none = verdict-none (byteRows s) (numbered s) (sym (c .before .before .byte-fault .ensures) ∙ c .before .if1 .left) in
     c .date-fault .ensures ∙ sym (verdict-append (byteRows s) (dateRows s) none)

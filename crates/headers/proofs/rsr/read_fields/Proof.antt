@@ -40,7 +40,7 @@ rsr-key-of-requires : tie.Need-rsr-key-of-requires
 rsr-key-of-requires c κs = search needs
 
 returns : tie.Need-returns
-returns c = 
+returns c =
     let g = c .before .before .before .before .before .before .before .before .before .args in
     let s = g .s .now in
     let one = c .before .before .before .before .before .before .before .read-source .ensures in

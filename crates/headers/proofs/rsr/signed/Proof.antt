@@ -46,7 +46,7 @@ cast-result-3 c = rw (wide16 (c .before .args .b) (c .before .fits .b .fits), to
 
 returns-2 : tie.Need-returns-2
 unfolding signedByte
-returns-2 c = 
+returns-2 c =
     let b = c .before .args .b in
     let h = c .before .fits .b .fits in
     rw (wide16 b h, toZ-ofZ w16 _ (low16 b (c .if1 .left) h), toZ-ofZ w8 _ (low8 b (c .if1 .left) h), le-ltb _ _ (c .if1 .left))

@@ -38,7 +38,7 @@ telemetry-key-of-requires : tie.Need-telemetry-key-of-requires
 telemetry-key-of-requires c κs = search needs
 
 returns-2 : tie.Need-returns-2
-returns-2 c = 
+returns-2 c =
     let g = c .before .before .before .before .before .before .before .before .before .args in
     let s = g .s .now in
     let f = c .before .before .before .before .before .read-fields .result in
