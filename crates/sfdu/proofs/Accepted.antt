@@ -1,11 +1,11 @@
 -- What is known of a slice that read one accepts. Assumes nothing.
 use Prim.Native.Nat.{ℕ, _+_, _-_, _≤_}
 use native.Mathlib.Omega.{arith}
-use mathlib.Core.Bool.{Bool, true, false, not, _||_, false≢true}
+use mathlib.Core.Bool.{Bool, true, false, not, _&&_, _||_}
 use mathlib.Core.List.{List, [], _∷_}
 use mathlib.Core.Path.{_≡_, refl, sym, ap, _∙_}
 use borrow.Author.Tests.{leb-true, ltb-false, eqb-true, eq-eqb, not-false}
-use lib.Dec.{lit<}
+use lib.Dec.{leb, lit<}
 use lib.ListN.{length}
 use Rattle.refusals.specs.Judge.{verdict}
 use Rattle.refusals.proofs.Judged.{NoneHolds, Numbered, none-verdict, verdict-none, answered-none}
@@ -42,6 +42,12 @@ pub in-range : (k : Kind) (s : List ℕ) → lengthInRange k s ≡ true
     → (leastLabelLength k ≤ labelLength s) × (labelLength s ≤ mostLabelLength k)
 unfolding lengthInRange
 in-range k s e = let p = and-split _ _ e in (leb-true _ _ (p .0), leb-true _ _ (p .1))
+
+-- What a test of the length that was read says.
+pub say-range : (k : Kind) (s : List ℕ) (n : ℕ) {r : Bool} → n ≡ labelLength s → r ≡ (leb (leastLabelLength k) n && leb n (mostLabelLength k))
+    → r ≡ lengthInRange k s
+unfolding lengthInRange
+say-range k s n e h = h ∙ rw e
 
 pub record-length : (s : List ℕ) (n : ℕ) → n ≡ labelLength s → labelSize + n ≡ recordLength s
 unfolding recordLength
