@@ -1,8 +1,9 @@
 -- Document 01, "The ledger sheet": where its parts stand, and when a list of bytes is a right sheet. Every size and offset
 -- has its name here, once. Assumes nothing.
-use Prim.Native.Nat.{ℕ, _+_, _*_}
+use Prim.Native.Nat.{ℕ, _+_, _*_, _≤_}
 use mathlib.Core.Bool.{Bool, not, _&&_, _||_}
 use mathlib.Core.List.{List}
+use mathlib.Core.Path.{_≡_}
 use lib.Dec.{eqb, ltb, leb}
 use lib.ListN.{length, getD}
 use Rattle.keys.specs.Key.{validKey}
@@ -157,15 +158,24 @@ unfoldable pub deskMarked : List ℕ → ℕ → Bool
 deskMarked s d = leb (deskByte s d) 1 && zeroAt s (deskAt d + deskZerosAt) deskZerosSize
 
 -- "an open desk names a used row and both its copies carry that row's key and first number"
-unfoldable pub copyCarries : List ℕ → ℕ → ℕ → Bool
-copyCarries s row copy = sameAt s (rowAt row) s copy ticksAt
+abbrev pub carries : List ℕ → (copy row : ℕ) → Bool
+carries s copy row = sameAt s (rowAt row) s copy ticksAt
 
 unfoldable pub openNames : List ℕ → ℕ → Bool
 openNames s d =
     isClosed s d
-    || (ltb (deskRow s d) (used s) && copyCarries s (deskRow s d) (deskAt d + openedAt) && copyCarries s (deskRow s d) (deskAt d + workedAt))
+    || (ltb (deskRow s d) (used s) && carries s (deskAt d + openedAt) (deskRow s d) && carries s (deskAt d + workedAt) (deskRow s d))
+
+-- What the paragraph says of desk d.
+unfoldable pub deskRight : List ℕ → ℕ → Bool
+deskRight s d = closedZero s d && deskMarked s d && openNames s d
 
 unfoldable pub right : List ℕ → Bool
 right s =
-    eqb (length s) sheetSize && headerRight s && validKeys s && differentKeys s && unusedZero s && all deskCount (closedZero s)
-    && all deskCount (deskMarked s) && all deskCount (openNames s)
+    eqb (length s) sheetSize && headerRight s && (validKeys s && differentKeys s) && unusedZero s && all deskCount (deskRight s)
+
+-- ---- what the functions on a right sheet ask of it
+
+pub record Sized (s : List ℕ) : Type 0 where
+  pub long : length s ≡ sheetSize
+  pub few : used s ≤ rowCount
