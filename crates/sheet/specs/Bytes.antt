@@ -2,7 +2,7 @@
 -- An outcome is the answer's words, 0 and its values or the refusal's number, with the sheet as it is left.
 -- Assumes nothing.
 use Prim.Native.Nat.{ℕ, zero, suc, _+_, _-_}
-use mathlib.Core.Bool.{Bool, true, false, not, _&&_, cond}
+use mathlib.Core.Bool.{Bool, true, false, not, cond, Bool·beq}
 use mathlib.Core.List.{List, [], _∷_, _++_}
 use mathlib.Core.Option.{Option, none, some}
 use lib.Dec.{eqb, ltb}
@@ -10,9 +10,10 @@ use lib.ListN.{length, replicate}
 use Rattle.keys.specs.Key.{validKey}
 use Rattle.octets.specs.Octets.{bytesOf, part, put, sameAt}
 use Rattle.refusals.specs.Judge.{Row, _when_, verdict}
-use Rattle.sheet.specs.Pending.{position, numberIn, tickCount, missingCount, lowestMissing}
-use Rattle.sheet.specs.Sheet.{sheetSize, rowSize, rowCount, rowsStart, positions, openedAt, workedAt, deskSize, deskCount, desksStart, headerNumberSize, usedAt, rowAt, deskAt, used, keyAt, firstNumberAt, deskRow, isClosed, right}
-use Rattle.sheet.specs.Rows.{tickedAt, setTick, clearTick, flagsAt, rowBytes, blankTicks}
+use Rattle.model.specs.Book.{position, numberAt, inRow, alreadySo}
+use Rattle.model.specs.Positions.{size, missing, least}
+use Rattle.sheet.specs.Sheet.{sheetSize, rowSize, rowCount, rowsStart, openedAt, workedAt, deskSize, deskCount, desksStart, headerNumberSize, usedAt, rowAt, deskAt, used, keyAt, firstNumberAt, deskRow, isClosed, right}
+use Rattle.sheet.specs.Rows.{tickedAt, setTick, clearTick, ticksOf, rowBytes, blankTicks}
 
 abbrev pub Outcome : Type 0
 Outcome = List ℕ × List ℕ
@@ -122,8 +123,7 @@ marked on row i = cond on (setTick row 0 i) (clearTick row 0 i)
 
 -- The refusals that the row itself decides: "29 and 30 are judged on that copy".
 abbrev pub markRows : Bool → List ℕ → ℕ → List Row
-markRows on row i =
-    (28 when not (ltb i positions)) ∷ (29 when (on && tickedAt row 0 i)) ∷ (30 when (not on && not (tickedAt row 0 i))) ∷ []
+markRows on row i = (28 when not (inRow i)) ∷ (alreadySo on when Bool·beq (tickedAt row 0 i) on) ∷ []
 
 -- A tick or an untick of number n in a row's bytes.
 unfoldable pub markRow : Bool → ℕ → List ℕ → Outcome
@@ -176,7 +176,7 @@ saveCall d s =
 
 -- The number at position i of the row at offset a.
 abbrev pub numberAtPosition : List ℕ → ℕ → ℕ → ℕ
-numberAtPosition s a i = numberIn (keyAt s a) (firstNumberAt s a) i
+numberAtPosition s a i = numberAt (keyAt s a) (firstNumberAt s a) i
 
 -- The number at the lowest missing position, or no word where none is missing.
 abbrev pub lowestWords : List ℕ → ℕ → Option ℕ → List ℕ
@@ -186,7 +186,7 @@ lowestWords s a (some i) = numberAtPosition s a i ∷ []
 -- "Row report (row): ticked count; missing count ..; the number at the lowest missing position, or none."
 unfoldable pub reportWords : List ℕ → ℕ → List ℕ
 reportWords s a =
-    0 ∷ tickCount (flagsAt s a) ∷ missingCount (flagsAt s a) ∷ lowestWords s a (lowestMissing (flagsAt s a))
+    0 ∷ size (ticksOf s a) ∷ size (missing (ticksOf s a)) ∷ lowestWords s a (least (missing (ticksOf s a)))
 
 unfoldable pub reportCall : (row : ℕ) → List ℕ → Outcome
 reportCall row s = judged ((20 when not (right s)) ∷ (25 when not (ltb row (used s))) ∷ []) (reportWords s (rowAt row), s) s
@@ -200,7 +200,7 @@ gapOr s i (some at) rest = 0 ∷ numberAtPosition s (rowAt i) at ∷ i ∷ []
 -- The first gap of n rows from row i on.
 unfoldable pub gapFrom : List ℕ → ℕ → ℕ → List ℕ
 gapFrom s i zero = 0 ∷ []
-gapFrom s i (suc n) = gapOr s i (lowestMissing (flagsAt s (rowAt i))) (gapFrom s (suc i) n)
+gapFrom s i (suc n) = gapOr s i (least (missing (ticksOf s (rowAt i)))) (gapFrom s (suc i) n)
 
 unfoldable pub gapCall : List ℕ → Outcome
 gapCall s = judged ((20 when not (right s)) ∷ []) (gapFrom s 0 (used s), s) s

@@ -1,5 +1,4 @@
 -- What the contracts of `sheet` cite.
 pub mod Sheet
 pub mod Rows
-pub mod Pending
 pub mod Bytes

@@ -5,8 +5,9 @@ use mathlib.Core.Bool.{Bool, cond}
 use mathlib.Core.List.{List, [], _∷_, _++_}
 use lib.Dec.{eqb}
 use lib.ListN.{getD, set, replicate}
+use Rattle.model.specs.Positions.{rowLength, Positions}
 use Rattle.octets.specs.Octets.{bytesOf, part}
-use Rattle.sheet.specs.Sheet.{keySize, firstSize, ticksAt, ticksSize, byteBits, positions, keyAt, firstNumberAt}
+use Rattle.sheet.specs.Sheet.{keySize, firstSize, ticksAt, ticksSize, byteBits, keyAt, firstNumberAt}
 use Rattle.sheet.specs.declared.Row.{Row}
 
 -- "Position i is bit i mod 8, counted from the lowest, of tick byte i div 8." The row or the copy stands at offset a.
@@ -31,9 +32,9 @@ unfoldable pub table : {A : Type 0} → ℕ → (ℕ → A) → List A
 table zero f = []
 table (suc n) f = f 0 ∷ table n (λ i. f (suc i))
 
--- The flags of the row's positions, in order.
-unfoldable pub flagsAt : List ℕ → ℕ → List Bool
-flagsAt s a = table positions (tickedAt s a)
+-- The set of the row's ticked positions.
+unfoldable pub ticksOf : List ℕ → ℕ → Positions
+ticksOf s a = table rowLength (tickedAt s a)
 
 -- "A row is 140 bytes: key (8), first number (4), ticks (128)."
 unfoldable pub rowBytes : (key first : ℕ) → List ℕ → List ℕ

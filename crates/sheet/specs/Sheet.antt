@@ -40,9 +40,6 @@ rowsStart = 24
 abbrev pub byteBits : ℕ
 byteBits = 8
 
-abbrev pub positions : ℕ
-positions = byteBits * ticksSize
-
 -- "A desk is 284 bytes: 1 if open, row, two zeros, the row as opened (140), the row as worked on (140)." There are eight,
 -- and they stand behind the rows.
 abbrev pub deskRowAt : ℕ

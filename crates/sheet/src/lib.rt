@@ -22,8 +22,6 @@ pub const ROWS_AT: usize = 24;
 // A tick byte has eight positions.
 pub const BYTE_BITS: usize = 8;
 
-pub const POSITIONS: usize = BYTE_BITS * TICKS;
-
 // A desk: 1 if open, row, two zeros, the row as opened, the row as worked on. There are eight, behind the rows.
 pub const DESK_ROW_AT: usize = 1;
 

@@ -1,0 +1,62 @@
+-- Document 01, "Stream key": how a key is made of a stream's four numbers, which keys are valid, and what the two calls that
+-- make one answer. Assumes nothing.
+use Prim.Native.Nat.{ℕ, _+_, _*_, _^_}
+use mathlib.Core.Bool.{Bool, not, cond, _&&_, _||_}
+use mathlib.Core.List.{List, [], _∷_}
+use lib.Dec.{eqb, leb, ltb}
+use Rattle.refusals.specs.Judge.{_when_, verdict}
+
+-- "Telemetry: spacecraft x 2^32 + source x 2^24 + equipment x 2^8 + virtual stream."
+abbrev pub telemetryKey : (spacecraft source equipment stream : ℕ) → ℕ
+telemetryKey spacecraft source equipment stream = spacecraft * 2 ^ 32 + source * 2 ^ 24 + equipment * 2 ^ 8 + stream
+
+-- The lowest RSR key. Telemetry keys lie below it.
+abbrev pub rsrStart : ℕ
+rsrStart = 2 ^ 42
+
+-- The first number past the RSR keys.
+abbrev pub rsrEnd : ℕ
+rsrEnd = rsrStart + 2 ^ 32
+
+-- "RSR (house rule): 2^42 + spacecraft x 2^24 + station x 2^16 + receiver x 2^8 + subchannel."
+abbrev pub rsrKey : (spacecraft station receiver subchannel : ℕ) → ℕ
+rsrKey spacecraft station receiver subchannel = rsrStart + spacecraft * 2 ^ 24 + station * 2 ^ 16 + receiver * 2 ^ 8 + subchannel
+
+-- "A key is valid below 2^42, and from 2^42 up to but not including 2^42 + 2^32."
+abbrev pub isTelemetryKey : ℕ → Bool
+isTelemetryKey key = ltb key rsrStart
+
+abbrev pub isRsrKey : ℕ → Bool
+isRsrKey key = leb rsrStart key && ltb key rsrEnd
+
+unfoldable pub validKey : ℕ → Bool
+validKey key = isTelemetryKey key || isRsrKey key
+
+-- Whether a number is no wider than a field of so many bits.
+abbrev pub fits : (bits number : ℕ) → Bool
+fits bits number = ltb number (2 ^ bits)
+
+-- "telemetry: spacecraft 10 bits, equipment 16, the others 8"
+abbrev pub telemetryFits : (spacecraft source equipment stream : ℕ) → Bool
+telemetryFits spacecraft source equipment stream = fits 10 spacecraft && fits 8 source && fits 16 equipment && fits 8 stream
+
+-- "RSR: 8 each"
+abbrev pub rsrFits : (spacecraft station receiver subchannel : ℕ) → Bool
+rsrFits spacecraft station receiver subchannel = fits 8 spacecraft && fits 8 station && fits 8 receiver && fits 8 subchannel
+
+-- The answer of a call that makes a key: 0 and the key, or the refusal's number alone.
+abbrev pub made : (refusal key : ℕ) → List ℕ
+made refusal key = cond (eqb refusal 0) (0 ∷ key ∷ []) (refusal ∷ [])
+
+-- "A call for each kind makes the key from its four numbers; 22 where one is wider than its field."
+unfoldable pub telemetryKeyCall : (spacecraft source equipment stream : ℕ) → List ℕ
+telemetryKeyCall spacecraft source equipment stream =
+    made
+    (verdict ((22 when not (telemetryFits spacecraft source equipment stream)) ∷ []))
+    (telemetryKey spacecraft source equipment stream)
+
+unfoldable pub rsrKeyCall : (spacecraft station receiver subchannel : ℕ) → List ℕ
+rsrKeyCall spacecraft station receiver subchannel =
+    made
+    (verdict ((22 when not (rsrFits spacecraft station receiver subchannel)) ∷ []))
+    (rsrKey spacecraft station receiver subchannel)

@@ -1,0 +1,114 @@
+// Stream keys: made of a stream's four numbers, and judged (document 01, "Stream key").
+use refusals::Refusal;
+ghost use mathlib.Core.Path.{_≡_};
+ghost use mathlib.Core.Bool.{_&&_};
+ghost use lib.Dec.{ltb};
+ghost use Rattle.keys.specs.Key.{validKey, telemetryKeyCall, rsrKeyCall};
+ghost use Rattle.keys.specs.Words.{wordsOf};
+
+// The first number too wide for a field of 8, 10 or 16 bits.
+const LIMIT_8: u32 = 256;
+
+const LIMIT_10: u32 = 1024;
+
+const LIMIT_16: u32 = 65536;
+
+// What one in the field that starts at bit 8, 16, 24 or 32 counts in a key.
+const AT_8: u64 = 256;
+
+const AT_16: u64 = 65536;
+
+const AT_24: u64 = 16777216;
+
+const AT_32: u64 = 4294967296;
+
+// 2^42, the lowest RSR key, and the first number past the RSR keys.
+const RSR_START: u64 = 4398046511104;
+
+const RSR_END: u64 = RSR_START + AT_32;
+
+pub enum KeyAnswer {
+    Key(u64),
+    Refused(Refusal),
+}
+
+// Whether four numbers each lie below their limits.
+fn all_fit(
+    a: u32,
+    alimit: u32,
+    b: u32,
+    blimit: u32,
+    c: u32,
+    climit: u32,
+    d: u32,
+    dlimit: u32,
+) -> bool
+    ensures { λ r. ⌜ r ≡ (ltb a alimit && ltb b blimit && ltb c climit && ltb d dlimit) ⌝ }
+{
+    if alimit <= a {
+        return false;
+    }
+    if blimit <= b {
+        return false;
+    }
+    if climit <= c {
+        return false;
+    }
+    d < dlimit
+}
+
+// The key of a telemetry stream; refused where a number is wider than its field.
+pub fn telemetry_key(spacecraft: u32, source: u32, equipment: u32, stream: u32) -> KeyAnswer
+    ensures { λ r. ⌜ wordsOf r ≡ telemetryKeyCall spacecraft source equipment stream ⌝ }
+{
+    if !all_fit(
+        spacecraft,
+        LIMIT_10,
+        source,
+        LIMIT_8,
+        equipment,
+        LIMIT_16,
+        stream,
+        LIMIT_8,
+    ) {
+        return KeyAnswer::Refused(Refusal::BadKey);
+    }
+    KeyAnswer::Key(
+        spacecraft as u64 * AT_32 + source as u64 * AT_24 + equipment as u64 * AT_8 + stream as u64,
+    )
+}
+
+// The key of an RSR stream; refused where a number is wider than its field.
+pub fn rsr_key(spacecraft: u32, station: u32, receiver: u32, subchannel: u32) -> KeyAnswer
+    ensures { λ r. ⌜ wordsOf r ≡ rsrKeyCall spacecraft station receiver subchannel ⌝ }
+{
+    if !all_fit(
+        spacecraft,
+        LIMIT_8,
+        station,
+        LIMIT_8,
+        receiver,
+        LIMIT_8,
+        subchannel,
+        LIMIT_8,
+    ) {
+        return KeyAnswer::Refused(Refusal::BadKey);
+    }
+    KeyAnswer::Key(
+        RSR_START
+            + spacecraft as u64 * AT_24
+            + station as u64 * AT_16
+            + receiver as u64 * AT_8
+            + subchannel as u64,
+    )
+}
+
+// Whether a key is one that a stream can have.
+pub fn valid(key: u64) -> bool
+    ensures { λ r. ⌜ r ≡ validKey key ⌝ }
+{
+    if key < RSR_START {
+        return true;
+    }
+    key < RSR_END
+}

@@ -1,0 +1,48 @@
+-- Sets of positions of a row, and how they are counted. Assumes nothing.
+use Prim.Native.Nat.{ℕ, zero, suc}
+use mathlib.Core.Bool.{Bool, true, false, not, _&&_, _||_, Bool·beq}
+use mathlib.Core.Option.{Option, none, some, Option·map}
+use mathlib.Core.List.{List, [], _∷_}
+use lib.ListN.{getD, replicate}
+
+-- How many positions a row has.
+abbrev pub rowLength : ℕ
+rowLength = 1024
+
+-- A set of positions: flag i says whether position i is in it, that is, ticked.
+abbrev pub Positions : Type 0
+Positions = List Bool
+
+unfoldable pub noTicks : Positions
+noTicks = replicate rowLength false
+
+abbrev pub has : Positions → ℕ → Bool
+has s i = getD s i false
+
+-- Whether two sets are the same.
+unfoldable pub same : Positions → Positions → Bool
+same [] [] = true
+same [] (y ∷ t) = false
+same (x ∷ s) [] = false
+same (x ∷ s) (y ∷ t) = Bool·beq x y && same s t
+
+-- How many positions are in the set.
+unfoldable pub size : Positions → ℕ
+size [] = 0
+size (true ∷ s) = suc (size s)
+size (false ∷ s) = size s
+
+unfoldable pub anyTicked : Positions → Bool
+anyTicked [] = false
+anyTicked (x ∷ s) = x || anyTicked s
+
+-- "a position unticked below the highest ticked one being missing": the set of those, unticked with a ticked one above.
+unfoldable pub missing : Positions → Positions
+missing [] = []
+missing (x ∷ s) = (not x && anyTicked s) ∷ missing s
+
+-- The lowest position in the set, if there is one.
+unfoldable pub least : Positions → Option ℕ
+least [] = none
+least (true ∷ s) = some zero
+least (false ∷ s) = Option·map suc (least s)

@@ -1,0 +1,48 @@
+-- What holds of every book that calls can reach, whatever the calls: what a ledger sheet needs of it. Assumes nothing.
+use Prim.Native.Nat.{ℕ, _≤_, _<_}
+use mathlib.Core.Path.{_≡_}
+use mathlib.Core.Bool.{true, false}
+use mathlib.Core.Option.{Option, none, some}
+use mathlib.Core.List.{List, [], _∷_}
+use lib.ListN.{length, getD}
+use Rattle.keys.specs.Key.{validKey}
+use Rattle.model.specs.Positions.{rowLength, Positions}
+use Rattle.model.specs.Book.{Place, free, row, Desk, closed, working, Book, place, desk, isFree, numbers, Call, Enrol, Find, Open, Mark, Save, Drop}
+
+abbrev pub IsSet : Positions → Type 0
+IsSet s = length s ≡ rowLength
+
+abbrev pub PlaceOk : Place → Type 0
+PlaceOk free = Unit {0}
+PlaceOk (row key first ticks) = (validKey key ≡ true) × (first < numbers key) × IsSet ticks
+
+abbrev pub DeskOk : List Place → Desk → Type 0
+DeskOk ps closed = Unit {0}
+DeskOk ps (working r opened worked) = (isFree (getD ps r free) ≡ false) × IsSet opened × IsSet worked
+
+abbrev pub keyOf : Place → Option ℕ
+keyOf free = none
+keyOf (row key first ticks) = some key
+
+pub record WellFormed (b : Book) : Type 0 where
+  pub places-count : length (b .places) ≡ 32
+  pub desks-count : length (b .desks) ≡ 8
+  pub place-ok : (r : ℕ) → PlaceOk (place b r)
+  -- An open desk's place is used.
+  pub desk-ok : (d : ℕ) → DeskOk (b .places) (desk b d)
+  pub keys-differ : (r q key : ℕ) → keyOf (place b r) ≡ some key → keyOf (place b q) ≡ some key → r ≡ q
+  -- Used places come first.
+  pub used-first : (r q : ℕ) → isFree (place b r) ≡ true → r ≤ q → isFree (place b q) ≡ true
+
+-- Desks, rows and keys are numbers of any size; a first number is what its parameter holds, below 2^32.
+abbrev pub InRange : Call → Type 0
+InRange (Enrol key first) = first < numbers key
+InRange (Find key) = Unit {0}
+InRange (Open d r) = Unit {0}
+InRange (Mark flag d n) = Unit {0}
+InRange (Save d) = Unit {0}
+InRange (Drop d) = Unit {0}
+
+unfoldable pub AllInRange : List Call → Type 0
+AllInRange [] = Unit {0}
+AllInRange (c ∷ calls) = InRange c × AllInRange calls

@@ -1,0 +1,90 @@
+-- No two rows of the refusal table have the same number. Assumes nothing.
+use Prim.Native.Nat.{ℕ}
+use native.Mathlib.Omega.{arith}
+use mathlib.Core.Path.{_≡_, refl, sym, ap, _∙_}
+use mathlib.Core.Logic.{_≢_}
+use mathlib.Core.List.{List, [], _∷_}
+use lib.ListN.{getD}
+use Rattle.refusals.specs.declared.Refusal.{Refusal}
+use Rattle.refusals.specs.declared.Refusal.the-variants.{
+  TooShort,
+  Authority,
+  LabelControl,
+  UnknownKind,
+  LabelLength,
+  Truncated,
+  AggregationLabel,
+  PrimaryLabel,
+  SecondaryLabel,
+  DataType,
+  DataLength,
+  Nesting,
+  WrongKind,
+  FieldRange,
+  WriterInput,
+  WriterSpace,
+  ListFull,
+  BufferSize,
+  NotSheet,
+  NoDesk,
+  BadKey,
+  AlreadyEnrolled,
+  LedgerFull,
+  NoRow,
+  DeskOpen,
+  DeskClosed,
+  OutsideRow,
+  AlreadyTicked,
+  NotTicked,
+  Stale,
+}
+use Rattle.refusals.specs.Table.{numberOf}
+
+-- The table back from the numbers: entry n is the refusal with number n. No refusal has 0 or 19.
+back : List Refusal
+back =
+    TooShort ∷ TooShort ∷ Authority ∷ LabelControl ∷ UnknownKind ∷ LabelLength ∷ Truncated ∷ AggregationLabel ∷ PrimaryLabel ∷ SecondaryLabel ∷ DataType ∷ DataLength ∷ FieldRange ∷ WriterSpace ∷ WriterInput ∷ WrongKind ∷ ListFull ∷ BufferSize ∷ Nesting ∷ TooShort ∷ NotSheet ∷ NoDesk ∷ BadKey ∷ AlreadyEnrolled ∷ LedgerFull ∷ NoRow ∷ DeskOpen ∷ DeskClosed ∷ OutsideRow ∷ AlreadyTicked ∷ NotTicked ∷ Stale ∷ []
+
+refusalOf : ℕ → Refusal
+refusalOf n = getD back n TooShort
+
+found : (r : Refusal) → refusalOf (numberOf r) ≡ r
+unfolding refusalOf back
+found TooShort = refl
+found Authority = refl
+found LabelControl = refl
+found UnknownKind = refl
+found LabelLength = refl
+found Truncated = refl
+found AggregationLabel = refl
+found PrimaryLabel = refl
+found SecondaryLabel = refl
+found DataType = refl
+found DataLength = refl
+found Nesting = refl
+found WrongKind = refl
+found FieldRange = refl
+found WriterInput = refl
+found WriterSpace = refl
+found ListFull = refl
+found BufferSize = refl
+found NotSheet = refl
+found NoDesk = refl
+found BadKey = refl
+found AlreadyEnrolled = refl
+found LedgerFull = refl
+found NoRow = refl
+found DeskOpen = refl
+found DeskClosed = refl
+found OutsideRow = refl
+found AlreadyTicked = refl
+found NotTicked = refl
+found Stale = refl
+
+pub number-injective : (r s : Refusal) → numberOf r ≡ numberOf s → r ≡ s
+number-injective r s e = sym (found r) ∙ ap refusalOf e ∙ found s
+
+-- And no refusal has 0, the number of an accepted call.
+pub number-positive : (r : Refusal) → numberOf r ≢ 0
+unfolding refusalOf back
+number-positive r e = let q : numberOf r ≡ 1 = ap numberOf (sym (found r) ∙ ap refusalOf e) in omega arith
