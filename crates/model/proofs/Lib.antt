@@ -1,1 +1,9 @@
 pub mod Numbers
+pub mod Basics
+pub mod Steps
+pub mod Outcome
+pub mod WellFormed
+pub mod Replay
+pub mod Stale
+pub mod History
+pub mod Claim
