@@ -7,15 +7,16 @@ use mathlib.Core.Bool.{Bool, true, false, cond, _&&_}
 use mathlib.Core.List.{List, [], _∷_, _++_, map}
 use lib.Dec.{eqb}
 use Rattle.model.specs.Positions.{Positions}
-use Rattle.model.specs.Book.{working, Book, idle, fresh, desk, Call, Enrol, Find, Open, Mark, Save, Drop, Answer, accepted, reply, refused, step, Entry, _⇒_, callOf, Run, run}
+use Rattle.model.specs.Book.{working, Book, idle, fresh, desk}
+use Rattle.model.specs.Step.{Call, Enrol, Find, Open, Mark, Save, Drop, Answer, accepted, reply, refused, step, Entry, _⇒_, callOf, Run, run}
 use Rattle.model.specs.History.{noted, transactionFrom, transaction, kept, serialFrom, serial}
 use Rattle.model.specs.WellFormed.{WellFormed, InRange, AllInRange}
-use Rattle.model.specs.Chain.{Chain, stop, next}
+use Rattle.model.specs.Chain.{Chain, stop, next, Steps}
 use Rattle.model.specs.Claim.{bookAfter, Claim}
 use Rattle.model.proofs.Basics.{by-test}
 use Rattle.model.proofs.Outcome.{outcome}
 use Rattle.model.proofs.WellFormed.{well-formed, fresh-well-formed}
-use Rattle.model.proofs.Replay.{serial-run}
+use Rattle.model.proofs.Replay.{replays-run, serial-run}
 use Rattle.model.proofs.Stale.{watching, stale-exactly, stale-cause}
 use Rattle.model.proofs.History.{serial-order}
 
@@ -73,6 +74,39 @@ unfolding serialFrom AllInRange
 serial-range past [] f = tt
 serial-range past (e ∷ log) f = range-append (kept past e) _ (kept-range past e (f .0)) (serial-range (past ++ e ∷ []) log (f .1))
 
+-- ---- from the model's answers to the claim
+
+module _ {S : Type 0} (Meets : Call → S → Answer → S → Type 0) (layout : Book → S) (log : List Entry)
+    (answers : run fresh (map callOf log) .log ≡ log) where
+  again : run fresh (map callOf (serial log)) ≡ record { log = serial log; book = idle (bookAfter log .places) }
+  again = rw answers at (serial-run (map callOf log))
+
+  cut-at : (past future : List Entry) (d : ℕ) (a : Answer) → log ≡ past ++ (Save d ⇒ a) ∷ future → Cut fresh past (Save d) a
+  cut-at past future d a split = cut fresh past (Save d) a future (sym (ap (λ l. run fresh (map callOf l) .log) split) ∙ answers ∙ split)
+
+  -- `meets`: the answers and the store are the model's in every chain of the serial history's calls.
+  claim-from : (last : S) → last ≡ layout (bookAfter log)
+      → ((other : List Entry) (end : S) → Chain Meets (layout fresh) other end → map callOf other ≡ map callOf (serial log)
+      → (run fresh (map callOf other) .log ≡ other) × (end ≡ layout (bookAfter other)))
+      → Claim Meets layout log last
+  claim-from last laid meets =
+      record {
+        model-answers = answers;
+        model-store = laid;
+        serial-order = serial-order log;
+        serial-run = again;
+        serial-store = λ other end chain e.
+            let k = meets other end chain e in
+            let same-run = ap (run fresh) e ∙ again in
+            (sym (k .0) ∙ ap (λ x. x .log) same-run, k .1 ∙ ap (λ x. layout (x .book)) same-run);
+        stale-exactly = λ past future d r opened worked a split x.
+            let w = watching (map callOf past) d r opened worked x in
+            rw (cut-at past future d a split .answer-is) (stale-exactly (bookAfter past) d r opened worked (w .is-desk) x);
+        stale-cause = λ past future d r opened worked a split x y.
+            let k = cut-at past future d a split in
+            rw (k .past-log) at (stale-cause (map callOf past) d r opened worked x (sym (k .answer-is) ∙ y));
+      }
+
 -- ---- any store whose calls keep their promise
 
 module _ {S : Type 0} (Meets : Call → S → Answer → S → Type 0) (layout : Book → S)
@@ -93,41 +127,20 @@ module _ {S : Type 0} (Meets : Call → S → Answer → S → Type 0) (layout :
   chain-run chain f = chain-from chain fresh refl fresh-well-formed f
 
   pub chain-claim : {log : List Entry} {last : S} → Chain Meets (layout fresh) log last → AllInRange (map callOf log) → Claim Meets layout log last
-  chain-claim {log = log} chain f =
-      record {
-        model-answers = answers;
-        model-store = chain-run chain f .1;
-        serial-order = serial-order log;
-        serial-run = again;
-        serial-store = store;
-        stale-exactly = λ past future d r opened worked a split x.
-            let w = watching (map callOf past) d r opened worked x in
-            rw (cut-at past future d a split .answer-is) (stale-exactly (bookAfter past) d r opened worked (w .is-desk) x);
-        stale-cause = λ past future d r opened worked a split x y.
-            let k = cut-at past future d a split in
-            rw (k .past-log) at (stale-cause (map callOf past) d r opened worked x (sym (k .answer-is) ∙ y));
-      }
-    where
-      answers : run fresh (map callOf log) .log ≡ log
-      answers = chain-run chain f .0
-
-      again : run fresh (map callOf (serial log)) ≡ record { log = serial log; book = idle (bookAfter log .places) }
-      again = rw answers at (serial-run (map callOf log))
-
-      store : (log′ : List Entry) (end : S) → Chain Meets (layout fresh) log′ end → map callOf log′ ≡ map callOf (serial log)
-          → (log′ ≡ serial log) × (end ≡ layout (idle (bookAfter log .places)))
-      store log′ end chain′ e =
-          let k = chain-run chain′ (rw e (serial-range [] log f)) in
-          let same-run = ap (run fresh) e ∙ again in
-          (sym (k .0) ∙ ap (λ x. x .log) same-run, k .1 ∙ ap (λ x. layout (x .book)) same-run)
-
-      cut-at : (past future : List Entry) (d : ℕ) (a : Answer) → log ≡ past ++ (Save d ⇒ a) ∷ future → Cut fresh past (Save d) a
-      cut-at past future d a split = cut fresh past (Save d) a future (sym (ap (λ l. run fresh (map callOf l) .log) split) ∙ answers ∙ split)
+  chain-claim {log = log} {last = last} chain f =
+      let k = chain-run chain f in
+      claim-from Meets layout log (k .0) last (k .1) (λ other end chain′ e. chain-run chain′ (rw e (serial-range [] log f)))
 
 -- ---- the model itself
 
--- On the model's own books, where a call's promise is its step.
-pub model-chain : (calls : List Call) (b : Book) → Chain (λ c s a t. step c s ≡ reply a t) b (run b calls .log) (run b calls .book)
+pub log-calls : (calls : List Call) (b : Book) → map callOf (run b calls .log) ≡ calls
 unfolding run
-model-chain [] b = stop
-model-chain (c ∷ calls) b = next refl (model-chain calls (step c b .book))
+log-calls [] b = refl
+log-calls (c ∷ calls) b = rw (log-calls calls (step c b .book))
+
+-- The claim holds of the model's own run of every list of calls, in range or not.
+pub model-claim : (calls : List Call) → Claim Steps (λ b. b) (run fresh calls .log) (run fresh calls .book)
+model-claim calls =
+    claim-from Steps (λ b. b) (run fresh calls .log) (rw (log-calls calls fresh)) (run fresh calls .book)
+    (ap (λ cs. run fresh cs .book) (sym (log-calls calls fresh)))
+    (λ other end chain e. let r = replays-run chain in (ap (λ x. x .log) r, sym (ap (λ x. x .book) r)))

@@ -8,7 +8,7 @@ use mathlib.Core.Option.{Option, none, some}
 use mathlib.Core.List.{List, [], _∷_, _++_, append-assoc, append-nil}
 use lib.Dec.{eqb}
 use borrow.Author.Tests.{eq-eqb}
-use Rattle.model.specs.Book.{Enrol, Find, Open, Mark, Save, Drop, Answer, done, atRow, refused, accepted, Entry, _⇒_}
+use Rattle.model.specs.Step.{Enrol, Find, Open, Mark, Save, Drop, Answer, done, atRow, refused, accepted, Entry, _⇒_}
 use Rattle.model.specs.History.{noted, transactionFrom, transaction, kept, serialFrom, serial, isResult, results}
 use Rattle.model.specs.Stale.{openedBy, later, lastOpened}
 use Rattle.model.proofs.Basics.{by-test}

@@ -7,3 +7,5 @@ pub mod Replay
 pub mod Stale
 pub mod History
 pub mod Claim
+pub mod Counts
+pub mod Laws

@@ -7,47 +7,9 @@ use lib.ListN.{set}
 use borrow.Author.Tests.{eqb-true, not-false}
 use Rattle.refusals.specs.Judge.{verdict}
 use Rattle.keys.specs.Key.{validKey}
-use Rattle.model.specs.Positions.{Positions, noTicks, has, same}
-use Rattle.model.specs.Book.{
-  row,
-  Desk,
-  closed,
-  working,
-  Book,
-  place,
-  desk,
-  putPlace,
-  putDesk,
-  isFree,
-  ticksOf,
-  withTicks,
-  isDesk,
-  isOpen,
-  hasKey,
-  placeWith,
-  allUsed,
-  lowestFree,
-  inRow,
-  positionAt,
-  Call,
-  Enrol,
-  Find,
-  Open,
-  Mark,
-  Save,
-  Drop,
-  done,
-  atRow,
-  refused,
-  Reply,
-  reply,
-  alreadySo,
-  refusals,
-  effect,
-  afterRefusal,
-  judged,
-  step,
-}
+use Rattle.model.specs.Positions.{Positions, noTicks, has, same, inRow}
+use Rattle.model.specs.Book.{row, Desk, closed, working, Book, place, desk, putPlace, putDesk, isFree, ticksOf, withTicks, isDesk, isOpen, hasKey, placeWith, allUsed, lowestFree, positionAt}
+use Rattle.model.specs.Step.{Call, Enrol, Find, Open, Mark, Save, Drop, done, atRow, refused, Reply, reply, alreadySo, refusals, effect, afterRefusal, judged, step}
 use Rattle.model.proofs.Basics.{by-test, by-bool, Lowest, lowest, HasRow, has-row}
 use Rattle.model.proofs.Steps.{markVerdict, mark-step, save-step, mark-closed, save-closed, mark-no-desk, save-no-desk}
 

@@ -11,47 +11,11 @@ use lib.ListN.{getD, set}
 use lib.Seq.{getD-set-same, getD-set-other, set-set, set-getD}
 use borrow.Author.Tests.{eq-eqb, ne-eqb}
 use Rattle.refusals.specs.Judge.{verdict}
-use Rattle.model.specs.Positions.{Positions, same}
-use Rattle.model.specs.Book.{
-  Place,
-  free,
-  row,
-  Desk,
-  closed,
-  working,
-  Book,
-  idle,
-  fresh,
-  place,
-  desk,
-  putPlace,
-  putDesk,
-  ticksOf,
-  withTicks,
-  isDesk,
-  position,
-  positionAt,
-  Call,
-  Enrol,
-  Find,
-  Open,
-  Mark,
-  Save,
-  Drop,
-  Answer,
-  done,
-  refused,
-  Reply,
-  reply,
-  refusals,
-  effect,
-  step,
-  Entry,
-  _⇒_,
-  callOf,
-  run,
-}
+use Rattle.model.specs.Positions.{Positions, same, position}
+use Rattle.model.specs.Book.{Place, free, row, Desk, closed, working, Book, idle, fresh, place, desk, putPlace, putDesk, ticksOf, withTicks, isDesk, positionAt}
+use Rattle.model.specs.Step.{Call, Enrol, Find, Open, Mark, Save, Drop, Answer, done, refused, Reply, reply, refusals, effect, step, Entry, _⇒_, callOf, run}
 use Rattle.model.specs.History.{noted, transactionFrom, transaction, kept, serialFrom, serial}
+use Rattle.model.specs.Chain.{Chain, stop, next, Steps}
 use Rattle.model.proofs.Basics.{same-true, row-not-free, row-in, put-all, idle-desk, idle-close, at-desk}
 use Rattle.model.proofs.Steps.{markVerdict, open-step, mark-step, save-step}
 use Rattle.model.proofs.Outcome.{isMark, Has, Outcome, refusal, enrolment, finding, opening, unopened, unmarked, marking, saving, stale, dropping, outcome}
@@ -67,10 +31,8 @@ transaction-snoc d t (x ∷ past) e = transaction-snoc d (noted d t x) past e
 -- ---- replaying entries
 
 -- Run from b, the calls of the entries get the entries' answers, and end at b′.
-pub data Replays : Book → List Entry → Book → Type 0 where
-  stop : {b : Book} → Replays b [] b
-  next : {b b₁ b₂ : Book} {c : Call} {a : Answer} {es : List Entry} → step c b ≡ reply a b₁ → Replays b₁ es b₂
-      → Replays b ((c ⇒ a) ∷ es) b₂
+abbrev pub Replays : Book → List Entry → Book → Type 0
+Replays b es b′ = Chain Steps b es b′
 
 one : {b b₁ : Book} {c : Call} {a : Answer} → step c b ≡ reply a b₁ → Replays b ((c ⇒ a) ∷ []) b₁
 one e = next e stop

@@ -11,33 +11,8 @@ use lib.ListN.{getD, set}
 use lib.Seq.{getD-set-other, append-snoc}
 use borrow.Author.Tests.{ne-eqb, eq-eqb}
 use Rattle.model.specs.Positions.{Positions, same}
-use Rattle.model.specs.Book.{
-  Place,
-  free,
-  Desk,
-  closed,
-  working,
-  Book,
-  fresh,
-  place,
-  desk,
-  ticksOf,
-  isDesk,
-  Call,
-  Enrol,
-  Find,
-  Open,
-  Mark,
-  Save,
-  Drop,
-  done,
-  refused,
-  Reply,
-  step,
-  Entry,
-  _⇒_,
-  run,
-}
+use Rattle.model.specs.Book.{Place, free, Desk, closed, working, Book, fresh, place, desk, ticksOf, isDesk}
+use Rattle.model.specs.Step.{Call, Enrol, Find, Open, Mark, Save, Drop, done, refused, Reply, step, Entry, _⇒_, run}
 use Rattle.model.specs.Stale.{openedBy, later, lastOpened, Overtaken}
 use Rattle.model.proofs.Basics.{by-test, same-true, same-refl, put-all, idle-desk}
 use Rattle.model.proofs.Steps.{save-step}

@@ -6,34 +6,9 @@ use mathlib.Core.Bool.{Bool, true, false, cond, not, Bool·beq}
 use lib.Dec.{eqb}
 use lib.ListN.{set}
 use Rattle.refusals.specs.Judge.{verdict}
-use Rattle.model.specs.Positions.{Positions, has, same}
-use Rattle.model.specs.Book.{
-  row,
-  closed,
-  working,
-  Book,
-  place,
-  desk,
-  putPlace,
-  putDesk,
-  ticksOf,
-  withTicks,
-  isDesk,
-  inRow,
-  positionAt,
-  Open,
-  Mark,
-  Save,
-  done,
-  refused,
-  Reply,
-  reply,
-  alreadySo,
-  refusals,
-  effect,
-  afterRefusal,
-  step,
-}
+use Rattle.model.specs.Positions.{Positions, has, same, inRow}
+use Rattle.model.specs.Book.{row, closed, working, Book, place, desk, putPlace, putDesk, ticksOf, withTicks, isDesk, positionAt}
+use Rattle.model.specs.Step.{Open, Mark, Save, done, refused, Reply, reply, alreadySo, refusals, effect, afterRefusal, step}
 
 -- What a mark at position i of the worked set is refused for, by a desk with a row open; 0 where it is accepted.
 unfoldable pub markVerdict : (flag : Bool) (i : ℕ) (worked : Positions) → ℕ

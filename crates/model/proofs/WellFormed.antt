@@ -11,8 +11,9 @@ use lib.Dec.{eqb}
 use lib.ListN.{length, getD, set, length-set, length-replicate}
 use lib.Seq.{getD-set-same, getD-set-other}
 use borrow.Author.Tests.{eqb-false}
-use Rattle.model.specs.Positions.{rowLength, Positions, noTicks}
-use Rattle.model.specs.Book.{Place, free, row, Desk, closed, working, Book, fresh, place, desk, putPlace, putDesk, isFree, withTicks, hasKey, lowestFree, numbers, Call, Reply, step, run}
+use Rattle.model.specs.Positions.{rowLength, Positions, noTicks, numbers}
+use Rattle.model.specs.Book.{Place, free, row, Desk, closed, working, Book, fresh, place, desk, putPlace, putDesk, isFree, withTicks, hasKey, lowestFree}
+use Rattle.model.specs.Step.{Call, Reply, step, run}
 use Rattle.model.specs.WellFormed.{IsSet, PlaceOk, DeskOk, keyOf, WellFormed, InRange, AllInRange}
 use Rattle.model.proofs.Basics.{or-false, put-all, put-same, read-replicate}
 use Rattle.model.proofs.Outcome.{Admitted, Outcome, refusal, enrolment, finding, opening, unopened, unmarked, marking, saving, stale, dropping, outcome}

@@ -5,7 +5,8 @@ use mathlib.Core.Path.{_≡_}
 use mathlib.Core.Logic.{_≢_, _↔_}
 use mathlib.Core.List.{List, _∷_, _++_, map}
 use Rattle.model.specs.Positions.{Positions}
-use Rattle.model.specs.Book.{working, Book, idle, fresh, place, desk, ticksOf, Call, Save, Answer, refused, Entry, _⇒_, callOf, run}
+use Rattle.model.specs.Book.{working, Book, idle, fresh, place, desk, ticksOf}
+use Rattle.model.specs.Step.{Call, Save, Answer, refused, Entry, _⇒_, callOf, run}
 use Rattle.model.specs.History.{serial, results}
 use Rattle.model.specs.Stale.{Overtaken}
 use Rattle.model.specs.Chain.{Chain}
