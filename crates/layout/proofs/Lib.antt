@@ -2,3 +2,5 @@ pub mod Parts
 pub mod Chunks
 pub mod Ticks
 pub mod Rows
+pub mod Places
+pub mod Used
