@@ -4,3 +4,4 @@ pub mod Ticks
 pub mod Rows
 pub mod Places
 pub mod Used
+pub mod Right

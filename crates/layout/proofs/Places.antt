@@ -24,7 +24,7 @@ use Rattle.layout.proofs.Rows.{length-place}
 
 -- ---- the header
 
-abbrev headerNumbers : ℕ → List ℕ
+abbrev pub headerNumbers : ℕ → List ℕ
 headerNumbers n = sheetSize ∷ n ∷ rowCount ∷ rowsStart ∷ deskCount ∷ desksStart ∷ []
 
 header-laid : (n : ℕ) → headerBytes n ≡ [] ++ laid (bytesOf headerNumberSize) (headerNumbers n) ++ []

@@ -44,12 +44,12 @@ ordered (row key first ticks ∷ ps) h = taken (ordered ps (λ r q e l. h (suc r
 
 -- ---- which places are used
 
-pub free-is : {ps : List Place} {n : ℕ} → Ordered ps n → (r : ℕ) → isFree (getD ps r free) ≡ not (ltb r n)
-free-is end r = rw leb·suc-zero
-free-is (spare o) zero = refl
-free-is (spare o) (suc r) = rw leb·suc-zero (free-is o r ∙ rw leb·suc-zero)
-free-is (taken o) zero = rw (leb·suc-suc, leb·zero)
-free-is (taken o) (suc r) = rw leb·suc-suc (free-is o r)
+pub used-below : {ps : List Place} {n : ℕ} → Ordered ps n → (r : ℕ) → ltb r n ≡ not (isFree (getD ps r free))
+used-below end r = rw leb·suc-zero
+used-below (spare o) zero = refl
+used-below (spare o) (suc r) = leb·suc-zero (suc r) ∙ sym (leb·suc-zero r) ∙ used-below o r
+used-below (taken o) zero = rw (leb·suc-suc, leb·zero)
+used-below (taken o) (suc r) = rw leb·suc-suc (used-below o r)
 
 pub count-in : {ps : List Place} {n : ℕ} → Ordered ps n → n ≤ length ps
 count-in end = zero-le
