@@ -5,3 +5,4 @@ pub mod Rows
 pub mod Places
 pub mod Used
 pub mod Right
+pub mod Read
