@@ -6,3 +6,4 @@ pub mod Places
 pub mod Used
 pub mod Right
 pub mod Read
+pub mod Calls
