@@ -32,45 +32,24 @@ pub enum KeyAnswer {
     Refused(Refusal),
 }
 
-// Whether four numbers each lie below their limits.
-fn all_fit(
-    a: u32,
-    alimit: u32,
-    b: u32,
-    blimit: u32,
-    c: u32,
-    climit: u32,
-    d: u32,
-    dlimit: u32,
-) -> bool
-    ensures { λ r. ⌜ r ≡ (ltb a alimit && ltb b blimit && ltb c climit && ltb d dlimit) ⌝ }
+// Whether two numbers each lie below their limits.
+fn both_fit(a: u32, alimit: u32, b: u32, blimit: u32) -> bool
+    ensures { λ r. ⌜ r ≡ (ltb a alimit && ltb b blimit) ⌝ }
 {
     if alimit <= a {
         return false;
     }
-    if blimit <= b {
-        return false;
-    }
-    if climit <= c {
-        return false;
-    }
-    d < dlimit
+    b < blimit
 }
 
 // The key of a telemetry stream; refused where a number is wider than its field.
 pub fn telemetry_key(spacecraft: u32, source: u32, equipment: u32, stream: u32) -> KeyAnswer
     ensures { λ r. ⌜ wordsOf r ≡ telemetryKeyCall spacecraft source equipment stream ⌝ }
 {
-    if !all_fit(
-        spacecraft,
-        LIMIT_10,
-        source,
-        LIMIT_8,
-        equipment,
-        LIMIT_16,
-        stream,
-        LIMIT_8,
-    ) {
+    if !both_fit(spacecraft, LIMIT_10, source, LIMIT_8) {
+        return KeyAnswer::Refused(Refusal::BadKey);
+    }
+    if !both_fit(equipment, LIMIT_16, stream, LIMIT_8) {
         return KeyAnswer::Refused(Refusal::BadKey);
     }
     KeyAnswer::Key(
@@ -82,16 +61,10 @@ pub fn telemetry_key(spacecraft: u32, source: u32, equipment: u32, stream: u32) 
 pub fn rsr_key(spacecraft: u32, station: u32, receiver: u32, subchannel: u32) -> KeyAnswer
     ensures { λ r. ⌜ wordsOf r ≡ rsrKeyCall spacecraft station receiver subchannel ⌝ }
 {
-    if !all_fit(
-        spacecraft,
-        LIMIT_8,
-        station,
-        LIMIT_8,
-        receiver,
-        LIMIT_8,
-        subchannel,
-        LIMIT_8,
-    ) {
+    if !both_fit(spacecraft, LIMIT_8, station, LIMIT_8) {
+        return KeyAnswer::Refused(Refusal::BadKey);
+    }
+    if !both_fit(receiver, LIMIT_8, subchannel, LIMIT_8) {
         return KeyAnswer::Refused(Refusal::BadKey);
     }
     KeyAnswer::Key(
