@@ -125,26 +125,28 @@ marked on row i = cond on (setTick row 0 i) (clearTick row 0 i)
 abbrev pub markRows : Bool → List ℕ → ℕ → List Row
 markRows on row i = (28 when not (inRow i)) ∷ (alreadySo on when Bool·beq (tickedAt row 0 i) on) ∷ []
 
--- A tick or an untick of number n in a row's bytes.
+-- A tick or an untick of position i, and of number n, in a row's bytes.
+unfoldable pub markPosition : Bool → ℕ → List ℕ → Outcome
+markPosition on i row = judged (markRows on row i) (done, marked on row i) row
+
 unfoldable pub markRow : Bool → ℕ → List ℕ → Outcome
-markRow on n row = judged (markRows on row (positionIn row n)) (done, marked on row (positionIn row n)) row
+markRow on n row = markPosition on (positionIn row n) row
 
 -- The desk's worked copy, "which is lent on as that middle part of the sheet".
 abbrev pub workedCopy : ℕ → List ℕ → List ℕ
 workedCopy d s = part s (deskAt d + workedAt) rowSize
 
 -- "Tick, untick (desk, number): change one bit of the desk's worked copy."
-unfoldable pub markAt : Bool → (d n : ℕ) → List ℕ → List ℕ
-markAt on d n s = put s (deskAt d + workedAt) (marked on (workedCopy d s) (positionIn (workedCopy d s) n))
+unfoldable pub markDesk : Bool → (d n : ℕ) → List ℕ → Outcome
+markDesk on d n s =
+    let outcome = markRow on n (workedCopy d s) in
+    (outcome .0, put s (deskAt d + workedAt) (outcome .1))
 
 unfoldable pub markCall : Bool → (d n : ℕ) → List ℕ → Outcome
 markCall on d n s =
     judged
-    ((20 when not (right s))
-    ∷ (21 when not (ltb d deskCount))
-    ∷ (27 when isClosed s d)
-    ∷ markRows on (workedCopy d s) (positionIn (workedCopy d s) n))
-    (done, markAt on d n s)
+    ((20 when not (right s)) ∷ (21 when not (ltb d deskCount)) ∷ (27 when isClosed s d) ∷ [])
+    (markDesk on d n s)
     s
 
 abbrev pub tickCall : (d n : ℕ) → List ℕ → Outcome

@@ -1,0 +1,54 @@
+-- `desks::save_desk` meets its contract. Assumes nothing.
+use mathlib.Core.Path.{sym, _∙_}
+use Rattle.sheet.specs.Bytes.{saveAt}
+use borrow.Author.Needs.{needs}
+use Rattle.sheet.proofs.desks.save_desk.Statement.{statement}
+use Rattle.sheet.proofs.desks.save_desk.Tie as tie
+use Rattle.sheet.proofs.desks.save_desk.Reads as reads
+use Rattle.sheet.proofs.desks.save_desk.Lts as lts
+use Rattle.sheet.proofs.desks.clear_desk.Reads as clear-desk-reads
+use Rattle.sheet.proofs.desks.is_current.Reads as is-current-reads
+use Rattle.sheet.proofs.desks.store.Reads as store-reads
+
+is-current-requires : tie.Need-is-current-requires
+is-current-requires c κs = search needs
+
+store-requires : tie.Need-store-requires
+store-requires c κs = search needs
+
+clear-desk-requires : tie.Need-clear-desk-requires
+clear-desk-requires c κs = search needs
+
+same-length : tie.Need-same-length
+same-length c = search needs
+
+returns : tie.Need-returns
+unfolding saveAt
+returns c =
+    let current = c .before .before .before .before .before .before .before .before in
+    rw (sym (current .before .is-current .ensures) ∙ current .if1 .taken) (cc)
+
+clear-desk-requires-2 : tie.Need-clear-desk-requires-2
+clear-desk-requires-2 c κs = search needs
+
+same-length-2 : tie.Need-same-length-2
+same-length-2 c = search needs
+
+returns-2 : tie.Need-returns-2
+unfolding saveAt
+returns-2 c =
+    let stale = c .before .before .before .before in
+    rw (sym (stale .before .is-current .ensures) ∙ stale .if1 .left) (cc)
+
+pub save-desk-spec : {M : Type 1} → statement M
+save-desk-spec =
+    tie.close
+    (tie.spec
+    is-current-requires
+    store-requires
+    clear-desk-requires
+    same-length
+    returns
+    clear-desk-requires-2
+    same-length-2
+    returns-2)

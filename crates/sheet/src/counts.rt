@@ -1,0 +1,1 @@
+// Row report and first gap.
