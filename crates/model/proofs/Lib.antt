@@ -1,1 +1,11 @@
 pub mod Numbers
+pub mod Basics
+pub mod Steps
+pub mod Outcome
+pub mod WellFormed
+pub mod Replay
+pub mod Stale
+pub mod History
+pub mod Claim
+pub mod Counts
+pub mod Laws

@@ -2,7 +2,7 @@
 use Prim.Native.Nat.{ℕ, _+_, _-_, _^_, _%_, _<_}
 use native.Mathlib.Omega.{arith}
 use mathlib.Core.Path.{_≡_}
-use Rattle.model.specs.Book.{numbers, position, numberAt}
+use Rattle.model.specs.Positions.{numbers, position, numberAt}
 
 -- What the wrapping difference r of n and first promises fixes the position.
 pub difference : (key first n r : ℕ) → first < numbers key → n < numbers key → r < numbers key → (r + first) % 2 ^ 32 ≡ n

@@ -5,7 +5,8 @@ use mathlib.Core.Path.{_≡_}
 use mathlib.Core.Logic.{_≢_, _↔_}
 use mathlib.Core.List.{List, _∷_, _++_, map}
 use Rattle.model.specs.Positions.{Positions}
-use Rattle.model.specs.Book.{working, Book, idle, fresh, place, desk, ticksOf, Call, Save, Answer, refused, Entry, _⇒_, callOf, run}
+use Rattle.model.specs.Book.{working, Book, idle, fresh, place, desk, ticksOf}
+use Rattle.model.specs.Step.{Call, Save, Answer, refused, Entry, _⇒_, callOf, run}
 use Rattle.model.specs.History.{serial, results}
 use Rattle.model.specs.Stale.{Overtaken}
 use Rattle.model.specs.Chain.{Chain}
@@ -22,7 +23,7 @@ pub record Claim {S : Type 0} (Meets : Call → S → Answer → S → Type 0) (
   -- answers that they had in the log, and end with the log's places and no desk open. So do they on a fresh store.
   pub serial-order : results (serial log) ≡ results log
   pub serial-run : run fresh (map callOf (serial log)) ≡ record { log = serial log; book = idle (bookAfter log .places) }
-  pub serial-store : {again : List Entry} {end : S} → Chain Meets (layout fresh) again end → map callOf again ≡ map callOf (serial log)
+  pub serial-store : (again : List Entry) (end : S) → Chain Meets (layout fresh) again end → map callOf again ≡ map callOf (serial log)
       → (again ≡ serial log) × (end ≡ layout (idle (bookAfter log .places)))
   -- 3. A save by a desk with a row open is stale exactly when the row's set is not the opened one,
   pub stale-exactly : (past future : List Entry) (d r : ℕ) (opened worked : Positions) (a : Answer)

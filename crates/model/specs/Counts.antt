@@ -3,8 +3,8 @@
 use Prim.Native.Nat.{ℕ, suc}
 use mathlib.Core.Option.{Option, none, some}
 use mathlib.Core.List.{List, [], _∷_}
-use Rattle.model.specs.Positions.{Positions, size, missing, least}
-use Rattle.model.specs.Book.{Place, free, row, Book, place, numberAt}
+use Rattle.model.specs.Positions.{Positions, size, missing, least, numberAt}
+use Rattle.model.specs.Book.{Place, free, row, Book, place}
 
 -- "ticked count; missing count; the number at the lowest missing position, or none"
 abbrev pub lowestNumber : (key first : ℕ) → Option ℕ → List ℕ

@@ -4,7 +4,7 @@ use Prim.Native.Nat.{ℕ}
 use mathlib.Core.Bool.{Bool, false, cond, _&&_}
 use mathlib.Core.List.{List, [], _∷_, _++_}
 use lib.Dec.{eqb}
-use Rattle.model.specs.Book.{Enrol, Find, Open, Mark, Save, Drop, accepted, Entry, _⇒_}
+use Rattle.model.specs.Step.{Enrol, Find, Open, Mark, Save, Drop, accepted, Entry, _⇒_}
 
 -- Desk d's transaction t, after one more entry of the log: an accepted open of the desk begins it anew, and a tick or
 -- untick of the desk goes on with it, a refused one too.

@@ -1,5 +1,6 @@
 pub mod Positions
 pub mod Book
+pub mod Step
 pub mod History
 pub mod Stale
 pub mod WellFormed

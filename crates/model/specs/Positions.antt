@@ -1,13 +1,34 @@
--- Sets of positions of a row, and how they are counted. Assumes nothing.
-use Prim.Native.Nat.{ℕ, zero, suc}
+-- Positions of a row: the position of a number, sets of positions, and how they are counted. Assumes nothing.
+use Prim.Native.Nat.{ℕ, zero, suc, _+_, _-_, _^_, _%_}
 use mathlib.Core.Bool.{Bool, true, false, not, _&&_, _||_, Bool·beq}
 use mathlib.Core.Option.{Option, none, some, Option·map}
 use mathlib.Core.List.{List, [], _∷_}
+use lib.Dec.{ltb}
 use lib.ListN.{getD, replicate}
 
 -- How many positions a row has.
 abbrev pub rowLength : ℕ
 rowLength = 1024
+
+-- ---- numbers
+
+-- How many record numbers a stream has before they start again. "This holds for every stream": the key decides nothing.
+abbrev pub numbers : (key : ℕ) → ℕ
+numbers key = 2 ^ 32
+
+-- "Number n has position (n - first) mod 2^32." The first number is below 2^32.
+unfoldable pub position : (key first n : ℕ) → ℕ
+position key first n = (n + (numbers key - first)) % numbers key
+
+-- The number at a position.
+unfoldable pub numberAt : (key first i : ℕ) → ℕ
+numberAt key first i = (first + i) % numbers key
+
+-- "and is in the row if that is under 1,024"
+abbrev pub inRow : ℕ → Bool
+inRow i = ltb i rowLength
+
+-- ---- sets
 
 -- A set of positions: flag i says whether position i is in it, that is, ticked.
 abbrev pub Positions : Type 0

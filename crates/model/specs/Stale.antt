@@ -7,7 +7,7 @@ use mathlib.Core.Bool.{cond, _&&_}
 use mathlib.Core.Option.{Option, none, some}
 use mathlib.Core.List.{List, [], _∷_, _++_}
 use lib.Dec.{eqb}
-use Rattle.model.specs.Book.{Enrol, Find, Open, Mark, Save, Drop, done, accepted, Entry, _⇒_}
+use Rattle.model.specs.Step.{Enrol, Find, Open, Mark, Save, Drop, done, accepted, Entry, _⇒_}
 
 -- The row that an entry opened at desk d: none, unless it is an accepted open of that desk.
 unfoldable pub openedBy : ℕ → Entry → Option ℕ

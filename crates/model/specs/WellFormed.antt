@@ -6,8 +6,9 @@ use mathlib.Core.Option.{Option, none, some}
 use mathlib.Core.List.{List, [], _∷_}
 use lib.ListN.{length, getD}
 use Rattle.keys.specs.Key.{validKey}
-use Rattle.model.specs.Positions.{rowLength, Positions}
-use Rattle.model.specs.Book.{Place, free, row, Desk, closed, working, Book, place, desk, isFree, numbers, Call, Enrol, Find, Open, Mark, Save, Drop}
+use Rattle.model.specs.Positions.{rowLength, Positions, numbers}
+use Rattle.model.specs.Book.{placeCount, deskCount, Place, free, row, Desk, closed, working, Book, place, desk, isFree}
+use Rattle.model.specs.Step.{Call, Enrol, Find, Open, Mark, Save, Drop}
 
 abbrev pub IsSet : Positions → Type 0
 IsSet s = length s ≡ rowLength
@@ -25,8 +26,8 @@ keyOf free = none
 keyOf (row key first ticks) = some key
 
 pub record WellFormed (b : Book) : Type 0 where
-  pub places-count : length (b .places) ≡ 32
-  pub desks-count : length (b .desks) ≡ 8
+  pub places-count : length (b .places) ≡ placeCount
+  pub desks-count : length (b .desks) ≡ deskCount
   pub place-ok : (r : ℕ) → PlaceOk (place b r)
   -- An open desk's place is used.
   pub desk-ok : (d : ℕ) → DeskOk (b .places) (desk b d)

@@ -1,6 +1,6 @@
 -- `number_at` meets its contract. Assumes nothing.
 use borrow.Author.Needs.{needs}
-use Rattle.model.specs.Book.{numberAt}
+use Rattle.model.specs.Positions.{numberAt}
 use Rattle.model.proofs.number_at.Statement.{statement}
 use Rattle.model.proofs.number_at.Tie as tie
 

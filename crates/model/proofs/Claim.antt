@@ -1,0 +1,146 @@
+-- Demand 3's claim: from a promise for each call to the whole list. Where every call on a book laid out answers as the model and
+-- leaves the model's next book laid out, so does every list of calls, and all that holds of the model's lists holds of it.
+-- Assumes nothing.
+use Prim.Native.Nat.{ℕ}
+use mathlib.Core.Path.{_≡_, refl, sym, ap, _∙_, subst}
+use mathlib.Core.Bool.{Bool, true, false, cond, _&&_}
+use mathlib.Core.List.{List, [], _∷_, _++_, map}
+use lib.Dec.{eqb}
+use Rattle.model.specs.Positions.{Positions}
+use Rattle.model.specs.Book.{working, Book, idle, fresh, desk}
+use Rattle.model.specs.Step.{Call, Enrol, Find, Open, Mark, Save, Drop, Answer, accepted, reply, refused, step, Entry, _⇒_, callOf, Run, run}
+use Rattle.model.specs.History.{noted, transactionFrom, transaction, kept, serialFrom, serial}
+use Rattle.model.specs.WellFormed.{WellFormed, InRange, AllInRange}
+use Rattle.model.specs.Chain.{Chain, stop, next, Steps}
+use Rattle.model.specs.Claim.{bookAfter, Claim}
+use Rattle.model.proofs.Basics.{by-test}
+use Rattle.model.proofs.Outcome.{outcome}
+use Rattle.model.proofs.WellFormed.{well-formed, fresh-well-formed}
+use Rattle.model.proofs.Replay.{replays-run, serial-run}
+use Rattle.model.proofs.Stale.{watching, stale-exactly, stale-cause}
+use Rattle.model.proofs.History.{serial-order}
+
+-- ---- a log cut in two
+
+-- A log that is the model's, up to one of its entries: so is what stands before, and the entry's answer.
+record Cut (b : Book) (past : List Entry) (c : Call) (a : Answer) : Type 0 where
+  past-log : run b (map callOf past) .log ≡ past
+  answer-is : a ≡ step c (run b (map callOf past) .book) .answer
+
+cut : (b : Book) (past : List Entry) (c : Call) (a : Answer) (future : List Entry)
+    → run b (map callOf (past ++ (c ⇒ a) ∷ future)) .log ≡ past ++ (c ⇒ a) ∷ future → Cut b past c a
+unfolding run
+cut b [] c a future e = record { past-log = refl; answer-is = cc }
+cut b ((x ⇒ y) ∷ past) c a future e =
+    let rest : run (step x b .book) (map callOf (past ++ (c ⇒ a) ∷ future)) .log ≡ past ++ (c ⇒ a) ∷ future = cc in
+    let k = cut (step x b .book) past c a future rest in
+    record { past-log = cc (k .past-log); answer-is = k .answer-is }
+
+-- ---- the serial history is in range
+
+range-append : (xs ys : List Entry) → AllInRange (map callOf xs) → AllInRange (map callOf ys) → AllInRange (map callOf (xs ++ ys))
+unfolding AllInRange
+range-append [] ys f g = g
+range-append (x ∷ xs) ys f g = (f .0, range-append xs ys (f .1) g)
+
+noted-range : (d : ℕ) (t : List Entry) (e : Entry) → AllInRange (map callOf t) → AllInRange (map callOf (noted d t e))
+unfolding noted AllInRange
+noted-range d t (Enrol key first ⇒ a) f = f
+noted-range d t (Find key ⇒ a) f = f
+noted-range d t (Open e r ⇒ a) f = by-test (λ es. AllInRange (map callOf es)) (accepted a && eqb e d) (λ _. (tt, tt)) (λ _. f)
+noted-range d t (Mark flag e n ⇒ a) f = by-test (λ es. AllInRange (map callOf es)) (eqb e d) (λ _. range-append t _ f (tt, tt)) (λ _. f)
+noted-range d t (Save e ⇒ a) f = f
+noted-range d t (Drop e ⇒ a) f = f
+
+transaction-range : (d : ℕ) (t log : List Entry) → AllInRange (map callOf t) → AllInRange (map callOf (transactionFrom d t log))
+unfolding transactionFrom
+transaction-range d t [] f = f
+transaction-range d t (e ∷ log) f = transaction-range d (noted d t e) log (noted-range d t e f)
+
+kept-range : (past : List Entry) (e : Entry) → InRange (callOf e) → AllInRange (map callOf (kept past e))
+unfolding kept AllInRange
+kept-range past (Enrol key first ⇒ a) f = by-test (λ es. AllInRange (map callOf es)) (accepted a) (λ _. (f, tt)) (λ _. tt)
+kept-range past (Find key ⇒ a) f = tt
+kept-range past (Open d r ⇒ a) f = tt
+kept-range past (Mark flag d n ⇒ a) f = tt
+kept-range past (Save d ⇒ a) f =
+    by-test (λ es. AllInRange (map callOf es)) (accepted a)
+    (λ _. range-append (transaction d past) _ (transaction-range d [] past tt) (tt, tt))
+    (λ _. tt)
+kept-range past (Drop d ⇒ a) f = tt
+
+serial-range : (past log : List Entry) → AllInRange (map callOf log) → AllInRange (map callOf (serialFrom past log))
+unfolding serialFrom AllInRange
+serial-range past [] f = tt
+serial-range past (e ∷ log) f = range-append (kept past e) _ (kept-range past e (f .0)) (serial-range (past ++ e ∷ []) log (f .1))
+
+-- ---- from the model's answers to the claim
+
+module _ {S : Type 0} (Meets : Call → S → Answer → S → Type 0) (layout : Book → S) (log : List Entry)
+    (answers : run fresh (map callOf log) .log ≡ log) where
+  again : run fresh (map callOf (serial log)) ≡ record { log = serial log; book = idle (bookAfter log .places) }
+  again = rw answers at (serial-run (map callOf log))
+
+  cut-at : (past future : List Entry) (d : ℕ) (a : Answer) → log ≡ past ++ (Save d ⇒ a) ∷ future → Cut fresh past (Save d) a
+  cut-at past future d a split = cut fresh past (Save d) a future (sym (ap (λ l. run fresh (map callOf l) .log) split) ∙ answers ∙ split)
+
+  -- `meets`: the answers and the store are the model's in every chain of the serial history's calls.
+  claim-from : (last : S) → last ≡ layout (bookAfter log)
+      → ((other : List Entry) (end : S) → Chain Meets (layout fresh) other end → map callOf other ≡ map callOf (serial log)
+      → (run fresh (map callOf other) .log ≡ other) × (end ≡ layout (bookAfter other)))
+      → Claim Meets layout log last
+  claim-from last laid meets =
+      record {
+        model-answers = answers;
+        model-store = laid;
+        serial-order = serial-order log;
+        serial-run = again;
+        serial-store = λ other end chain e.
+            let k = meets other end chain e in
+            let same-run = ap (run fresh) e ∙ again in
+            (sym (k .0) ∙ ap (λ x. x .log) same-run, k .1 ∙ ap (λ x. layout (x .book)) same-run);
+        stale-exactly = λ past future d r opened worked a split x.
+            let w = watching (map callOf past) d r opened worked x in
+            rw (cut-at past future d a split .answer-is) (stale-exactly (bookAfter past) d r opened worked (w .is-desk) x);
+        stale-cause = λ past future d r opened worked a split x y.
+            let k = cut-at past future d a split in
+            rw (k .past-log) at (stale-cause (map callOf past) d r opened worked x (sym (k .answer-is) ∙ y));
+      }
+
+-- ---- any store whose calls keep their promise
+
+module _ {S : Type 0} (Meets : Call → S → Answer → S → Type 0) (layout : Book → S)
+    (each : (c : Call) (b : Book) (a : Answer) (t : S) → WellFormed b → InRange c → Meets c (layout b) a t
+    → (a ≡ step c b .answer) × (t ≡ layout (step c b .book))) where
+  chain-from : {s t : S} {es : List Entry} → Chain Meets s es t → (b : Book) → s ≡ layout b → WellFormed b → AllInRange (map callOf es)
+      → (run b (map callOf es) .log ≡ es) × (t ≡ layout (run b (map callOf es) .book))
+  unfolding run AllInRange
+  chain-from stop b e h f = (refl, e)
+  chain-from (next {t = t} {c = c} {a = a} m rest) b e h f =
+      let p = each c b a t h (f .0) (subst (λ x. Meets c x a t) e m) in
+      let q = chain-from rest (step c b .book) (p .1) (well-formed b h (outcome c b) (f .0)) (f .1) in
+      (cc (p .0, q .0), q .1)
+
+  -- From the fresh book laid out: the answers are the model's, and what is left is the model's book laid out.
+  pub chain-run : {log : List Entry} {last : S} → Chain Meets (layout fresh) log last → AllInRange (map callOf log)
+      → (run fresh (map callOf log) .log ≡ log) × (last ≡ layout (bookAfter log))
+  chain-run chain f = chain-from chain fresh refl fresh-well-formed f
+
+  pub chain-claim : {log : List Entry} {last : S} → Chain Meets (layout fresh) log last → AllInRange (map callOf log) → Claim Meets layout log last
+  chain-claim {log = log} {last = last} chain f =
+      let k = chain-run chain f in
+      claim-from Meets layout log (k .0) last (k .1) (λ other end chain′ e. chain-run chain′ (rw e (serial-range [] log f)))
+
+-- ---- the model itself
+
+pub log-calls : (calls : List Call) (b : Book) → map callOf (run b calls .log) ≡ calls
+unfolding run
+log-calls [] b = refl
+log-calls (c ∷ calls) b = rw (log-calls calls (step c b .book))
+
+-- The claim holds of the model's own run of every list of calls, in range or not.
+pub model-claim : (calls : List Call) → Claim Steps (λ b. b) (run fresh calls .log) (run fresh calls .book)
+model-claim calls =
+    claim-from Steps (λ b. b) (run fresh calls .log) (rw (log-calls calls fresh)) (run fresh calls .book)
+    (ap (λ cs. run fresh cs .book) (sym (log-calls calls fresh)))
+    (λ other end chain e. let r = replays-run chain in (ap (λ x. x .log) r, sym (ap (λ x. x .book) r)))

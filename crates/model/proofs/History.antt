@@ -1,0 +1,124 @@
+-- Checks on the definition of the serial history, that hold of every log, also of one that no run gives: its accepted enrolments
+-- and saves are those of the log, in their order; and a transaction is the desk's last accepted open and all its ticks and
+-- unticks since. Assumes nothing.
+use Prim.Native.Nat.{ℕ}
+use mathlib.Core.Path.{_≡_, refl, sym, ap, _∙_}
+use mathlib.Core.Bool.{Bool, true, false, cond, _&&_}
+use mathlib.Core.Option.{Option, none, some}
+use mathlib.Core.List.{List, [], _∷_, _++_, append-assoc, append-nil}
+use lib.Dec.{eqb}
+use borrow.Author.Tests.{eq-eqb}
+use Rattle.model.specs.Step.{Enrol, Find, Open, Mark, Save, Drop, Answer, done, atRow, refused, accepted, Entry, _⇒_}
+use Rattle.model.specs.History.{noted, transactionFrom, transaction, kept, serialFrom, serial, isResult, results}
+use Rattle.model.specs.Stale.{openedBy, later, lastOpened}
+use Rattle.model.proofs.Basics.{by-test}
+
+-- ---- the results
+
+results-append : (xs ys : List Entry) → results (xs ++ ys) ≡ results xs ++ results ys
+unfolding results
+results-append [] ys = refl
+results-append (x ∷ xs) ys = at (isResult x) (results-append xs ys)
+  where
+    at : (t : Bool) → results (xs ++ ys) ≡ results xs ++ results ys
+        → cond t (x ∷ results (xs ++ ys)) (results (xs ++ ys)) ≡ cond t (x ∷ results xs) (results xs) ++ results ys
+    at true e = rw e
+    at false e = e
+
+-- A transaction holds no results.
+noted-none : (d : ℕ) (t : List Entry) (e : Entry) → results t ≡ [] → results (noted d t e) ≡ []
+unfolding noted results isResult
+noted-none d t (Enrol key first ⇒ a) h = h
+noted-none d t (Find key ⇒ a) h = h
+noted-none d t (Open e r ⇒ a) h = by-test (λ es. results es ≡ []) (accepted a && eqb e d) (λ _. refl) (λ _. h)
+noted-none d t (Mark flag e n ⇒ a) h = by-test (λ es. results es ≡ []) (eqb e d) (λ _. rw (results-append t _, h)) (λ _. h)
+noted-none d t (Save e ⇒ a) h = h
+noted-none d t (Drop e ⇒ a) h = h
+
+transaction-none : (d : ℕ) (t log : List Entry) → results t ≡ [] → results (transactionFrom d t log) ≡ []
+unfolding transactionFrom
+transaction-none d t [] h = h
+transaction-none d t (e ∷ log) h = transaction-none d (noted d t e) log (noted-none d t e h)
+
+kept-results : (past : List Entry) (e : Entry) → results (kept past e) ≡ results (e ∷ [])
+unfolding kept results isResult
+kept-results past (Enrol key first ⇒ done) = refl
+kept-results past (Enrol key first ⇒ atRow r) = refl
+kept-results past (Enrol key first ⇒ refused number) = refl
+kept-results past (Find key ⇒ a) = refl
+kept-results past (Open d r ⇒ a) = refl
+kept-results past (Mark flag d n ⇒ a) = refl
+kept-results past (Save d ⇒ done) = rw (results-append (transaction d past) _, transaction-none d [] past refl)
+kept-results past (Save d ⇒ atRow r) = rw (results-append (transaction d past) _, transaction-none d [] past refl)
+kept-results past (Save d ⇒ refused number) = refl
+kept-results past (Drop d ⇒ a) = refl
+
+serialFrom-results : (past log : List Entry) → results (serialFrom past log) ≡ results log
+unfolding serialFrom results
+serialFrom-results past [] = refl
+serialFrom-results past (e ∷ log) =
+    rw (results-append (kept past e) _, kept-results past e, serialFrom-results (past ++ e ∷ []) log) (sym (results-append (e ∷ []) log))
+
+pub serial-order : (log : List Entry) → results (serial log) ≡ results log
+unfolding results
+serial-order log = serialFrom-results [] log
+
+-- ---- a transaction
+
+-- The entry alone if it is a tick or untick of desk d, a refused one too.
+unfoldable pub markOf : ℕ → Entry → List Entry
+markOf d (Enrol key first ⇒ a) = []
+markOf d (Find key ⇒ a) = []
+markOf d (Open e r ⇒ a) = []
+markOf d (Mark flag e n ⇒ a) = cond (eqb e d) ((Mark flag e n ⇒ a) ∷ []) []
+markOf d (Save e ⇒ a) = []
+markOf d (Drop e ⇒ a) = []
+
+-- Desk d's ticks and unticks in a log.
+unfoldable pub marksOf : ℕ → List Entry → List Entry
+marksOf d [] = []
+marksOf d (e ∷ log) = markOf d e ++ marksOf d log
+
+noted-mark : (d : ℕ) (t : List Entry) (e : Entry) → openedBy d e ≡ none → noted d t e ≡ t ++ markOf d e
+unfolding noted openedBy markOf
+noted-mark d t (Enrol key first ⇒ a) o = sym (append-nil t)
+noted-mark d t (Find key ⇒ a) o = sym (append-nil t)
+noted-mark d t (Open e r ⇒ a) o = at (accepted a && eqb e d) o
+  where
+    at : (u : Bool) → cond u (some r) none ≡ none → cond u ((Open e r ⇒ a) ∷ []) t ≡ t ++ []
+    at true o = cc
+    at false o = sym (append-nil t)
+noted-mark d t (Mark flag e n ⇒ a) o = at (eqb e d)
+  where
+    at : (u : Bool) → cond u (t ++ (Mark flag e n ⇒ a) ∷ []) t ≡ t ++ cond u ((Mark flag e n ⇒ a) ∷ []) []
+    at true = refl
+    at false = sym (append-nil t)
+noted-mark d t (Save e ⇒ a) o = sym (append-nil t)
+noted-mark d t (Drop e ⇒ a) o = sym (append-nil t)
+
+later-is-none : (o p : Option ℕ) → later o p ≡ none → (o ≡ none) × (p ≡ none)
+later-is-none o none e = (e, refl)
+later-is-none o (some r) e = (cc, cc)
+
+-- Where the desk opens nothing, its transaction goes on by its ticks and unticks.
+goes-on : (d : ℕ) (t log : List Entry) → lastOpened d log ≡ none → transactionFrom d t log ≡ t ++ marksOf d log
+unfolding transactionFrom lastOpened marksOf
+goes-on d t [] n = sym (append-nil t)
+goes-on d t (e ∷ log) n =
+    let m = later-is-none (openedBy d e) (lastOpened d log) n in
+    goes-on d (noted d t e) log (m .1) ∙ rw (noted-mark d t e (m .0)) (append-assoc t _ _)
+
+transaction-append : (d : ℕ) (t xs ys : List Entry) → transactionFrom d t (xs ++ ys) ≡ transactionFrom d (transactionFrom d t xs) ys
+unfolding transactionFrom
+transaction-append d t [] ys = refl
+transaction-append d t (x ∷ xs) ys = transaction-append d (noted d t x) xs ys
+
+-- A desk's transaction is its last accepted open, and all its ticks and unticks since.
+pub transaction-is : (d r : ℕ) (a : Answer) (before since : List Entry) → accepted a ≡ true → lastOpened d since ≡ none
+    → transaction d (before ++ (Open d r ⇒ a) ∷ since) ≡ (Open d r ⇒ a) ∷ marksOf d since
+unfolding transactionFrom noted
+transaction-is d r a before since t n =
+    transaction-append d [] before _ ∙ ap (λ u. transactionFrom d u since) begun ∙ goes-on d ((Open d r ⇒ a) ∷ []) since n
+  where
+    begun : noted d (transaction d before) (Open d r ⇒ a) ≡ (Open d r ⇒ a) ∷ []
+    begun = rw (t, eq-eqb d d refl)

@@ -1,0 +1,168 @@
+-- Laws of the model that what stands on it needs: find, the places that are used, what a tick or untick does to the count, and
+-- answers as numbers. Assumes nothing.
+use Prim.Native.Nat.{ℕ, zero, suc, _+_, _≤_, _<_, zero-le, suc-le-suc}
+use native.Mathlib.Nat.{zero-lt-suc}
+use native.Mathlib.Omega.{arith}
+use mathlib.Core.Path.{_≡_, refl, sym, ap, _∙_}
+use mathlib.Core.Logic.{_≢_}
+use mathlib.Core.Bool.{Bool, true, false, cond, not, Bool·beq, _||_, true≢false, false≢true}
+use mathlib.Core.Option.{Option, none, some}
+use mathlib.Core.List.{List, [], _∷_, _++_}
+use lib.Dec.{eqb}
+use lib.ListN.{length, getD, set}
+use lib.Seq.{getD-set-same}
+use borrow.Author.Tests.{eqb-true, eqb-false, ltb-true, not-true, not-false}
+use Rattle.refusals.specs.Judge.{verdict}
+use Rattle.model.specs.Positions.{rowLength, Positions, has, size, missing, inRow}
+use Rattle.model.specs.Book.{Place, free, row, working, Book, place, desk, isFree, ticksOf, workedOf, isDesk, hasKey, placeWith, lowestFree}
+use Rattle.model.specs.Step.{Call, Enrol, Find, Open, Mark, Save, Drop, Answer, done, atRow, refused, answerWords, Reply, alreadySo, refusals, effect, step, run}
+use Rattle.model.specs.WellFormed.{WellFormed, PlaceOk, IsSet, keyOf}
+use Rattle.model.proofs.Basics.{by-test, by-bool, beq-true}
+use Rattle.model.proofs.Steps.{markVerdict}
+use Rattle.model.proofs.Outcome.{Outcome, refusal, unopened, unmarked, marking, outcome}
+use Rattle.model.proofs.Counts.{size-bound, size-missing, size-tick, size-untick}
+
+-- ---- find
+
+pub record Found (key : ℕ) (ps : List Place) (r : ℕ) : Type 0 where
+  pub in-list : r < length ps
+  pub has-key : keyOf (getD ps r free) ≡ some key
+
+-- An accepted find answers a place with the key. (In a well-formed book there is one such place.)
+pub found : (key : ℕ) (ps : List Place) → hasKey key ps ≡ true → Found key ps (placeWith key ps)
+unfolding hasKey placeWith
+found key [] e = absurd (false≢true e)
+found key (free ∷ ps) e = let k = found key ps e in record { in-list = suc-le-suc (k .in-list); has-key = k .has-key }
+found key (row k first ticks ∷ ps) e = at (eqb k key) refl e (found key ps)
+  where
+    at : (t : Bool) → eqb k key ≡ t → (t || hasKey key ps) ≡ true → (hasKey key ps ≡ true → Found key ps (placeWith key ps))
+        → Found key (row k first ticks ∷ ps) (cond t zero (suc (placeWith key ps)))
+    at true q h ih = record { in-list = zero-lt-suc _; has-key = ap some (eqb-true k key q) }
+    at false q h ih = let l = ih h in record { in-list = suc-le-suc (l .in-list); has-key = l .has-key }
+
+-- ---- used places
+
+pub used-below : (ps : List Place) (r : ℕ) → r < lowestFree ps → isFree (getD ps r free) ≡ false
+unfolding lowestFree
+used-below [] r h = absurd (omega arith)
+used-below (free ∷ ps) r h = absurd (omega arith)
+used-below (row key first ticks ∷ ps) zero h = refl
+used-below (row key first ticks ∷ ps) (suc r) h = used-below ps r (omega arith)
+
+lowest-free : (ps : List Place) → isFree (getD ps (lowestFree ps) free) ≡ true
+unfolding lowestFree
+lowest-free [] = refl
+lowest-free (free ∷ ps) = refl
+lowest-free (row key first ticks ∷ ps) = lowest-free ps
+
+pub lowest-in : (ps : List Place) → lowestFree ps ≤ length ps
+unfolding lowestFree
+lowest-in [] = zero-le
+lowest-in (free ∷ ps) = zero-le
+lowest-in (row key first ticks ∷ ps) = suc-le-suc (lowest-in ps)
+
+-- In a well-formed book the used places are those below the lowest free one.
+pub free-from : (b : Book) → WellFormed b → (r : ℕ) → lowestFree (b .places) ≤ r → isFree (place b r) ≡ true
+free-from b w r h = w .used-first (lowestFree (b .places)) r (lowest-free (b .places)) h
+
+-- ---- ticks and counts
+
+-- An accepted tick or untick: the number is in the row, and the position was not already so.
+pub record Changes (flag : Bool) (i : ℕ) (worked : Positions) : Type 0 where
+  pub in-row : i < rowLength
+  pub was-not : has worked i ≡ not flag
+
+differs : (x flag : Bool) → Bool·beq x flag ≡ false → x ≡ not flag
+differs true true e = absurd (true≢false e)
+differs true false e = refl
+differs false true e = refl
+differs false false e = absurd (true≢false e)
+
+pub changes : (flag : Bool) (i : ℕ) (worked : Positions) → markVerdict flag i worked ≡ 0 → Changes flag i worked
+unfolding markVerdict
+changes flag i worked = at (not (inRow i)) refl (Bool·beq (has worked i) flag) refl
+  where
+    number : (f : Bool) → alreadySo f ≢ 0
+    number true e = omega arith
+    number false e = omega arith
+
+    at : (t : Bool) → not (inRow i) ≡ t → (u : Bool) → Bool·beq (has worked i) flag ≡ u
+        → cond t 28 (cond u (alreadySo flag) 0) ≡ 0 → Changes flag i worked
+    at true p u q e = absurd (omega arith)
+    at false p true q e = absurd (number flag e)
+    at false p false q e = record { in-row = ltb-true i rowLength (not-false _ p); was-not = differs _ flag q }
+
+-- The count is one more after a tick, one less after an untick.
+abbrev pub Counted : (flag : Bool) (before after : ℕ) → Type 0
+Counted true before after = after ≡ suc before
+Counted false before after = suc after ≡ before
+
+size-mark : (flag : Bool) (i : ℕ) (worked : Positions) → IsSet worked → Changes flag i worked → Counted flag (size worked) (size (set worked i flag))
+size-mark true i worked l k = size-tick worked i (rw l (k .in-row)) (k .was-not)
+size-mark false i worked l k = size-untick worked i (k .was-not)
+
+pub mark-counts : (b : Book) → WellFormed b → (flag : Bool) (d n : ℕ) → step (Mark flag d n) b .answer ≡ done
+    → Counted flag (size (workedOf (desk b d))) (size (workedOf (desk (step (Mark flag d n) b .book) d)))
+mark-counts b w flag d n = at (outcome (Mark flag d n) b)
+  where
+    at : {s : Reply} → Outcome b (Mark flag d n) s → s .answer ≡ done
+        → Counted flag (size (workedOf (desk b d))) (size (workedOf (desk (s .book) d)))
+    at (refusal number m) a = absurd (true≢false m)
+    at (unopened number e) a = absurd (let z : _≡_ {A = ℕ} 0 1 = cc in omega arith)
+    at (unmarked r opened worked i number h p q z) a = absurd (let z : _≡_ {A = ℕ} 0 1 = cc in omega arith)
+    at (marking r opened worked i h p q) a =
+        let k = rw (h .1) at (w .desk-ok d) in
+        rw (h .1, getD-set-same (b .desks) d (working r opened (set worked i flag)) _ (rw (w .desks-count) (ltb-true d 8 (h .0))))
+        (size-mark flag i worked (k .2) (changes flag i worked q))
+
+-- A row's ticked and missing positions are together at most 1,024.
+pub counts-bound : (b : Book) → WellFormed b → (r : ℕ) → size (ticksOf (place b r)) + size (missing (ticksOf (place b r))) ≤ rowLength
+unfolding size missing
+counts-bound b w r = at (place b r) (w .place-ok r)
+  where
+    at : (p : Place) → PlaceOk p → size (ticksOf p) + size (missing (ticksOf p)) ≤ rowLength
+    at free k = zero-le
+    at (row key first ticks) k = rw (← k .2) (size-missing ticks)
+
+-- ---- answers as numbers
+
+-- An answer whose refusal, if it is one, has a number of the table.
+abbrev pub Proper : Answer → Type 0
+Proper done = Unit {0}
+Proper (atRow r) = Unit {0}
+Proper (refused number) = number ≢ 0
+
+-- Different answers have different words.
+pub words-injective : (x y : Answer) → Proper x → Proper y → answerWords x ≡ answerWords y → x ≡ y
+words-injective done done p q e = refl
+words-injective done (atRow r) p q e = cc
+words-injective done (refused n) p q e = absurd (q (cc))
+words-injective (atRow r) done p q e = cc
+words-injective (atRow r) (atRow s) p q e = cc
+words-injective (atRow r) (refused n) p q e = cc
+words-injective (refused n) done p q e = absurd (p (cc))
+words-injective (refused n) (atRow r) p q e = cc
+words-injective (refused n) (refused m) p q e = cc
+
+pub step-proper : (c : Call) (b : Book) → Proper (step c b .answer)
+unfolding step effect
+step-proper c b =
+    by-test (λ (s : Reply). Proper (s .answer)) (eqb (verdict (refusals c b)) 0) (λ _. effect-proper c) (λ e. eqb-false _ 0 e)
+  where
+    effect-proper : (c : Call) → Proper (effect c b .answer)
+    effect-proper (Enrol key first) = tt
+    effect-proper (Find key) = tt
+    effect-proper (Open d r) = tt
+    effect-proper (Mark flag d n) = tt
+    effect-proper (Save d) = tt
+    effect-proper (Drop d) = tt
+
+-- ---- a list of calls, one after another
+
+pub run-append : (b : Book) (xs ys : List Call)
+    → let first = run b xs in
+    let second = run (first .book) ys in
+    run b (xs ++ ys) ≡ record { log = first .log ++ second .log; book = second .book }
+unfolding run
+run-append b [] ys = refl
+run-append b (x ∷ xs) ys = rw (run-append (step x b .book) xs ys)
