@@ -6,7 +6,7 @@ use mathlib.Core.List.{List, [], _∷_}
 use mathlib.Core.Path.{_≡_, refl, sym, _∙_}
 use lib.Dec.{lit<}
 use borrow.Author.Tests.{lt-ltb, le-ltb}
-use Rattle.model.specs.Book.{alreadySo}
+use Rattle.model.specs.Step.{alreadySo}
 use Rattle.model.specs.Positions.{rowLength}
 use Rattle.refusals.specs.Judge.{verdict}
 use Rattle.sheet.specs.Rows.{tickedAt}

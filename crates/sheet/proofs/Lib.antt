@@ -5,3 +5,4 @@ pub mod Written
 pub mod Scans
 pub mod Bits
 pub mod ReadBack
+pub mod Missing
