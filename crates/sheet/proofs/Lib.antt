@@ -6,3 +6,4 @@ pub mod Scans
 pub mod Bits
 pub mod ReadBack
 pub mod Missing
+pub mod Reports

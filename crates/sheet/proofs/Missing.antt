@@ -10,7 +10,7 @@ use mathlib.Core.Option.{Option, none, some, Option·map}
 use mathlib.Core.Path.{_≡_, refl, sym, ap, _∙_}
 use Rattle.model.specs.Positions.{size, anyTicked, missing, least}
 use Rattle.sheet.specs.Rows.{table}
-use Rattle.sheet.proofs.Scans.{Fails, Top}
+use Rattle.sheet.proofs.Scans.{Each, Fails, Top}
 
 -- ---- one position more
 
@@ -98,12 +98,13 @@ missing-count (suc n) (suc t) p top = by (p 0) refl (missing-count n t (λ i. p 
   where
     rest : List Bool
     rest = table n (λ i. p (suc i))
+
     by : (b : Bool) → p 0 ≡ b → size rest + size (missing rest) ≡ t → size (p 0 ∷ rest) + size ((not (p 0) && anyTicked rest) ∷ missing rest) ≡ suc t
     by true e h = rw e (omega arith)
     by false e h = rw (e, ticked-after n t p top e) (omega arith)
 
 -- the lowest missing one is the lowest unticked one below the end
-pub missing-lowest : (n t i : ℕ) (p : ℕ → Bool) → Top n p t → i < t → ((j : ℕ) → j < i → p j ≡ true) → p i ≡ false
+pub missing-lowest : (n t i : ℕ) (p : ℕ → Bool) → Top n p t → i < t → Each true p i → p i ≡ false
     → least (missing (table n p)) ≡ some i
 unfolding table missing least
 missing-lowest zero t i p top l h e = let w = top .within in absurd (omega arith)
@@ -113,7 +114,7 @@ missing-lowest (suc n) (suc t) (suc i) p top l h e =
     rw (h 0 (zero-lt-suc i)) (ap (Option·map suc) (missing-lowest n t i (λ j. p (suc j)) (after-first n t p top) (le-of-suc-le-suc l) (λ j q. h (suc j) (omega arith)) e))
 
 -- where all below the end are ticked, none is missing
-pub missing-none : (n t : ℕ) (p : ℕ → Bool) → Top n p t → ((j : ℕ) → j < t → p j ≡ true) → least (missing (table n p)) ≡ none
+pub missing-none : (n t : ℕ) (p : ℕ → Bool) → Top n p t → Each true p t → least (missing (table n p)) ≡ none
 unfolding table missing least
 missing-none zero t p top h = refl
 missing-none (suc n) zero p top h = nothing (suc n) p (λ j l. top .above j (omega arith) l) .lowest

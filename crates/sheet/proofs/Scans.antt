@@ -7,16 +7,18 @@ use mathlib.Core.Logic.{⊎-elim}
 use mathlib.Core.Path.{_≡_, refl, sym, ap, _∙_}
 use Rattle.sheet.specs.Bytes.{lowest, pastHighest}
 
--- p fails of each number below i
+-- p is b of each number below i
+abbrev pub Each : Bool → (ℕ → Bool) → ℕ → Type 0
+Each b p i = (j : ℕ) → j < i → p j ≡ b
+
 abbrev pub Fails : (ℕ → Bool) → ℕ → Type 0
-Fails p i = (j : ℕ) → j < i → p j ≡ false
+Fails p i = Each false p i
 
-pub fails-none : (p : ℕ → Bool) → Fails p 0
-fails-none p j l = absurd (omega arith)
+pub each-none : (b : Bool) (p : ℕ → Bool) → Each b p 0
+each-none b p j l = absurd (omega arith)
 
-pub fails-more : (p : ℕ → Bool) (i : ℕ) → Fails p i → p i ≡ false → Fails p (i + 1)
-fails-more p i h e j l =
-    ⊎-elim (λ (q : j ≡ i). ap p q ∙ e) (λ (q : j < i). h j q) (eq-or-lt-of-le (omega arith))
+pub each-more : (b : Bool) (p : ℕ → Bool) (i : ℕ) → Each b p i → p i ≡ b → Each b p (i + 1)
+each-more b p i h e j l = ⊎-elim (λ (q : j ≡ i). ap p q ∙ e) (λ (q : j < i). h j q) (eq-or-lt-of-le (omega arith))
 
 pub lowest-here : (n i : ℕ) (p : ℕ → Bool) → i < n → Fails p i → p i ≡ true → lowest n p ≡ i
 unfolding lowest
@@ -38,6 +40,7 @@ lowest-holds (suc n) p l = by (p 0) refl (lowest-holds n (λ i. p (suc i)))
   where
     later : ℕ
     later = lowest n (λ i. p (suc i))
+
     by : (b : Bool) → p 0 ≡ b → (later < n → p (suc later) ≡ true) → p (cond (p 0) 0 (suc later)) ≡ true
     by true e h = rw e e
     by false e h = rw e (h (le-of-suc-le-suc (rw e at l)))
@@ -49,6 +52,7 @@ lowest-fails (suc n) p j l = by (p 0) refl (lowest-fails n (λ i. p (suc i))) j 
   where
     later : ℕ
     later = lowest n (λ i. p (suc i))
+
     by : (b : Bool) → p 0 ≡ b → Fails (λ i. p (suc i)) later → (k : ℕ) → k < cond (p 0) 0 (suc later) → p k ≡ false
     by true e h k q = absurd (not-suc-le-zero (rw e at q))
     by false e h zero q = e

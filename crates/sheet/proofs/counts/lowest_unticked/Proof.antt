@@ -5,7 +5,7 @@ use mathlib.Core.Path.{_≡_, sym, _∙_, ap}
 use native.Mathlib.Omega.{arith}
 use Rattle.octets.proofs.Laws.{failed, passed}
 use Rattle.sheet.specs.Rows.{tickedAt}
-use Rattle.sheet.proofs.Scans.{Fails, fails-none, fails-more, lowest-here, lowest-none}
+use Rattle.sheet.proofs.Scans.{Fails, each-none, each-more, lowest-here, lowest-none}
 use Rattle.sheet.proofs.counts.lowest_unticked.Statement.{statement}
 use Rattle.sheet.proofs.counts.lowest_unticked.Tie as tie
 use Rattle.sheet.proofs.counts.lowest_unticked.Reads as reads
@@ -19,7 +19,7 @@ abbrev μ-loop : tie.MeasureT-loop
 μ-loop s a end i₀ i = end - i
 
 loop-holds : tie.Need-loop-holds Inv-loop μ-loop
-loop-holds c = (omega arith, fails-none _)
+loop-holds c = (omega arith, each-none _ _)
 
 is-ticked-requires : tie.Need-is-ticked-requires Inv-loop μ-loop
 is-ticked-requires c κs = omega arith
@@ -38,7 +38,7 @@ loop-less c = omega arith
 loop-again : tie.Need-loop-again Inv-loop μ-loop
 loop-again c =
     let at = c .before .before .before .loop in
-    (omega arith, fails-more _ (at .i) (at .inv .1) (ap not (passed (c .before .is-ticked .ensures) (c .if1 .left))))
+    (omega arith, each-more _ _ (at .i) (at .inv .1) (ap not (passed (c .before .is-ticked .ensures) (c .if1 .left))))
 
 returns-2 : tie.Need-returns-2 Inv-loop μ-loop
 returns-2 c =

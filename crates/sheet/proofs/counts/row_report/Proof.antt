@@ -1,3 +1,8 @@
+-- `counts::row_report` meets its contract. Assumes nothing.
+use native.Mathlib.Omega.{arith}
+use mathlib.Core.Path.{_≡_, sym, _∙_}
+use Rattle.sheet.specs.Sheet.{rowAt}
+use Rattle.sheet.proofs.Reports.{end-within, row-count, report-whole, report-gaps}
 use Rattle.sheet.proofs.counts.row_report.Statement.{statement}
 use Rattle.sheet.proofs.counts.row_report.Tie as tie
 use Rattle.sheet.proofs.counts.row_report.Reads as reads
@@ -7,45 +12,51 @@ use Rattle.sheet.proofs.counts.number_in.Reads as number-in-reads
 use Rattle.sheet.proofs.counts.ticked_count.Reads as ticked-count-reads
 use Rattle.sheet.proofs.counts.ticks_end.Reads as ticks-end-reads
 
--- src/counts.rt:78:23
 mul-a : tie.Need-mul-a
-mul-a c = ?
+mul-a c = omega arith
 
--- src/counts.rt:78:13
 add-a : tie.Need-add-a
-add-a c = ?
+add-a c = omega arith
 
--- src/counts.rt:79:9
 ticked-count-requires : tie.Need-ticked-count-requires
-ticked-count-requires c κs = ?
+ticked-count-requires c κs = omega arith
 
--- src/counts.rt:80:9
 ticks-end-requires : tie.Need-ticks-end-requires
-ticks-end-requires c κs = ?
+ticks-end-requires c κs = omega arith
 
--- src/counts.rt:81:9
 lowest-unticked-requires : tie.Need-lowest-unticked-requires
-lowest-unticked-requires c κs = ?
+lowest-unticked-requires c κs =
+    let g = c .before .before .before .args in
+    (omega arith, rw (c .ticks-end .ensures) (end-within (g .s .now) (rowAt (g .row))))
 
--- src/counts.rt:83:9
 returns : tie.Need-returns
-returns c = ?
+returns c =
+    let g = c .before .before .before .before .before .args in
+    let end = c .before .before .ticks-end .ensures in
+    let at = rw end at (c .before .lowest-unticked .ensures) in
+    rw (c .before .before .before .ticked-count .ensures) (report-whole (g .s .now) (rowAt (g .row)) (rw (end, at) at (c .if1 .taken)))
 
--- src/counts.rt:87:18
 cast-t9 : tie.Need-cast-t9
-cast-t9 c = ?
+cast-t9 c =
+    let g = c .before .before .before .before .before .args in
+    omega (arith, end-within (g .s .now) (rowAt (g .row)), c .before .before .ticks-end .ensures)
 
--- src/counts.rt:87:18
 sub-t10 : tie.Need-sub-t10
-sub-t10 c = ?
+sub-t10 c =
+    let g = c .before .before .before .before .before .args in
+    omega (arith, row-count (g .s .now) (rowAt (g .row)), c .before .before .ticks-end .ensures, c .before .before .before .ticked-count .ensures)
 
--- src/counts.rt:88:17
 number-in-requires : tie.Need-number-in-requires
-number-in-requires c κs = ?
+number-in-requires c κs =
+    let g = c .before .before .before .before .before .args in
+    omega (arith, end-within (g .s .now) (rowAt (g .row)), c .before .before .ticks-end .ensures)
 
--- src/counts.rt:74:1
 returns-2 : tie.Need-returns-2
-returns-2 c = ?
+returns-2 c =
+    let g = c .before .before .before .before .before .before .args in
+    let end = c .before .before .before .ticks-end .ensures in
+    let at = rw end at (c .before .before .lowest-unticked .ensures) in
+    rw (c .before .before .before .before .ticked-count .ensures, end, c .number-in .ensures, at) (report-gaps (g .s .now) (rowAt (g .row)) (rw (end, at) at (c .before .if1 .left)))
 
 pub row-report-spec : {M : Type 1} → statement M
 row-report-spec =

@@ -6,7 +6,7 @@ use lib.Dec.{eqb}
 use borrow.Author.Tests.{eq-eqb, ne-eqb}
 use Rattle.sheet.specs.Sheet.{rowAt, keyAt}
 use Rattle.sheet.specs.Bytes.{rowWith}
-use Rattle.sheet.proofs.Scans.{Fails, fails-none, fails-more, lowest-here, lowest-none}
+use Rattle.sheet.proofs.Scans.{Fails, each-none, each-more, lowest-here, lowest-none}
 use Rattle.sheet.proofs.rows.find_row.Statement.{statement}
 use Rattle.sheet.proofs.rows.find_row.Tie as tie
 use Rattle.sheet.proofs.rows.find_row.Reads as reads
@@ -24,7 +24,7 @@ rows-used-requires : tie.Need-rows-used-requires Inv-loop μ-loop
 rows-used-requires c κs = omega arith
 
 loop-holds : tie.Need-loop-holds Inv-loop μ-loop
-loop-holds c = (omega arith, fails-none _)
+loop-holds c = (omega arith, each-none _ _)
 
 mul-key-at : tie.Need-mul-key-at Inv-loop μ-loop
 mul-key-at c = omega arith
@@ -51,7 +51,7 @@ loop-less c = omega arith
 loop-again : tie.Need-loop-again Inv-loop μ-loop
 loop-again c =
     let at = c .before .before .before .loop in
-    (omega arith, fails-more _ (at .i) (at .inv .1) (ne-eqb _ _ (λ e. c .if1 .left (c .before .key-at .ensures ∙ e))))
+    (omega arith, each-more _ _ (at .i) (at .inv .1) (ne-eqb _ _ (λ e. c .if1 .left (c .before .key-at .ensures ∙ e))))
 
 returns-2 : tie.Need-returns-2 Inv-loop μ-loop
 unfolding rowWith
