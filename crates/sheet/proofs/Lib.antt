@@ -7,3 +7,4 @@ pub mod Bits
 pub mod ReadBack
 pub mod Missing
 pub mod Reports
+pub mod Calls
