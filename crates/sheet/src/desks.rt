@@ -90,13 +90,13 @@ pub fn save_desk(s: &mut [u8], d: usize) -> Answer
     requires { ⌜ (length (now s) ≡ sheetSize) × (d < deskCount) × (deskRow (now s) d < rowCount) ⌝ }
     ensures { λ r. ⌜ (answerWords r, now (s .exit)) ≡ saveAt d (now (s .entry)) ⌝ }
 {
-    if is_current(s, d) {
-        store(s, d);
+    if !is_current(s, d) {
         clear_desk(s, d);
-        return Answer::Done;
+        return Answer::Refused(Refusal::Stale);
     }
+    store(s, d);
     clear_desk(s, d);
-    Answer::Refused(Refusal::Stale)
+    Answer::Done
 }
 
 // Whether the row that desk d has open equals the opened copy.

@@ -60,11 +60,11 @@ fn mark_position(row: &mut [u8], i: usize, on: bool) -> Answer
         row[at] += bit;
         return Answer::Done;
     }
-    if ticked {
-        row[at] -= bit;
-        return Answer::Done;
+    if !ticked {
+        return Answer::Refused(Refusal::NotTicked);
     }
-    Answer::Refused(Refusal::NotTicked)
+    row[at] -= bit;
+    Answer::Done
 }
 
 // Whether position i of the row or the copy at offset a is ticked.

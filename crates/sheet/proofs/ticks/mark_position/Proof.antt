@@ -1,10 +1,11 @@
 -- `ticks::mark_position` meets its contract. Assumes nothing.
-use borrow.Author.Tests.{eqb-true, eqb-false}
 use Prim.Native.Nat.{_+_, _/_, _%_}
 use mathlib.Core.Bool.{true, false}
 use mathlib.Core.Path.{sym, _∙_}
 use native.Mathlib.Omega.{arith}
 use lib.ListN.{getD}
+use borrow.Author.Tests.{eqb-true, eqb-false}
+use Rattle.octets.proofs.Laws.{failed, passed}
 use Rattle.sheet.specs.Sheet.{ticksAt, byteBits}
 use Rattle.sheet.specs.Rows.{tickedAt, setTick, clearTick}
 use Rattle.sheet.proofs.Bits.{bit-room, bit-under, mark-outside, mark-same, mark-changed}
@@ -57,6 +58,12 @@ returns-3 c =
     let bit = c .before .before .before .tick-bit .ensures in
     rw (c .before .before .if2 .taken, bit) (mark-changed _ _ true (c .before .before .before .before .before .before .if1 .left) (sym (c .before .before .before .before .is-ticked .ensures) ∙ c .before .if3 .left))
 
+same-length-3 : tie.Need-same-length-3
+same-length-3 c = search needs
+
+returns-4 : tie.Need-returns-4
+returns-4 c = rw (c .before .if2 .left) (mark-same _ _ false (c .before .before .before .before .before .if1 .left) (failed (c .before .before .before .is-ticked .ensures) (c .if4 .taken)))
+
 slice-read-row-2 : tie.Need-slice-read-row-2
 slice-read-row-2 c = search needs
 
@@ -64,26 +71,20 @@ sub-row : tie.Need-sub-row
 unfolding tickedAt
 sub-row c =
     let g = c .before .before .before .before .before .before .before .before .args in
-    let set-bit = eqb-true _ _ (sym (c .before .before .before .before .is-ticked .ensures) ∙ c .before .if4 .taken) in
+    let set-bit = eqb-true _ _ (passed (c .before .before .before .before .is-ticked .ensures) (c .before .if4 .left)) in
     rw (c .before .before .before .tick-bit .ensures) (bit-under (getD (g .row .now) (ticksAt + g .i / byteBits) 0) (g .i % byteBits) (omega arith) set-bit)
 
 slice-write-row-2 : tie.Need-slice-write-row-2
 slice-write-row-2 c = search needs
 
-same-length-3 : tie.Need-same-length-3
-same-length-3 c = search needs
-
-returns-4 : tie.Need-returns-4
-unfolding clearTick
-returns-4 c =
-    let bit = c .before .before .before .tick-bit .ensures in
-    rw (c .before .before .if2 .left, bit) (mark-changed _ _ false (c .before .before .before .before .before .before .if1 .left) (sym (c .before .before .before .before .is-ticked .ensures) ∙ c .before .if4 .taken))
-
 same-length-4 : tie.Need-same-length-4
 same-length-4 c = search needs
 
 returns-5 : tie.Need-returns-5
-returns-5 c = rw (c .before .if2 .left) (mark-same _ _ false (c .before .before .before .before .before .if1 .left) (sym (c .before .before .before .is-ticked .ensures) ∙ c .if4 .left))
+unfolding clearTick
+returns-5 c =
+    let bit = c .before .before .before .tick-bit .ensures in
+    rw (c .before .before .if2 .left, bit) (mark-changed _ _ false (c .before .before .before .before .before .before .if1 .left) (passed (c .before .before .before .before .is-ticked .ensures) (c .before .if4 .left)))
 
 pub mark-position-spec : {M : Type 1} → statement M
 mark-position-spec =
@@ -100,10 +101,10 @@ mark-position-spec =
     slice-write-row
     same-length-2
     returns-3
+    same-length-3
+    returns-4
     slice-read-row-2
     sub-row
     slice-write-row-2
-    same-length-3
-    returns-4
     same-length-4
     returns-5)
