@@ -1,14 +1,12 @@
 -- A call judged row by row, as its code judges it. Assumes nothing.
-use Prim.Native.Nat.{ℕ, zero, suc, _+_, _≤_, _<_}
+use Prim.Native.Nat.{ℕ, _+_, _<_}
 use native.Mathlib.Omega.{arith}
-use mathlib.Core.Bool.{Bool, true, false, not, cond}
+use mathlib.Core.Bool.{Bool, true, false, not}
 use mathlib.Core.List.{List, [], _∷_}
 use mathlib.Core.Path.{_≡_, refl, sym, ap, _∙_}
 use lib.Dec.{eqb, ltb}
-use lib.ListN.{length}
 use borrow.Author.Tests.{ltb-true, ne-eqb}
 use Rattle.refusals.specs.Judge.{Row, _when_, verdict}
-use Rattle.octets.specs.Octets.{put}
 use Rattle.sheet.specs.Sheet.{rowSize, workedAt, deskCount, deskAt, isClosed, right}
 use Rattle.sheet.specs.Bytes.{Outcome, judged, done, positionIn, marked, markRows, markPosition, markRow, workedCopy, withWorked, markDesk, markCall}
 use Rattle.sheet.proofs.Clauses.{sized}

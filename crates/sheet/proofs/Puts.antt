@@ -1,12 +1,12 @@
 -- Parts replaced one after the other: what was written piece by piece is one part put in. Assumes nothing.
-use Prim.Native.Nat.{ℕ, suc, _+_, _≤_, _<_}
+use Prim.Native.Nat.{ℕ, _+_, _≤_, _<_}
 use native.Mathlib.Nat.{zero-add}
 use native.Mathlib.Numerals.{add-one}
 use native.Mathlib.Omega.{arith}
 use mathlib.Core.List.{List, [], _∷_, _++_, append-assoc, append-nil}
-use mathlib.Core.Path.{_≡_, refl, sym, ap, _∙_}
+use mathlib.Core.Path.{_≡_, sym, ap, _∙_}
 use lib.ListN.{length, take, drop, set, getD, length-append, take-append-drop, List·getD-append}
-use mathlib.Core.Logic.{_⊎_, inl, inr}
+use mathlib.Core.Logic.{_⊎_, inl}
 use lib.Seq.{length-take-le, take-at, drop-append-add, drop-drop, set-split, drop-length, take-add, ext-getD, getD-append-add}
 use Rattle.octets.specs.Octets.{part, put}
 use Rattle.octets.proofs.Laws.{length-part, part-at, length-put, put-all, putting, putting-outside}

@@ -1,9 +1,9 @@
 -- An enrolled row reads back as the value it was written from: the row with no ticks. Assumes nothing.
-use Prim.Native.Nat.{ℕ, zero, suc, _+_, _*_, _^_, _≤_, _<_}
+use Prim.Native.Nat.{ℕ, zero, suc, _+_, _^_, _≤_, _<_}
 use native.Mathlib.Omega.{arith}
 use mathlib.Core.List.{List, _++_}
 use mathlib.Core.Logic.{inr}
-use mathlib.Core.Path.{_≡_, refl, sym, ap, _∙_}
+use mathlib.Core.Path.{_≡_, refl, sym, _∙_}
 use lib.ListN.{length, getD, length-append, length-replicate}
 use lib.Seq.{ext-getD}
 use Rattle.octets.specs.Octets.{numberAt, bytesOf, part, put}
@@ -11,7 +11,6 @@ use Rattle.octets.proofs.Laws.{length-bytesOf, length-put, length-part, part-at
 use Rattle.octets.proofs.Parts.{number-first, number-second, number-bytes, part-second, part-whole}
 use Rattle.sheet.specs.Sheet.{keySize, firstAt, firstSize, ticksAt, ticksSize, rowSize, rowCount, sheetSize, headerNumberSize, usedAt, rowAt, keyAt, firstNumberAt}
 use Rattle.sheet.specs.Rows.{rowBytes, blankTicks, rowValueAt, blankRow}
-use Rattle.sheet.specs.declared.Row.{Row}
 use Rattle.sheet.specs.Bytes.{enrolAt}
 use Rattle.sheet.proofs.Puts.{put-outside, put-inside}
 

@@ -1,16 +1,16 @@
 -- What a run of calls writes into a sheet, piece by piece, is what the definitions of `specs/Bytes.antt` say. Assumes nothing.
-use Prim.Native.Nat.{ℕ, _+_, _*_, _-_, _≤_, _<_}
+use Prim.Native.Nat.{ℕ, _+_, _-_, _≤_, _<_}
 use native.Mathlib.Omega.{arith}
 use mathlib.Core.List.{List, [], _∷_, _++_}
-use mathlib.Core.Path.{_≡_, refl, sym, ap, _∙_}
+use mathlib.Core.Path.{_≡_, refl, ap, _∙_}
 use lib.ListN.{length, set, replicate, length-append, length-replicate, length-set}
 use Rattle.octets.specs.Octets.{bytesOf, part, put}
-use Rattle.octets.proofs.Laws.{length-bytesOf, length-part, length-put}
-use Rattle.sheet.specs.Sheet.{keySize, firstAt, firstSize, ticksAt, ticksSize, rowSize, rowCount, rowsStart, deskRowAt, deskZerosAt, deskZerosSize, openedAt, workedAt, deskSize, deskCount, desksStart, sheetSize, headerNumberSize, lengthAt, usedAt, rowCountAt, rowsStartAt, deskCountAt, desksStartAt, rowAt, deskAt}
+use Rattle.octets.proofs.Laws.{length-bytesOf, length-part}
+use Rattle.sheet.specs.Sheet.{keySize, firstAt, firstSize, ticksAt, rowSize, rowCount, rowsStart, deskRowAt, deskZerosAt, deskZerosSize, openedAt, workedAt, deskCount, desksStart, sheetSize, headerNumberSize, lengthAt, usedAt, rowCountAt, rowsStartAt, deskCountAt, desksStartAt, rowAt, deskAt}
 use Rattle.sheet.specs.declared.Row.{Row}
 use Rattle.sheet.specs.Rows.{rowBytes, blankRow}
 use Rattle.sheet.specs.Bytes.{headerBytes, freshSheet, enrolAt, openDesk, openAt}
-use Rattle.sheet.proofs.Puts.{put-next, put-then, put-one, put-whole, part-before}
+use Rattle.sheet.proofs.Puts.{put-then, put-one, put-whole, part-before}
 
 -- ---- the header, and a fresh sheet
 

@@ -4,12 +4,12 @@ use Prim.Native.Nat.{ℕ}
 use mathlib.Core.List.{List, [], _∷_}
 use Rattle.refusals.specs.Table.{numberOf}
 use Rattle.sheet.specs.declared.Answer.{Answer}
-use Rattle.sheet.specs.declared.Answer.the-variants as A
 use Rattle.sheet.specs.declared.RowAnswer.{RowAnswer}
-use Rattle.sheet.specs.declared.RowAnswer.the-variants as R
 use Rattle.sheet.specs.declared.ReportAnswer.{ReportAnswer}
-use Rattle.sheet.specs.declared.ReportAnswer.the-variants as Report
 use Rattle.sheet.specs.declared.GapAnswer.{GapAnswer}
+use Rattle.sheet.specs.declared.Answer.the-variants as A
+use Rattle.sheet.specs.declared.RowAnswer.the-variants as R
+use Rattle.sheet.specs.declared.ReportAnswer.the-variants as Report
 use Rattle.sheet.specs.declared.GapAnswer.the-variants as G
 
 abbrev pub answerWords : Answer → List ℕ

@@ -2,7 +2,7 @@
 -- first i positions are ticked. Assumes nothing.
 use native.Mathlib.Nat.{sub-zero}
 use Rattle.sheet.proofs.Scans.{Each, each-none, each-more}
-use Prim.Native.Nat.{ℕ, _+_, _-_, _≤_, _<_}
+use Prim.Native.Nat.{_-_, _≤_}
 use mathlib.Core.Bool.{true}
 use mathlib.Core.Path.{_≡_, refl, sym, ap, _∙_}
 use native.Mathlib.Omega.{arith}
@@ -16,12 +16,6 @@ use Rattle.sheet.specs.Words.{gapWords}
 use Rattle.sheet.proofs.Reports.{end-within, row-gap, row-whole, gap-next, gap-here, gap-none}
 use Rattle.sheet.proofs.counts.first_gap.Statement.{statement}
 use Rattle.sheet.proofs.counts.first_gap.Tie as tie
-use Rattle.sheet.proofs.counts.first_gap.Reads as reads
-use Rattle.sheet.proofs.counts.first_gap.Lts as lts
-use Rattle.sheet.proofs.counts.number_in.Reads as number-in-reads
-use Rattle.sheet.proofs.counts.ticks_end.Reads as ticks-end-reads
-use Rattle.sheet.proofs.right.rows_used.Reads as rows-used-reads
-use Rattle.sheet.proofs.ticks.is_ticked.Reads as is-ticked-reads
 
 abbrev Inv-loop : tie.InvT-loop
 Inv-loop s used gap₀ row a end i₀ gap i = (i ≤ end) × (gap ≡ Nothing) × Each true (tickedAt s a) i

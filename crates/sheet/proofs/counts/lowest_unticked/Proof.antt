@@ -1,16 +1,13 @@
 -- `counts::lowest_unticked` meets its contract. The invariant: the first i positions are ticked. Assumes nothing.
 use Prim.Native.Nat.{_≤_, _-_}
 use mathlib.Core.Bool.{not}
-use mathlib.Core.Path.{_≡_, sym, _∙_, ap}
+use mathlib.Core.Path.{_≡_, sym, ap}
 use native.Mathlib.Omega.{arith}
 use Rattle.octets.proofs.Laws.{failed, passed}
 use Rattle.sheet.specs.Rows.{tickedAt}
 use Rattle.sheet.proofs.Scans.{Fails, each-none, each-more, lowest-here, lowest-none}
 use Rattle.sheet.proofs.counts.lowest_unticked.Statement.{statement}
 use Rattle.sheet.proofs.counts.lowest_unticked.Tie as tie
-use Rattle.sheet.proofs.counts.lowest_unticked.Reads as reads
-use Rattle.sheet.proofs.counts.lowest_unticked.Lts as lts
-use Rattle.sheet.proofs.ticks.is_ticked.Reads as is-ticked-reads
 
 abbrev Inv-loop : tie.InvT-loop
 Inv-loop s a end i₀ i = (i ≤ end) × Fails (λ j. not (tickedAt s a j)) i

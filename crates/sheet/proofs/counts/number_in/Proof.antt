@@ -2,11 +2,6 @@
 use borrow.Author.Needs.{needs}
 use Rattle.sheet.proofs.counts.number_in.Statement.{statement}
 use Rattle.sheet.proofs.counts.number_in.Tie as tie
-use Rattle.sheet.proofs.counts.number_in.Reads as reads
-use Rattle.sheet.proofs.counts.number_in.Lts as lts
-use Rattle.model.proofs.number_at.Reads as number-at-reads
-use Rattle.sheet.proofs.right.key_at.Reads as key-at-reads
-use Rattle.sheet.proofs.rows.first_at.Reads as first-at-reads
 
 key-at-requires : tie.Need-key-at-requires
 key-at-requires c κs = search needs

@@ -1,16 +1,9 @@
 -- `counts::row_report` meets its contract. Assumes nothing.
 use native.Mathlib.Omega.{arith}
-use mathlib.Core.Path.{_≡_, sym, _∙_}
 use Rattle.sheet.specs.Sheet.{rowAt}
 use Rattle.sheet.proofs.Reports.{end-within, row-count, report-whole, report-gaps}
 use Rattle.sheet.proofs.counts.row_report.Statement.{statement}
 use Rattle.sheet.proofs.counts.row_report.Tie as tie
-use Rattle.sheet.proofs.counts.row_report.Reads as reads
-use Rattle.sheet.proofs.counts.row_report.Lts as lts
-use Rattle.sheet.proofs.counts.lowest_unticked.Reads as lowest-unticked-reads
-use Rattle.sheet.proofs.counts.number_in.Reads as number-in-reads
-use Rattle.sheet.proofs.counts.ticked_count.Reads as ticked-count-reads
-use Rattle.sheet.proofs.counts.ticks_end.Reads as ticks-end-reads
 
 mul-a : tie.Need-mul-a
 mul-a c = omega arith

@@ -1,6 +1,5 @@
 -- `counts::ticked_count` meets its contract. The invariant: the count is that of the first i positions. Assumes nothing.
 use Prim.Native.Nat.{_≤_, _-_}
-use mathlib.Core.Bool.{cond}
 use mathlib.Core.Logic.{⊎-elim}
 use mathlib.Core.Path.{_≡_, sym, _∙_}
 use native.Mathlib.Omega.{arith}
@@ -9,9 +8,6 @@ use Rattle.sheet.specs.Rows.{tickedAt, table, ticksOf}
 use Rattle.sheet.proofs.Missing.{size-none, size-more}
 use Rattle.sheet.proofs.counts.ticked_count.Statement.{statement}
 use Rattle.sheet.proofs.counts.ticked_count.Tie as tie
-use Rattle.sheet.proofs.counts.ticked_count.Reads as reads
-use Rattle.sheet.proofs.counts.ticked_count.Lts as lts
-use Rattle.sheet.proofs.ticks.is_ticked.Reads as is-ticked-reads
 
 abbrev Inv-loop : tie.InvT-loop
 Inv-loop s a count₀ i₀ count i = (i ≤ rowLength) × (count ≤ i) × (count ≡ size (table i (tickedAt s a)))

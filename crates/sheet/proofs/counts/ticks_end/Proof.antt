@@ -8,9 +8,6 @@ use Rattle.sheet.specs.Bytes.{pastHighest}
 use Rattle.sheet.proofs.Scans.{past-here, past-down, past-none}
 use Rattle.sheet.proofs.counts.ticks_end.Statement.{statement}
 use Rattle.sheet.proofs.counts.ticks_end.Tie as tie
-use Rattle.sheet.proofs.counts.ticks_end.Reads as reads
-use Rattle.sheet.proofs.counts.ticks_end.Lts as lts
-use Rattle.sheet.proofs.ticks.is_ticked.Reads as is-ticked-reads
 
 abbrev Inv-loop : tie.InvT-loop
 Inv-loop s a end₀ end = (end ≤ rowLength) × (pastHighest rowLength (tickedAt s a) ≡ pastHighest end (tickedAt s a))

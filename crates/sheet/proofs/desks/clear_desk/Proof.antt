@@ -3,9 +3,6 @@ use Rattle.sheet.specs.Bytes.{clearDesk}
 use borrow.Author.Needs.{needs}
 use Rattle.sheet.proofs.desks.clear_desk.Statement.{statement}
 use Rattle.sheet.proofs.desks.clear_desk.Tie as tie
-use Rattle.sheet.proofs.desks.clear_desk.Reads as reads
-use Rattle.sheet.proofs.desks.clear_desk.Lts as lts
-use Rattle.octets.proofs.clear.Reads as clear-reads
 
 mul-clear : tie.Need-mul-clear
 mul-clear c = search needs

@@ -4,10 +4,6 @@ use Rattle.sheet.proofs.Written.{fresh-written}
 use borrow.Author.Needs.{needs}
 use Rattle.sheet.proofs.desks.make_fresh.Statement.{statement}
 use Rattle.sheet.proofs.desks.make_fresh.Tie as tie
-use Rattle.sheet.proofs.desks.make_fresh.Reads as reads
-use Rattle.sheet.proofs.desks.make_fresh.Lts as lts
-use Rattle.octets.proofs.clear.Reads as clear-reads
-use Rattle.sheet.proofs.desks.write_header.Reads as write-header-reads
 
 write-header-requires : tie.Need-write-header-requires
 write-header-requires c κs = search needs

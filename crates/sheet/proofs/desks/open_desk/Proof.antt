@@ -7,10 +7,6 @@ use Rattle.sheet.proofs.Written.{open-written}
 use borrow.Author.Needs.{needs}
 use Rattle.sheet.proofs.desks.open_desk.Statement.{statement}
 use Rattle.sheet.proofs.desks.open_desk.Tie as tie
-use Rattle.sheet.proofs.desks.open_desk.Reads as reads
-use Rattle.sheet.proofs.desks.open_desk.Lts as lts
-use Rattle.octets.proofs.clear.Reads as clear-reads
-use Rattle.octets.proofs.copy.Reads as copy-reads
 
 mul-a : tie.Need-mul-a
 mul-a c = search needs

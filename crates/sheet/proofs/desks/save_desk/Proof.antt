@@ -4,11 +4,6 @@ use Rattle.sheet.specs.Bytes.{saveAt}
 use borrow.Author.Needs.{needs}
 use Rattle.sheet.proofs.desks.save_desk.Statement.{statement}
 use Rattle.sheet.proofs.desks.save_desk.Tie as tie
-use Rattle.sheet.proofs.desks.save_desk.Reads as reads
-use Rattle.sheet.proofs.desks.save_desk.Lts as lts
-use Rattle.sheet.proofs.desks.clear_desk.Reads as clear-desk-reads
-use Rattle.sheet.proofs.desks.is_current.Reads as is-current-reads
-use Rattle.sheet.proofs.desks.store.Reads as store-reads
 
 is-current-requires : tie.Need-is-current-requires
 is-current-requires c κs = search needs

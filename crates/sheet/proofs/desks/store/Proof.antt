@@ -4,9 +4,6 @@ use mathlib.Core.Logic.{inr}
 use borrow.Author.Needs.{needs}
 use Rattle.sheet.proofs.desks.store.Statement.{statement}
 use Rattle.sheet.proofs.desks.store.Tie as tie
-use Rattle.sheet.proofs.desks.store.Reads as reads
-use Rattle.sheet.proofs.desks.store.Lts as lts
-use Rattle.octets.proofs.copy.Reads as copy-reads
 
 mul-a : tie.Need-mul-a
 mul-a c = search needs

@@ -3,9 +3,6 @@ use Rattle.sheet.proofs.Written.{header-written}
 use borrow.Author.Needs.{needs}
 use Rattle.sheet.proofs.desks.write_header.Statement.{statement}
 use Rattle.sheet.proofs.desks.write_header.Tie as tie
-use Rattle.sheet.proofs.desks.write_header.Reads as reads
-use Rattle.sheet.proofs.desks.write_header.Lts as lts
-use Rattle.octets.proofs.write_be.Reads as write-be-reads
 
 write-be-requires : tie.Need-write-be-requires
 write-be-requires c κs = search needs

@@ -3,8 +3,6 @@ use mathlib.Core.Path.{refl}
 use Rattle.sheet.specs.Rows.{blankRow, blankTicks}
 use Rattle.sheet.proofs.rows.blank_row.Statement.{statement}
 use Rattle.sheet.proofs.rows.blank_row.Tie as tie
-use Rattle.sheet.proofs.rows.blank_row.Reads as reads
-use Rattle.sheet.proofs.rows.blank_row.Lts as lts
 
 returns : tie.Need-returns
 unfolding blankRow blankTicks

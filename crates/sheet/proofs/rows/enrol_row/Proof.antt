@@ -3,12 +3,6 @@ use Rattle.sheet.proofs.Written.{enrol-written}
 use borrow.Author.Needs.{needs}
 use Rattle.sheet.proofs.rows.enrol_row.Statement.{statement}
 use Rattle.sheet.proofs.rows.enrol_row.Tie as tie
-use Rattle.sheet.proofs.rows.enrol_row.Reads as reads
-use Rattle.sheet.proofs.rows.enrol_row.Lts as lts
-use Rattle.octets.proofs.write_be.Reads as write-be-reads
-use Rattle.sheet.proofs.right.rows_used.Reads as rows-used-reads
-use Rattle.sheet.proofs.rows.blank_row.Reads as blank-row-reads
-use Rattle.sheet.proofs.rows.write_row.Reads as write-row-reads
 
 rows-used-requires : tie.Need-rows-used-requires
 rows-used-requires c κs = search needs

@@ -9,10 +9,6 @@ use Rattle.sheet.specs.Bytes.{rowWith}
 use Rattle.sheet.proofs.Scans.{Fails, each-none, each-more, lowest-here, lowest-none}
 use Rattle.sheet.proofs.rows.find_row.Statement.{statement}
 use Rattle.sheet.proofs.rows.find_row.Tie as tie
-use Rattle.sheet.proofs.rows.find_row.Reads as reads
-use Rattle.sheet.proofs.rows.find_row.Lts as lts
-use Rattle.sheet.proofs.right.key_at.Reads as key-at-reads
-use Rattle.sheet.proofs.right.rows_used.Reads as rows-used-reads
 
 abbrev Inv-loop : tie.InvT-loop
 Inv-loop s key used i₀ i = (i ≤ used) × Fails (λ j. eqb (keyAt s (rowAt j)) key) i

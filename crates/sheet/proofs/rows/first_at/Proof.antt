@@ -5,9 +5,6 @@ use Rattle.sheet.specs.Sheet.{firstAt, firstSize}
 use borrow.Author.Needs.{needs}
 use Rattle.sheet.proofs.rows.first_at.Statement.{statement}
 use Rattle.sheet.proofs.rows.first_at.Tie as tie
-use Rattle.sheet.proofs.rows.first_at.Reads as reads
-use Rattle.sheet.proofs.rows.first_at.Lts as lts
-use Rattle.octets.proofs.read_be.Reads as read-be-reads
 
 add-read-be : tie.Need-add-read-be
 add-read-be c = search needs

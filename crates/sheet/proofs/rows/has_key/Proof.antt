@@ -2,10 +2,6 @@
 use borrow.Author.Needs.{needs}
 use Rattle.sheet.proofs.rows.has_key.Statement.{statement}
 use Rattle.sheet.proofs.rows.has_key.Tie as tie
-use Rattle.sheet.proofs.rows.has_key.Reads as reads
-use Rattle.sheet.proofs.rows.has_key.Lts as lts
-use Rattle.sheet.proofs.right.rows_used.Reads as rows-used-reads
-use Rattle.sheet.proofs.rows.find_row.Reads as find-row-reads
 
 find-row-requires : tie.Need-find-row-requires
 find-row-requires c κs = search needs

@@ -3,11 +3,6 @@ use Rattle.sheet.specs.Rows.{rowValueAt}
 use borrow.Author.Needs.{needs}
 use Rattle.sheet.proofs.rows.read_row.Statement.{statement}
 use Rattle.sheet.proofs.rows.read_row.Tie as tie
-use Rattle.sheet.proofs.rows.read_row.Reads as reads
-use Rattle.sheet.proofs.rows.read_row.Lts as lts
-use Rattle.sheet.proofs.right.key_at.Reads as key-at-reads
-use Rattle.sheet.proofs.rows.first_at.Reads as first-at-reads
-use Rattle.sheet.proofs.rows.read_ticks.Reads as read-ticks-reads
 
 key-at-requires : tie.Need-key-at-requires
 key-at-requires c κs = search needs

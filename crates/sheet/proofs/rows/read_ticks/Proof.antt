@@ -8,8 +8,6 @@ use Rattle.sheet.proofs.Ranges.{read-more}
 use Rattle.sheet.proofs.Puts.{part-is}
 use Rattle.sheet.proofs.rows.read_ticks.Statement.{statement}
 use Rattle.sheet.proofs.rows.read_ticks.Tie as tie
-use Rattle.sheet.proofs.rows.read_ticks.Reads as reads
-use Rattle.sheet.proofs.rows.read_ticks.Lts as lts
 
 abbrev Inv-loop : tie.InvT-loop
 Inv-loop s a ticks₀ i₀ ticks i = (i ≤ ticksSize) × (length ticks ≡ ticksSize) × ((j : ℕ) → j < i → getD ticks j 0 ≡ getD s (a + j) 0)

@@ -4,10 +4,6 @@ use Rattle.sheet.proofs.Written.{row-written}
 use borrow.Author.Needs.{needs}
 use Rattle.sheet.proofs.rows.write_row.Statement.{statement}
 use Rattle.sheet.proofs.rows.write_row.Tie as tie
-use Rattle.sheet.proofs.rows.write_row.Reads as reads
-use Rattle.sheet.proofs.rows.write_row.Lts as lts
-use Rattle.octets.proofs.write_be.Reads as write-be-reads
-use Rattle.sheet.proofs.rows.write_ticks.Reads as write-ticks-reads
 
 write-be-requires : tie.Need-write-be-requires
 write-be-requires c κs = search needs

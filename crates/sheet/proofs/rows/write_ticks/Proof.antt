@@ -1,14 +1,12 @@
 -- `rows::write_ticks` meets its contract. The invariant: i of the bytes are put in. Assumes nothing.
 use Prim.Native.Nat.{_≤_, _-_}
-use mathlib.Core.Path.{_≡_, refl, sym, _∙_}
+use mathlib.Core.Path.{_≡_, refl}
 use native.Mathlib.Omega.{arith}
 use lib.ListN.{length, length-set}
 use Rattle.octets.proofs.Laws.{putting, putting-none, putting-more, putting-all}
 use Rattle.sheet.specs.Sheet.{ticksSize}
 use Rattle.sheet.proofs.rows.write_ticks.Statement.{statement}
 use Rattle.sheet.proofs.rows.write_ticks.Tie as tie
-use Rattle.sheet.proofs.rows.write_ticks.Reads as reads
-use Rattle.sheet.proofs.rows.write_ticks.Lts as lts
 
 abbrev Inv-loop : tie.InvT-loop
 Inv-loop s₀ a ticks i₀ s i = (i ≤ ticksSize) × (length s ≡ length s₀) × (s ≡ putting s₀ a ticks i)

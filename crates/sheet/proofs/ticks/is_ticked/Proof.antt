@@ -7,9 +7,6 @@ use Rattle.sheet.specs.Rows.{tickedAt}
 use borrow.Author.Needs.{needs}
 use Rattle.sheet.proofs.ticks.is_ticked.Statement.{statement}
 use Rattle.sheet.proofs.ticks.is_ticked.Tie as tie
-use Rattle.sheet.proofs.ticks.is_ticked.Reads as reads
-use Rattle.sheet.proofs.ticks.is_ticked.Lts as lts
-use Rattle.sheet.proofs.ticks.tick_bit.Reads as tick-bit-reads
 
 add-result : tie.Need-add-result
 add-result c = search needs

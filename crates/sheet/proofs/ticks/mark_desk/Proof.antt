@@ -7,9 +7,6 @@ use Rattle.sheet.proofs.Puts.{lent-back}
 use borrow.Author.Needs.{needs}
 use Rattle.sheet.proofs.ticks.mark_desk.Statement.{statement}
 use Rattle.sheet.proofs.ticks.mark_desk.Tie as tie
-use Rattle.sheet.proofs.ticks.mark_desk.Reads as reads
-use Rattle.sheet.proofs.ticks.mark_desk.Lts as lts
-use Rattle.sheet.proofs.ticks.mark_row.Reads as mark-row-reads
 
 mul-a : tie.Need-mul-a
 mul-a c = search needs

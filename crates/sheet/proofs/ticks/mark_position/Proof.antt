@@ -12,10 +12,6 @@ use Rattle.sheet.proofs.Bits.{bit-room, bit-under, mark-outside, mark-s
 use borrow.Author.Needs.{needs}
 use Rattle.sheet.proofs.ticks.mark_position.Statement.{statement}
 use Rattle.sheet.proofs.ticks.mark_position.Tie as tie
-use Rattle.sheet.proofs.ticks.mark_position.Reads as reads
-use Rattle.sheet.proofs.ticks.mark_position.Lts as lts
-use Rattle.sheet.proofs.ticks.is_ticked.Reads as is-ticked-reads
-use Rattle.sheet.proofs.ticks.tick_bit.Reads as tick-bit-reads
 
 returns : tie.Need-returns
 returns c = mark-outside _ _ _ (c .if1 .taken)

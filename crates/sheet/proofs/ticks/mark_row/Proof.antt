@@ -1,15 +1,8 @@
 -- `ticks::mark_row` meets its contract. Assumes nothing.
-use mathlib.Core.Path.{_∙_}
 use Rattle.sheet.specs.Bytes.{markRow}
 use borrow.Author.Needs.{needs}
 use Rattle.sheet.proofs.ticks.mark_row.Statement.{statement}
 use Rattle.sheet.proofs.ticks.mark_row.Tie as tie
-use Rattle.sheet.proofs.ticks.mark_row.Reads as reads
-use Rattle.sheet.proofs.ticks.mark_row.Lts as lts
-use Rattle.model.proofs.position.Reads as position-reads
-use Rattle.sheet.proofs.right.key_at.Reads as key-at-reads
-use Rattle.sheet.proofs.rows.first_at.Reads as first-at-reads
-use Rattle.sheet.proofs.ticks.mark_position.Reads as mark-position-reads
 
 key-at-requires : tie.Need-key-at-requires
 key-at-requires c κs = search needs

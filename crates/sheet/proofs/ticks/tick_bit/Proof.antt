@@ -4,8 +4,6 @@ use Rattle.sheet.proofs.Bits.{bit-fits}
 use borrow.Author.Needs.{needs}
 use Rattle.sheet.proofs.ticks.tick_bit.Statement.{statement}
 use Rattle.sheet.proofs.ticks.tick_bit.Tie as tie
-use Rattle.sheet.proofs.ticks.tick_bit.Reads as reads
-use Rattle.sheet.proofs.ticks.tick_bit.Lts as lts
 
 cast-result : tie.Need-cast-result
 cast-result c = search needs
