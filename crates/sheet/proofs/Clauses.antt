@@ -1,16 +1,16 @@
 -- The clauses of `right`: of a desk whose first byte is known, and what a right sheet tells. Assumes nothing.
 use Prim.Native.Nat.{ℕ, _+_, _≤_, _<_}
 use native.Mathlib.Omega.{arith}
-use mathlib.Core.Bool.{Bool, true, false, not, _&&_, _||_}
+use mathlib.Core.Bool.{Bool, true, false, _&&_}
 use mathlib.Core.List.{List}
-use mathlib.Core.Path.{_≡_, refl, sym, ap, _∙_}
+use mathlib.Core.Path.{_≡_, refl}
 use lib.Dec.{eqb, ltb, leb}
-use lib.ListN.{length, getD}
+use lib.ListN.{length}
 use borrow.Author.Tests.{eq-eqb, ne-eqb, lt-leb, le-leb, eqb-true, leb-true, ltb-true}
 use Rattle.octets.specs.Octets.{all, zeroAt}
 use Rattle.octets.proofs.Laws.{and-split, all-at}
 use Rattle.sheet.specs.Sheet.{sheetSize, rowCount, rowsStart, deskSize, deskCount, deskZerosAt, deskZerosSize, openedAt, workedAt, desksStart, lengthAt, rowCountAt, rowsStartAt, deskCountAt, desksStartAt, deskAt, headerNumber, used, deskByte, deskRow, isClosed, carries, headerRight, validKeys, differentKeys, unusedZero, closedZero, deskMarked, openNames, deskRight, right, Sized}
-use Rattle.sheet.proofs.Ranges.{and-true, and-false, zero-within}
+use Rattle.sheet.proofs.Ranges.{zero-within}
 
 module _ (s : List ℕ) (d : ℕ) where
   -- a closed desk is right exactly when it is zero

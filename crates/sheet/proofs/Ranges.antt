@@ -11,7 +11,7 @@ use lib.Seq.{getD-set-same, getD-set-other}
 use mathlib.Core.Logic.{⊎-elim}
 use borrow.Author.Tests.{lt-ltb, le-ltb, eq-eqb}
 use Rattle.octets.specs.Octets.{all, zeroAt}
-use Rattle.octets.proofs.Laws.{all-each, all-at}
+use Rattle.octets.proofs.Laws.{all-each}
 use Rattle.octets.proofs.Parts.{zero-at}
 
 pub and-true : (b : Bool) → b && true ≡ b

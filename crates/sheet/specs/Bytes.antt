@@ -10,8 +10,8 @@ use lib.ListN.{length, replicate}
 use Rattle.keys.specs.Key.{validKey}
 use Rattle.octets.specs.Octets.{bytesOf, part, put, sameAt}
 use Rattle.refusals.specs.Judge.{Row, _when_, verdict}
-use Rattle.model.specs.Book.{position, numberAt, inRow, alreadySo}
-use Rattle.model.specs.Positions.{size, missing, least}
+use Rattle.model.specs.Positions.{position, numberAt, inRow, size, missing, least}
+use Rattle.model.specs.Step.{alreadySo}
 use Rattle.sheet.specs.Sheet.{sheetSize, rowSize, rowCount, rowsStart, openedAt, workedAt, deskSize, deskCount, desksStart, headerNumberSize, usedAt, rowAt, deskAt, used, keyAt, firstNumberAt, deskRow, isClosed, right}
 use Rattle.sheet.specs.Rows.{tickedAt, setTick, clearTick, ticksOf, rowBytes, blankTicks}
 
@@ -47,6 +47,11 @@ freshCall s = judged ((20 when not (eqb (length s) sheetSize)) ∷ []) (done, fr
 unfoldable pub lowest : ℕ → (ℕ → Bool) → ℕ
 lowest zero p = 0
 lowest (suc n) p = cond (p 0) 0 (suc (lowest n (λ i. p (suc i))))
+
+-- One past the highest number below n of which p holds, or 0 where there is none.
+unfoldable pub pastHighest : ℕ → (ℕ → Bool) → ℕ
+pastHighest zero p = 0
+pastHighest (suc n) p = cond (p n) (suc n) (pastHighest n p)
 
 -- The used row with the key, or the count of used rows where there is none.
 unfoldable pub rowWith : List ℕ → ℕ → ℕ
@@ -125,26 +130,33 @@ marked on row i = cond on (setTick row 0 i) (clearTick row 0 i)
 abbrev pub markRows : Bool → List ℕ → ℕ → List Row
 markRows on row i = (28 when not (inRow i)) ∷ (alreadySo on when Bool·beq (tickedAt row 0 i) on) ∷ []
 
--- A tick or an untick of number n in a row's bytes.
+-- A tick or an untick of position i, and of number n, in a row's bytes.
+unfoldable pub markPosition : Bool → ℕ → List ℕ → Outcome
+markPosition on i row = judged (markRows on row i) (done, marked on row i) row
+
 unfoldable pub markRow : Bool → ℕ → List ℕ → Outcome
-markRow on n row = judged (markRows on row (positionIn row n)) (done, marked on row (positionIn row n)) row
+markRow on n row = markPosition on (positionIn row n) row
 
 -- The desk's worked copy, "which is lent on as that middle part of the sheet".
-abbrev pub workedCopy : ℕ → List ℕ → List ℕ
+abbrev pub workedCopy : (d : ℕ) → List ℕ → List ℕ
 workedCopy d s = part s (deskAt d + workedAt) rowSize
 
--- "Tick, untick (desk, number): change one bit of the desk's worked copy."
-unfoldable pub markAt : Bool → (d n : ℕ) → List ℕ → List ℕ
-markAt on d n s = put s (deskAt d + workedAt) (marked on (workedCopy d s) (positionIn (workedCopy d s) n))
+abbrev pub withWorked : (d : ℕ) → List ℕ → List ℕ → List ℕ
+withWorked d s copy = put s (deskAt d + workedAt) copy
 
+unfoldable pub markDesk : Bool → (d n : ℕ) → List ℕ → Outcome
+markDesk on d n s =
+    let outcome = markRow on n (workedCopy d s) in
+    (outcome .0, withWorked d s (outcome .1))
+
+-- "Tick, untick (desk, number): change one bit of the desk's worked copy."
 unfoldable pub markCall : Bool → (d n : ℕ) → List ℕ → Outcome
 markCall on d n s =
+    let copy = workedCopy d s in
+    let i = positionIn copy n in
     judged
-    ((20 when not (right s))
-    ∷ (21 when not (ltb d deskCount))
-    ∷ (27 when isClosed s d)
-    ∷ markRows on (workedCopy d s) (positionIn (workedCopy d s) n))
-    (done, markAt on d n s)
+    ((20 when not (right s)) ∷ (21 when not (ltb d deskCount)) ∷ (27 when isClosed s d) ∷ markRows on copy i)
+    (done, withWorked d s (marked on copy i))
     s
 
 abbrev pub tickCall : (d n : ℕ) → List ℕ → Outcome

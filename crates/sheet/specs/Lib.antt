@@ -2,3 +2,4 @@
 pub mod Sheet
 pub mod Rows
 pub mod Bytes
+pub mod Words

@@ -1,6 +1,12 @@
 // The bytes of the ledger sheet (document 01, "The ledger sheet"): whether a slice is a right sheet, and what each call
 // does to its bytes. Every size and offset has its name here, once.
+pub mod counts;
+pub mod desks;
 pub mod right;
+pub mod rows;
+pub mod ticks;
+
+use refusals::Refusal;
 
 // A row: key, first number, ticks. There are 32, and the first stands at 24.
 pub const KEY: usize = 8;
@@ -61,4 +67,36 @@ pub struct Row {
     pub key: u64,
     pub first: u32,
     pub ticks: [u8; TICKS],
+}
+
+// What a call answers that has nothing to tell.
+pub enum Answer {
+    Done,
+    Refused(Refusal),
+}
+
+// What enrol and find answer.
+pub enum RowAnswer {
+    Row(u32),
+    Refused(Refusal),
+}
+
+// What a row report answers: how many positions are ticked, how many are missing, and the number at the lowest of these.
+pub enum ReportAnswer {
+    Whole {
+        ticked: u32,
+    },
+    Gaps {
+        ticked: u32,
+        missing: u32,
+        lowest: u32,
+    },
+    Refused(Refusal),
+}
+
+// What first gap answers: the first missing number and its row.
+pub enum GapAnswer {
+    Nothing,
+    Gap { number: u32, row: u32 },
+    Refused(Refusal),
 }

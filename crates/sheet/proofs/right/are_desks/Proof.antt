@@ -7,9 +7,6 @@ use Rattle.octets.proofs.Laws.{all-none, all-next}
 use Rattle.sheet.specs.Sheet.{deskCount, deskRight}
 use Rattle.sheet.proofs.right.are_desks.Statement.{statement}
 use Rattle.sheet.proofs.right.are_desks.Tie as tie
-use Rattle.sheet.proofs.right.are_desks.Reads as reads
-use Rattle.sheet.proofs.right.are_desks.Lts as lts
-use Rattle.sheet.proofs.right.is_desk.Reads as is-desk-reads
 
 abbrev Inv-loop : tie.InvT-loop
 Inv-loop s right₀ d₀ right d = (d ≤ deskCount) × (right ≡ all d (deskRight s))

@@ -3,23 +3,16 @@
 use Rattle.sheet.proofs.Ranges.{read-more, read-test}
 use Prim.Native.Nat.{ℕ, _≤_, _<_, _-_}
 use mathlib.Core.Bool.{not}
-use mathlib.Core.Path.{_≡_, refl, sym, _∙_}
+use mathlib.Core.Path.{_≡_, refl, sym}
 use native.Mathlib.Omega.{arith}
 use lib.Dec.{eqb}
-use lib.ListN.{length, getD, set, length-set}
+use lib.ListN.{length, getD, length-set}
 use Rattle.octets.specs.Octets.{all}
 use Rattle.octets.proofs.Laws.{all-none, all-next}
 use Rattle.keys.specs.Key.{validKey}
 use Rattle.sheet.specs.Sheet.{rowCount, rowAt, keyAt, validKeys, differentKeys}
-use Rattle.sheet.proofs.Ranges.{all-same}
 use Rattle.sheet.proofs.right.are_keys.Statement.{statement}
 use Rattle.sheet.proofs.right.are_keys.Tie as tie
-use Rattle.sheet.proofs.right.are_keys.Reads as reads
-use Rattle.sheet.proofs.right.are_keys.Lts as lts
-use Rattle.keys.proofs.valid.Reads as valid-reads
-use Rattle.sheet.proofs.right.is_new.Reads as is-new-reads
-use Rattle.sheet.proofs.right.key_at.Reads as key-at-reads
-use Rattle.sheet.proofs.right.rows_used.Reads as rows-used-reads
 
 abbrev Inv-loop : tie.InvT-loop
 Inv-loop s used keys₀ valid₀ different₀ i₀ keys valid different i =

@@ -4,10 +4,6 @@ use Rattle.sheet.proofs.Clauses.{closed-desk, open-desk, odd-desk}
 use borrow.Author.Needs.{needs}
 use Rattle.sheet.proofs.right.is_desk.Statement.{statement}
 use Rattle.sheet.proofs.right.is_desk.Tie as tie
-use Rattle.sheet.proofs.right.is_desk.Reads as reads
-use Rattle.sheet.proofs.right.is_desk.Lts as lts
-use Rattle.octets.proofs.is_zero.Reads as is-zero-reads
-use Rattle.sheet.proofs.right.is_open_desk.Reads as is-open-desk-reads
 
 mul-open : tie.Need-mul-open
 mul-open c = search needs

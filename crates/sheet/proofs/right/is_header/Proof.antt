@@ -3,9 +3,6 @@ use Rattle.sheet.specs.Sheet.{headerRight}
 use borrow.Author.Needs.{needs}
 use Rattle.sheet.proofs.right.is_header.Statement.{statement}
 use Rattle.sheet.proofs.right.is_header.Tie as tie
-use Rattle.sheet.proofs.right.is_header.Reads as reads
-use Rattle.sheet.proofs.right.is_header.Lts as lts
-use Rattle.octets.proofs.read_be.Reads as read-be-reads
 
 read-be-requires : tie.Need-read-be-requires
 read-be-requires c κs = search needs

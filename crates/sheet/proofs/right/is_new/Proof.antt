@@ -1,7 +1,7 @@
 -- `right::is_new` meets its contract. The invariant: what is gathered says it of the first j keys. Assumes nothing.
 use Prim.Native.Nat.{_≤_, _-_}
-use mathlib.Core.Bool.{not, _&&_}
-use mathlib.Core.Path.{_≡_, sym, _∙_, ap}
+use mathlib.Core.Bool.{not}
+use mathlib.Core.Path.{_≡_, sym}
 use native.Mathlib.Omega.{arith}
 use lib.Dec.{eqb}
 use lib.ListN.{getD}
@@ -9,8 +9,6 @@ use Rattle.octets.specs.Octets.{all}
 use Rattle.octets.proofs.Laws.{all-none, all-next}
 use Rattle.sheet.proofs.right.is_new.Statement.{statement}
 use Rattle.sheet.proofs.right.is_new.Tie as tie
-use Rattle.sheet.proofs.right.is_new.Reads as reads
-use Rattle.sheet.proofs.right.is_new.Lts as lts
 
 abbrev Inv-loop : tie.InvT-loop
 Inv-loop keys n key new₀ j₀ new j = (j ≤ n) × (new ≡ all j (λ k. not (eqb (getD keys k 0) key)))

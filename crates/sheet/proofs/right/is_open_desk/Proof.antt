@@ -1,20 +1,13 @@
 -- `right::is_open_desk` meets its contract. Assumes nothing.
 use Rattle.sheet.specs.Sheet.{deskAt, deskRowAt}
-use mathlib.Core.Path.{_∙_, sym}
 use Rattle.sheet.proofs.Ranges.{and-false, and-assoc}
 use Rattle.sheet.proofs.Clauses.{open-parts}
-use Prim.Native.Nat.{_+_, _*_}
+use Prim.Native.Nat.{_+_}
 use native.Mathlib.Omega.{arith}
-use borrow.Author.Tests.{lt-ltb, le-ltb, eq-eqb}
-use Rattle.sheet.specs.Sheet.{deskMarked, openNames}
+use borrow.Author.Tests.{lt-ltb, le-ltb}
 use borrow.Author.Needs.{needs}
 use Rattle.sheet.proofs.right.is_open_desk.Statement.{statement}
 use Rattle.sheet.proofs.right.is_open_desk.Tie as tie
-use Rattle.sheet.proofs.right.is_open_desk.Reads as reads
-use Rattle.sheet.proofs.right.is_open_desk.Lts as lts
-use Rattle.octets.proofs.is_same.Reads as is-same-reads
-use Rattle.octets.proofs.is_zero.Reads as is-zero-reads
-use Rattle.sheet.proofs.right.rows_used.Reads as rows-used-reads
 
 mul-a : tie.Need-mul-a
 mul-a c = search needs

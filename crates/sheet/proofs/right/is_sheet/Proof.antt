@@ -7,12 +7,6 @@ use Rattle.sheet.proofs.Clauses.{header-few}
 use borrow.Author.Needs.{needs}
 use Rattle.sheet.proofs.right.is_sheet.Statement.{statement}
 use Rattle.sheet.proofs.right.is_sheet.Tie as tie
-use Rattle.sheet.proofs.right.is_sheet.Reads as reads
-use Rattle.sheet.proofs.right.is_sheet.Lts as lts
-use Rattle.sheet.proofs.right.are_desks.Reads as are-desks-reads
-use Rattle.sheet.proofs.right.are_keys.Reads as are-keys-reads
-use Rattle.sheet.proofs.right.is_header.Reads as is-header-reads
-use Rattle.sheet.proofs.right.is_unused_zero.Reads as is-unused-zero-reads
 
 returns : tie.Need-returns
 unfolding right

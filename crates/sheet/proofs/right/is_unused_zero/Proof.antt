@@ -7,10 +7,6 @@ use Rattle.sheet.proofs.Ranges.{zero-rows}
 use borrow.Author.Needs.{needs}
 use Rattle.sheet.proofs.right.is_unused_zero.Statement.{statement}
 use Rattle.sheet.proofs.right.is_unused_zero.Tie as tie
-use Rattle.sheet.proofs.right.is_unused_zero.Reads as reads
-use Rattle.sheet.proofs.right.is_unused_zero.Lts as lts
-use Rattle.octets.proofs.is_zero.Reads as is-zero-reads
-use Rattle.sheet.proofs.right.rows_used.Reads as rows-used-reads
 
 rows-used-requires : tie.Need-rows-used-requires
 rows-used-requires c κs = search needs
