@@ -11,6 +11,7 @@ use lib.ListN.{length, getD, set, replicate, length-set}
 use lib.Seq.{getD-set-same, getD-set-other}
 use borrow.Author.Tests.{ltb-true, ltb-false, lt-ltb, eqb-true, eqb-false, not-true, not-false}
 use Rattle.refusals.specs.Judge.{Row, _when_, verdict}
+use Rattle.refusals.proofs.Judged.{NoneHolds, Numbered, verdict-none}
 use Rattle.keys.specs.Key.{validKey}
 use Rattle.model.specs.Positions.{rowLength, Positions, noTicks, same, position}
 use Rattle.model.specs.Book.{Place, free, row, Desk, closed, working, Book, place, desk, putPlace, putDesk, isFree, ticksOf, withTicks, isDesk, isOpen, hasKey, placeWith, allUsed, lowestFree, positionAt}
@@ -26,8 +27,9 @@ use Rattle.sheet.specs.Sheet.{sheetSize, rowSize, rowCount, ticksSize, openedAt
 use Rattle.sheet.specs.Rows.{rowBytes, blankTicks}
 use Rattle.sheet.specs.Bytes.{Outcome, judged, rowWith, enrolAt, enrolCall, findCall, openDesk, openAt, openCall, clearDesk, dropCall, workedCopy, markDesk, markCall, isCurrent, stored, saveAt, saveCall, reportCall, gapCall}
 use Rattle.sheet.specs.Bytes as Bytes
+use Rattle.sheet.proofs.Puts.{put-same}
+use Rattle.sheet.proofs.Calls as Judged
 use Rattle.layout.specs.Layout.{bitsValue, tickBytes, placeBytes, deskBytes, countUsed, laid, layout, call, report, laidOut}
-use Rattle.layout.proofs.Parts.{put-same}
 use Rattle.layout.proofs.Rows.{cond-same, length-place, row-same, mark-law}
 use Rattle.layout.proofs.Places.{header-put, copy, worked-put, Shape, shape, length-layout, row-part, desk-put, row-put, desk-put-in, closed-law}
 use Rattle.layout.proofs.Used.{lowest-free, all-used, count-same, count-next, has-law, find-law, report-law, gap-law}
@@ -40,30 +42,16 @@ pub not-right : (s : List ℕ) (rows : List Row) (outcome : Outcome) → right s
 unfolding judged verdict
 not-right s rows outcome e = rw e
 
--- what is known where no row refuses
-abbrev Positive : List Row → Type 0
-Positive [] = Unit {0}
-Positive ((number when condition) ∷ rows) = (0 < number) × Positive rows
-
-abbrev Passed : List Row → Type 0
-Passed [] = Unit {0}
-Passed ((number when condition) ∷ rows) = (condition ≡ false) × Passed rows
-
-passed : (rows : List Row) → Positive rows → verdict rows ≡ 0 → Passed rows
-unfolding verdict
-passed [] p e = tt
-passed ((number when true) ∷ rows) p e = absurd (omega (arith, p .0))
-passed ((number when false) ∷ rows) p e = (refl, passed rows (p .1) e)
-
-positive : (c : Call) (b : Book) → Positive (refusals c b)
+-- no row of the model's has the number 0
+numbered : (c : Call) (b : Book) → Numbered (refusals c b)
 unfolding refusals
-positive (Enrol key first) b = (lit< tt, (lit< tt, (lit< tt, tt)))
-positive (Find key) b = (lit< tt, (lit< tt, tt))
-positive (Open d r) b = (lit< tt, (lit< tt, (lit< tt, tt)))
-positive (Mark true d n) b = (lit< tt, (lit< tt, (lit< tt, (lit< tt, tt))))
-positive (Mark false d n) b = (lit< tt, (lit< tt, (lit< tt, (lit< tt, tt))))
-positive (Save d) b = (lit< tt, (lit< tt, (lit< tt, tt)))
-positive (Drop d) b = (lit< tt, (lit< tt, tt))
+numbered (Enrol key first) b = (lit< tt, (lit< tt, (lit< tt, tt)))
+numbered (Find key) b = (lit< tt, (lit< tt, tt))
+numbered (Open d r) b = (lit< tt, (lit< tt, (lit< tt, tt)))
+numbered (Mark true d n) b = (lit< tt, (lit< tt, (lit< tt, (lit< tt, tt))))
+numbered (Mark false d n) b = (lit< tt, (lit< tt, (lit< tt, (lit< tt, tt))))
+numbered (Save d) b = (lit< tt, (lit< tt, (lit< tt, tt)))
+numbered (Drop d) b = (lit< tt, (lit< tt, tt))
 
 both : (x y : Bool) → (x ≡ true → y ≡ true) → (y ≡ true → x ≡ true) → x ≡ y
 both true y f g = sym (f refl)
@@ -85,10 +73,10 @@ module _ (b : Book) (ok : WellFormed b) where
 
   -- a call whose rows are the model's, and which leaves the sheet where it is refused
   by-rows : (c : Call) (rows : List Row) (outcome : Outcome) → verdict rows ≡ verdict (refusals c b) → ((number : ℕ) → afterRefusal number c b ≡ b)
-      → (Passed (refusals c b) → outcome ≡ laidOut (answerWords (effect c b .answer), effect c b .book))
+      → (NoneHolds (refusals c b) → outcome ≡ laidOut (answerWords (effect c b .answer), effect c b .book))
       → judged ((20 when not (right s)) ∷ rows) outcome s ≡ laidOut (call c b)
   unfolding judged verdict step
-  by-rows c rows outcome e stays h = rw (layout-right b ok, e) (by (verdict (refusals c b)) (eqb (verdict (refusals c b)) 0) refl (λ v. h (passed (refusals c b) (positive c b) v)))
+  by-rows c rows outcome e stays h = rw (layout-right b ok, e) (by (verdict (refusals c b)) (eqb (verdict (refusals c b)) 0) refl (λ v. h (verdict-none (refusals c b) (numbered c b) v)))
     where
       by : (v : ℕ) (t : Bool) → eqb v 0 ≡ t → (v ≡ 0 → outcome ≡ laidOut (answerWords (effect c b .answer), effect c b .book))
           → let g = cond t (effect c b) (reply (refused v) (afterRefusal v c b)) in
@@ -288,9 +276,9 @@ module _ (b : Book) (ok : WellFormed b) where
         by false = ap (λ (x : List ℕ). (31 ∷ [], x)) (clear-law b (shape ok) d (o .there))
 
   pub mark-call : (flag : Bool) (d number : ℕ) → markCall flag d number s ≡ laidOut (call (Mark flag d number) b)
-  unfolding markCall
   mark-call flag d number =
-      by-desk d (markDesk flag d number s) (step (Mark flag d number) b) (mark-no-desk b flag d number)
+      sym (Judged.mark-call flag d number s)
+      ∙ by-desk d (markDesk flag d number s) (step (Mark flag d number) b) (mark-no-desk b flag d number)
       (λ t x. mark-closed b d t flag number x) (λ r opened worked t q. mark-open d r opened worked q flag number t)
 
   pub save-call : (d : ℕ) → saveCall d s ≡ laidOut (call (Save d) b)

@@ -68,14 +68,6 @@ put-within s a m j v l h =
     ∙ (simp append-assoc (simp append-assoc at (sym (ap (λ (t : List ℕ). p ++ (t ++ q)) inner))))
     ∙ sym (ap (λ (t : List ℕ). put t a (put c j v)) split-s ∙ put-seam p c q (put c j v) a lp same)
 
--- a part put in again where it stands
-pub put-same : (s : List ℕ) (a n : ℕ) → a + n ≤ length s → put s a (part s a n) ≡ s
-put-same s a n h =
-    let split = part-split s a n in
-    ap (λ (t : List ℕ). put t a (part s a n)) split
-    ∙ put-seam (take a s) (part s a n) (drop n (drop a s)) (part s a n) a (length-take-le a s (omega arith)) refl
-    ∙ sym split
-
 -- what is put into the first of two lists
 pub put-first : (s t : List ℕ) (a : ℕ) (v : List ℕ) → a + length v ≤ length s → put (s ++ t) a v ≡ put s a v ++ t
 unfolding put

@@ -17,6 +17,7 @@ use Rattle.octets.proofs.Laws.{length-bytesOf, part-at}
 use Rattle.octets.proofs.Parts.{number-first, number-bytes, part-first}
 use Rattle.sheet.specs.Sheet.{sheetSize, rowSize, rowCount, rowsStart, deskZerosAt, deskZerosSize, openedAt, workedAt, deskSize, deskCount, desksStart, headerNumberSize, usedAt, rowAt, deskAt, headerNumber, used, isClosed}
 use Rattle.sheet.specs.Bytes.{headerBytes, openDesk}
+use Rattle.sheet.proofs.Written.{length-header}
 use Rattle.layout.specs.Layout.{placeBytes, deskBytes, countUsed, laid, layout}
 use Rattle.layout.proofs.Parts.{part-seam, put-seam, number-within, part-within, put-within, put-first}
 use Rattle.layout.proofs.Chunks.{length-laid, part-laid, put-laid, laid-same}
@@ -33,10 +34,6 @@ header-laid n = simp (append-assoc, append-nil)
 
 length-number : (v : ℕ) → length (bytesOf headerNumberSize v) ≡ headerNumberSize
 length-number v = length-bytesOf headerNumberSize v
-
-pub length-header : (n : ℕ) → length (headerBytes n) ≡ rowsStart
-unfolding headerBytes
-length-header n = simp (length-append, length-bytesOf)
 
 -- number k of the header
 pub header-number : (n k v : ℕ) (rows desks : List ℕ) → k < length (headerNumbers n) → getD (headerNumbers n) k 0 ≡ v → v < 256 ^ headerNumberSize

@@ -22,6 +22,7 @@ use Rattle.octets.proofs.Parts.{number-first, number-second, number-bytes, byte
 use Rattle.sheet.specs.Sheet.{keySize, firstAt, firstSize, ticksAt, ticksSize, rowSize, byteBits, keyAt, firstNumberAt}
 use Rattle.sheet.specs.Rows.{tickByteAt, tickBit, tickedAt, setTick, clearTick, ticksOf, rowBytes}
 use Rattle.sheet.specs.Bytes.{judged, marked, markRows, markPosition, markRow}
+use Rattle.sheet.proofs.ReadBack.{length-row, row-key, row-first, row-ticks}
 use Rattle.layout.specs.Layout.{bit, tickBytes, placeBytes}
 use Rattle.layout.proofs.Parts.{part-seam, number-within, part-within}
 use Rattle.layout.proofs.Ticks.{test-bit, length-ticks, tick-at, tick-set, tick-clear, ticks-bytes, ticks-read}
@@ -42,26 +43,6 @@ module _ (key first : ℕ) (ts : List ℕ) where
 
   length-head : length head ≡ ticksAt
   length-head = simp (length-append, length-bytesOf)
-
-  row-key : validKey key ≡ true → numberAt (rowBytes key first ts) 0 keySize ≡ key
-  unfolding rowBytes
-  row-key h =
-      let l = length-head in
-      number-first head ts 0 keySize (omega arith)
-      ∙ number-first (bytesOf keySize key) (bytesOf firstSize first) 0 keySize (omega (arith, length-bytesOf keySize key))
-      ∙ number-bytes keySize key (lt-trans (below-valid key h) (lit< tt))
-
-  row-first : first < 256 ^ firstSize → numberAt (rowBytes key first ts) firstAt firstSize ≡ first
-  unfolding rowBytes
-  row-first h =
-      let l = length-head in
-      number-first head ts firstAt firstSize (omega arith)
-      ∙ number-second (bytesOf keySize key) (bytesOf firstSize first) firstAt 0 firstSize (omega (arith, length-bytesOf keySize key))
-      ∙ number-bytes firstSize first h
-
-  row-ticks : length ts ≡ ticksSize → part (rowBytes key first ts) ticksAt ticksSize ≡ ts
-  unfolding rowBytes
-  row-ticks h = ap (λ (t : List ℕ). part (head ++ t) ticksAt ticksSize) (sym (append-nil ts)) ∙ part-seam head ts [] ticksAt ticksSize length-head h
 
   -- the key and the first number
   row-head : part (rowBytes key first ts) 0 ticksAt ≡ head
@@ -88,9 +69,9 @@ module _ (key first : ℕ) (ts : List ℕ) where
 -- ---- places
 
 pub length-place : (p : Place) → length (placeBytes p) ≡ rowSize
-unfolding placeBytes rowBytes
+unfolding placeBytes
 length-place free = length-replicate {A = ℕ} rowSize 0
-length-place (row key first ticks) = simp (length-append, length-bytesOf, length-ticks)
+length-place (row key first ticks) = length-row key first (tickBytes ticksSize ticks) (length-ticks ticksSize ticks)
 
 -- what the row at offset a says
 pub record Says (s : List ℕ) (a : ℕ) (key first : ℕ) (ticks : Positions) : Type 0 where
@@ -105,7 +86,7 @@ unfolding placeBytes
 row-says s a key first ticks ok e =
     let ts = tickBytes ticksSize ticks in
     record {
-      key-is = sym (number-within s a rowSize 0 keySize a (add-zero a) (omega arith)) ∙ ap (λ (t : List ℕ). numberAt t 0 keySize) e ∙ row-key key first ts (ok .0);
+      key-is = sym (number-within s a rowSize 0 keySize a (add-zero a) (omega arith)) ∙ ap (λ (t : List ℕ). numberAt t 0 keySize) e ∙ row-key key first ts (lt-trans (below-valid key (ok .0)) (lit< tt));
       first-is = sym (number-within s a rowSize firstAt firstSize (a + firstAt) refl (omega arith)) ∙ ap (λ (t : List ℕ). numberAt t firstAt firstSize) e ∙ row-first key first ts (ok .1);
       ticks-are = ticks-read s a ticks (ok .2)
           (sym (part-within s a rowSize ticksAt ticksSize (a + ticksAt) refl (omega arith)) ∙ ap (λ (t : List ℕ). part t ticksAt ticksSize) e ∙ row-ticks key first ts (length-ticks ticksSize ticks));
