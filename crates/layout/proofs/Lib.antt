@@ -7,3 +7,5 @@ pub mod Used
 pub mod Right
 pub mod Read
 pub mod Calls
+pub mod Sheets
+pub mod Demand3

@@ -14,7 +14,7 @@ use Rattle.model.specs.Book.{Place, free, row, Desk, closed, working, Book, pla
 use Rattle.model.specs.WellFormed.{WellFormed}
 use Rattle.octets.specs.Octets.{numberAt, bytesOf, part, put}
 use Rattle.octets.proofs.Laws.{length-bytesOf, part-at}
-use Rattle.octets.proofs.Parts.{number-first, number-bytes, part-first}
+use Rattle.octets.proofs.Parts.{number-first, number-bytes, part-first, part-whole}
 use Rattle.sheet.specs.Sheet.{sheetSize, rowSize, rowCount, rowsStart, deskZerosAt, deskZerosSize, openedAt, workedAt, deskSize, deskCount, desksStart, headerNumberSize, usedAt, rowAt, deskAt, headerNumber, used, isClosed}
 use Rattle.sheet.specs.Bytes.{headerBytes, openDesk}
 use Rattle.sheet.proofs.Written.{length-header}
@@ -132,6 +132,13 @@ module _ (b : Book) (ok : Shape b) where
   unfolding layout
   length-layout =
       rw (length-append, length-laid deskSize (deskBytes (b .places)) (length-desk (b .places)) (b .desks)) (omega (arith, length-front, ok .desks-count))
+
+  -- what stands before the desks
+  pub front-part : part (layout b) 0 desksStart ≡ header ++ rows
+  unfolding layout
+  front-part =
+      let l = length-front in
+      part-first (header ++ rows) desks 0 desksStart (omega arith) ∙ part-whole (header ++ rows) desksStart l
 
   pub row-part : (r : ℕ) → r < rowCount → part (layout b) (rowAt r) rowSize ≡ placeBytes (place b r)
   unfolding layout

@@ -4,12 +4,12 @@
 use Prim.Native.Nat.{ℕ, zero, suc, _+_, _*_}
 use mathlib.Core.Bool.{Bool, true, false, cond}
 use mathlib.Core.List.{List, [], _∷_, _++_}
-use lib.Dec.{ltb}
-use lib.ListN.{getD, take, drop, replicate}
+use lib.Dec.{eqb, ltb}
+use lib.ListN.{length, getD, take, drop, replicate}
 use Rattle.model.specs.Positions.{Positions}
-use Rattle.model.specs.Book.{Place, free, row, Desk, closed, working, Book, withTicks}
+use Rattle.model.specs.Book.{Place, free, row, Desk, closed, working, Book, fresh, withTicks}
 use Rattle.model.specs.Step.{Call, answerWords, step}
-use Rattle.sheet.specs.Sheet.{rowSize, rowCount, ticksSize, byteBits, openedAt, workedAt, deskSize, deskCount, rowAt, deskAt, used, keyAt, firstNumberAt, deskRow, isClosed, right}
+use Rattle.sheet.specs.Sheet.{sheetSize, rowSize, rowCount, ticksSize, byteBits, openedAt, workedAt, deskSize, deskCount, rowAt, deskAt, used, keyAt, firstNumberAt, deskRow, isClosed, right}
 use Rattle.sheet.specs.Rows.{table, ticksOf, rowBytes}
 use Rattle.sheet.specs.Bytes.{Outcome, headerBytes, openDesk}
 
@@ -83,3 +83,7 @@ laidOut r = (r .0, layout (r .1))
 -- Not a right sheet: 20, and unchanged. A right one: the model's call on the book that it holds, laid out again.
 unfoldable pub onSheet : (Book → List ℕ × Book) → List ℕ → Outcome
 onSheet f s = cond (right s) (laidOut (f (bookOf s))) (20 ∷ [], s)
+
+-- "The call that makes a fresh sheet judges only the slice's length (20)."
+unfoldable pub freshOn : List ℕ → Outcome
+freshOn s = cond (eqb (length s) sheetSize) (0 ∷ [], layout fresh) (20 ∷ [], s)
