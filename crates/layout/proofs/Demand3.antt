@@ -8,6 +8,7 @@ use lib.ListN.{length}
 use Rattle.octets.specs.Octets.{part}
 use Rattle.octets.proofs.Parts.{part-first, part-whole}
 use Rattle.refusals.specs.Table.{numberOf}
+use Rattle.refusals.proofs.Laws.{number-positive}
 use Rattle.model.specs.Book.{Book, idle, fresh}
 use Rattle.model.specs.Step.{Call, Answer, done, atRow, refused, answerWords, step, Entry, _⇒_, callOf, run}
 use Rattle.model.specs.WellFormed.{WellFormed, InRange, AllInRange}
@@ -19,8 +20,13 @@ use Rattle.model.proofs.Laws.{Proper, words-injective, step-proper}
 use Rattle.model.proofs.Claim.{chain-claim}
 use Rattle.sheet.specs.Sheet.{desksStart}
 use Rattle.sheet.specs.Bytes.{freshSheet}
+use Rattle.sheet.specs.Words as Words
+use Rattle.sheet.specs.declared.Answer as sheet
+use Rattle.sheet.specs.declared.Answer.the-variants as A
+use Rattle.sheet.specs.declared.RowAnswer.{RowAnswer}
+use Rattle.sheet.specs.declared.RowAnswer.the-variants as R
 use Rattle.layout.specs.Layout.{layout, call, laidOut, onSheet}
-use Rattle.layout.specs.Demand3.{Meets, headerAndRows, Demand3}
+use Rattle.layout.specs.Demand3.{answerOf, rowAnswerOf, Meets, headerAndRows, Demand3}
 use Rattle.layout.proofs.Places.{shape, front-part}
 use Rattle.layout.proofs.Sheets.{fresh-layout, on-layout}
 
@@ -46,6 +52,15 @@ improper (refused number) h e = h (cc)
 
 model-meets : (c : Call) (b : Book) → WellFormed b → Meets c (layout b) (step c b .answer) (layout (step c b .book))
 model-meets c b ok = (improper (step c b .answer) (step-proper c b), sym (on-layout (call c) b ok))
+
+-- What a contract says, with the answer as the function's enum.
+pub answer-meets : (c : Call) (s : List ℕ) (r : sheet.Answer) (t : List ℕ) → (Words.answerWords r, t) ≡ onSheet (call c) s → Meets c s (answerOf r) t
+answer-meets c s A.Done t e = (improper done tt, e)
+answer-meets c s (A.Refused q) t e = (improper (refused (numberOf q)) (number-positive q), e)
+
+pub row-answer-meets : (c : Call) (s : List ℕ) (r : RowAnswer) (t : List ℕ) → (Words.rowWords r, t) ≡ onSheet (call c) s → Meets c s (rowAnswerOf r) t
+row-answer-meets c s (R.Row row) t e = (improper (atRow row) tt, e)
+row-answer-meets c s (R.Refused q) t e = (improper (refused (numberOf q)) (number-positive q), e)
 
 -- ---- a list of calls
 
