@@ -1,21 +1,20 @@
 -- Each call on the layout of a well-formed book is the model's call, laid out. Assumes nothing.
-use Prim.Native.Nat.{ℕ, zero, suc, _+_, _<_, _≤_}
+use Prim.Native.Nat.{ℕ, _+_, _<_, _≤_}
 use native.Mathlib.Nat.{zero-add}
 use native.Mathlib.Numerals.{add-one}
 use native.Mathlib.Omega.{arith}
-use mathlib.Core.Bool.{Bool, true, false, cond, not, Bool·not-not, true≢false, false≢true}
-use mathlib.Core.List.{List, [], _∷_, _++_}
-use mathlib.Core.Path.{_≡_, refl, sym, ap, subst, _∙_}
+use mathlib.Core.Bool.{Bool, true, false, cond, not, Bool·not-not, false≢true}
+use mathlib.Core.List.{List, [], _∷_}
+use mathlib.Core.Path.{_≡_, refl, sym, ap, _∙_}
 use lib.Dec.{eqb, ltb, lit<}
-use lib.ListN.{length, getD, set, replicate, length-set}
-use lib.Seq.{getD-set-same, getD-set-other}
-use borrow.Author.Tests.{ltb-true, ltb-false, lt-ltb, eqb-true, eqb-false, not-true, not-false}
+use lib.ListN.{length, getD, set, length-set}
+use lib.Seq.{getD-set-other}
+use borrow.Author.Tests.{ltb-true, eqb-true, eqb-false, not-false}
 use Rattle.refusals.specs.Judge.{Row, _when_, verdict}
 use Rattle.refusals.proofs.Judged.{NoneHolds, Numbered, verdict-none}
-use Rattle.keys.specs.Key.{validKey}
-use Rattle.model.specs.Positions.{rowLength, Positions, noTicks, same, position}
-use Rattle.model.specs.Book.{Place, free, row, Desk, closed, working, Book, place, desk, putPlace, putDesk, isFree, ticksOf, withTicks, isDesk, isOpen, hasKey, placeWith, allUsed, lowestFree, positionAt}
-use Rattle.model.specs.Step.{Call, Enrol, Find, Open, Mark, Save, Drop, done, atRow, refused, answerWords, Reply, reply, refusals, effect, afterRefusal, step}
+use Rattle.model.specs.Positions.{Positions, noTicks, same, position}
+use Rattle.model.specs.Book.{Place, free, row, Desk, closed, working, Book, place, desk, putPlace, putDesk, isFree, ticksOf, withTicks, isDesk, isOpen, hasKey, placeWith, allUsed, positionAt}
+use Rattle.model.specs.Step.{Call, Enrol, Find, Open, Mark, Save, Drop, done, refused, answerWords, Reply, reply, refusals, effect, afterRefusal, step}
 use Rattle.model.specs.WellFormed.{WellFormed, PlaceOk}
 use Rattle.model.specs.Counts.{rowReport, firstGap}
 use Rattle.model.proofs.Basics.{same-true, same-refl}
@@ -23,15 +22,15 @@ use Rattle.model.proofs.Basics as Basics
 use Rattle.model.proofs.Steps.{markVerdict, mark-step, save-step, mark-closed, save-closed, mark-no-desk, save-no-desk}
 use Rattle.octets.specs.Octets.{bytesOf, part, put, sameAt}
 use Rattle.octets.proofs.Parts.{same-part, part-same}
-use Rattle.sheet.specs.Sheet.{sheetSize, rowSize, rowCount, ticksSize, openedAt, workedAt, deskSize, deskCount, headerNumberSize, usedAt, rowAt, deskAt, used, keyAt, deskRow, isClosed, right}
+use Rattle.sheet.specs.Sheet.{sheetSize, rowSize, rowCount, openedAt, workedAt, deskCount, headerNumberSize, usedAt, rowAt, deskAt, used, isClosed, right}
 use Rattle.sheet.specs.Rows.{rowBytes, blankTicks}
-use Rattle.sheet.specs.Bytes.{Outcome, judged, rowWith, enrolAt, enrolCall, findCall, openDesk, openAt, openCall, clearDesk, dropCall, workedCopy, markDesk, markCall, isCurrent, stored, saveAt, saveCall, reportCall, gapCall}
+use Rattle.sheet.specs.Bytes.{Outcome, judged, rowWith, enrolAt, enrolCall, findCall, openDesk, openAt, openCall, clearDesk, dropCall, markDesk, markCall, isCurrent, stored, saveAt, saveCall, reportCall, gapCall}
 use Rattle.sheet.specs.Bytes as Bytes
 use Rattle.sheet.proofs.Puts.{put-same}
 use Rattle.sheet.proofs.Calls as Judged
-use Rattle.layout.specs.Layout.{bitsValue, tickBytes, placeBytes, deskBytes, countUsed, laid, layout, call, report, laidOut}
-use Rattle.layout.proofs.Rows.{cond-same, length-place, row-same, mark-law}
-use Rattle.layout.proofs.Places.{header-put, copy, worked-put, Shape, shape, length-layout, row-part, desk-put, row-put, desk-put-in, closed-law}
+use Rattle.layout.specs.Layout.{bitsValue, tickBytes, placeBytes, deskBytes, countUsed, layout, call, report, laidOut}
+use Rattle.layout.proofs.Rows.{length-place, row-same, mark-law}
+use Rattle.layout.proofs.Places.{header-put, worked-put, Shape, shape, length-layout, row-part, desk-put, row-put, desk-put-in, closed-law}
 use Rattle.layout.proofs.Used.{lowest-free, all-used, count-same, count-next, has-law, find-law, report-law, gap-law}
 use Rattle.layout.proofs.Right.{n, in-order, few, used-is, row-used, row-read, OpenDesk, open-read, layout-right}
 

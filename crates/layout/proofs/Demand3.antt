@@ -1,31 +1,27 @@
 -- Demand 3 of every list of calls on a fresh sheet. Assumes nothing.
 use Prim.Native.Nat.{ℕ}
 use native.Mathlib.Omega.{arith}
-use mathlib.Core.List.{List, [], _∷_, _++_, map}
+use mathlib.Core.List.{List, [], _∷_, map}
 use mathlib.Core.Logic.{_≢_}
-use mathlib.Core.Path.{_≡_, refl, sym, ap, subst, _∙_}
-use lib.ListN.{length}
-use Rattle.octets.specs.Octets.{part}
-use Rattle.octets.proofs.Parts.{part-first, part-whole}
+use mathlib.Core.Path.{_≡_, refl, sym, ap, _∙_}
 use Rattle.refusals.specs.Table.{numberOf}
 use Rattle.refusals.proofs.Laws.{number-positive}
 use Rattle.model.specs.Book.{Book, idle, fresh}
-use Rattle.model.specs.Step.{Call, Answer, done, atRow, refused, answerWords, step, Entry, _⇒_, callOf, run}
+use Rattle.model.specs.Step.{Call, Answer, done, atRow, refused, answerWords, step, Entry, callOf, run}
 use Rattle.model.specs.WellFormed.{WellFormed, InRange, AllInRange}
 use Rattle.model.specs.Chain.{Chain, stop, next}
-use Rattle.model.specs.Claim.{Claim, bookAfter}
+use Rattle.model.specs.Claim.{bookAfter}
 use Rattle.model.proofs.Outcome.{outcome}
 use Rattle.model.proofs.WellFormed.{well-formed, fresh-well-formed, run-well-formed}
 use Rattle.model.proofs.Laws.{Proper, words-injective, step-proper}
 use Rattle.model.proofs.Claim.{chain-claim}
-use Rattle.sheet.specs.Sheet.{desksStart}
 use Rattle.sheet.specs.Bytes.{freshSheet}
 use Rattle.sheet.specs.Words as Words
 use Rattle.sheet.specs.declared.Answer as sheet
 use Rattle.sheet.specs.declared.Answer.the-variants as A
 use Rattle.sheet.specs.declared.RowAnswer.{RowAnswer}
 use Rattle.sheet.specs.declared.RowAnswer.the-variants as R
-use Rattle.layout.specs.Layout.{layout, call, laidOut, onSheet}
+use Rattle.layout.specs.Layout.{layout, call, onSheet}
 use Rattle.layout.specs.Demand3.{answerOf, rowAnswerOf, Meets, headerAndRows, Demand3}
 use Rattle.layout.proofs.Places.{shape, front-part}
 use Rattle.layout.proofs.Sheets.{fresh-layout, on-layout}

@@ -1,11 +1,10 @@
 -- Parts of parts, and a part that is put into a part. Each law once, over the width. Assumes nothing.
-use Prim.Native.Nat.{ℕ, zero, suc, _+_, _≤_, _<_}
-use native.Mathlib.Nat.{add-zero}
+use Prim.Native.Nat.{ℕ, zero, suc, _+_, _≤_}
 use native.Mathlib.Omega.{arith}
 use mathlib.Core.List.{List, [], _∷_, _++_, append-assoc}
 use mathlib.Core.Path.{_≡_, refl, sym, ap, _∙_}
-use lib.ListN.{length, getD, take, drop, length-append, length-drop, take-append-drop}
-use lib.Seq.{take-at, drop-at, drop-append-add, take-take, drop-drop, take-add, take-append-le, drop-append-le, length-take-le, take-nil}
+use lib.ListN.{length, take, drop, length-append, take-append-drop}
+use lib.Seq.{take-at, drop-at, drop-append-add, take-take, drop-drop, take-append-le, drop-append-le, length-take-le, take-nil}
 use Rattle.octets.specs.Octets.{numberAt, part, put}
 use Rattle.octets.proofs.Laws.{length-part, part-at}
 

@@ -1,21 +1,21 @@
 -- Where the parts of a book stand in its layout: the header's numbers, the rows, the desks; each read, and each put. Assumes
 -- nothing.
-use Prim.Native.Nat.{ℕ, zero, suc, _+_, _*_, _^_, _<_, _≤_}
+use Prim.Native.Nat.{ℕ, _+_, _*_, _^_, _<_, _≤_}
 use native.Mathlib.Nat.{add-zero}
 use native.Mathlib.Omega.{arith}
 use mathlib.Core.Bool.{Bool, true, false, not}
 use mathlib.Core.List.{List, [], _∷_, _++_, append-nil, append-assoc}
 use mathlib.Core.Path.{_≡_, refl, sym, ap, _∙_}
-use lib.Dec.{ltb, eqb}
+use lib.Dec.{ltb}
 use lib.ListN.{length, getD, set, replicate, length-append, length-replicate, List·getD-eq-default}
 use borrow.Author.Tests.{ltb-true, ltb-false}
 use Rattle.model.specs.Positions.{Positions}
-use Rattle.model.specs.Book.{Place, free, row, Desk, closed, working, Book, place, desk, putPlace, putDesk, withTicks, isOpen}
+use Rattle.model.specs.Book.{Place, free, Desk, closed, working, Book, place, desk, putDesk, withTicks, isOpen}
 use Rattle.model.specs.WellFormed.{WellFormed}
 use Rattle.octets.specs.Octets.{numberAt, bytesOf, part, put}
 use Rattle.octets.proofs.Laws.{length-bytesOf, part-at}
 use Rattle.octets.proofs.Parts.{number-first, number-bytes, part-first, part-whole}
-use Rattle.sheet.specs.Sheet.{sheetSize, rowSize, rowCount, rowsStart, deskZerosAt, deskZerosSize, openedAt, workedAt, deskSize, deskCount, desksStart, headerNumberSize, usedAt, rowAt, deskAt, headerNumber, used, isClosed}
+use Rattle.sheet.specs.Sheet.{sheetSize, rowSize, rowCount, rowsStart, deskZerosAt, deskZerosSize, openedAt, workedAt, deskSize, deskCount, desksStart, headerNumberSize, usedAt, rowAt, deskAt, headerNumber, isClosed}
 use Rattle.sheet.specs.Bytes.{headerBytes, openDesk}
 use Rattle.sheet.proofs.Written.{length-header}
 use Rattle.layout.specs.Layout.{placeBytes, deskBytes, countUsed, laid, layout}

@@ -1,32 +1,30 @@
 -- A right sheet is the layout of the book that it holds, and that book is well-formed. Assumes nothing.
-use Prim.Native.Nat.{ℕ, zero, suc, _+_, _*_, _<_, _≤_}
-use native.Mathlib.Nat.{add-zero, eq-or-lt-of-le}
+use Prim.Native.Nat.{ℕ, zero, _+_, _*_, _<_, _≤_}
+use native.Mathlib.Nat.{add-zero}
 use native.Mathlib.Omega.{arith}
-use mathlib.Core.Bool.{Bool, true, false, cond, not, _&&_, _||_, Bool·not-not}
-use mathlib.Core.Option.{Option, none, some}
+use mathlib.Core.Bool.{Bool, true, false, cond, not, _&&_, Bool·not-not}
+use mathlib.Core.Option.{some}
 use mathlib.Core.List.{List, [], _∷_, _++_}
-use mathlib.Core.Logic.{_⊎_, inl, inr, ⊎-elim}
 use mathlib.Core.Path.{_≡_, refl, sym, ap, _∙_}
 use lib.Dec.{ltb, eqb, leb}
-use lib.ListN.{length, getD, replicate, List·getD-eq-default}
+use lib.ListN.{length, getD, List·getD-eq-default}
 use lib.Seq.{drop-cons}
-use borrow.Author.Tests.{ltb-true, ltb-false, lt-ltb, le-ltb, leb-true, eqb-true, eqb-false, not-true, not-false}
-use Rattle.keys.specs.Key.{validKey}
-use Rattle.model.specs.Positions.{rowLength, Positions}
-use Rattle.model.specs.Book.{Place, free, row, Desk, closed, working, Book, place, desk, isFree, withTicks}
+use borrow.Author.Tests.{ltb-true, ltb-false, lt-ltb, le-ltb, leb-true, eqb-true, eqb-false, not-true}
+use Rattle.model.specs.Positions.{rowLength}
+use Rattle.model.specs.Book.{Place, free, row, closed, Book, place, desk, isFree, withTicks}
 use Rattle.model.specs.WellFormed.{IsSet, PlaceOk, DeskOk, keyOf, WellFormed}
-use Rattle.octets.specs.Octets.{numberAt, bytesOf, part, all, zeroAt}
+use Rattle.octets.specs.Octets.{numberAt, bytesOf, part, zeroAt}
 use Rattle.octets.proofs.Laws.{Bytes, number-lt, and-split, all-at}
-use Rattle.octets.proofs.Parts.{bytes-number, part-join, part-whole, zero-part, same-part, zero-at}
+use Rattle.octets.proofs.Parts.{bytes-number, part-join, part-whole, zero-part, same-part}
 use Rattle.sheet.specs.Sheet.{sheetSize, keySize, firstAt, firstSize, ticksAt, rowSize, rowCount, rowsStart, deskRowAt, deskZerosAt, deskZerosSize, openedAt, workedAt, deskSize, deskCount, desksStart, headerNumberSize, lengthAt, usedAt, rowCountAt, rowsStartAt, deskCountAt, desksStartAt, rowAt, deskAt, headerNumber, used, keyAt, firstNumberAt, deskByte, deskRow, isClosed, carries, headerRight, validKeys, differentKeys, unusedZero, closedZero, deskMarked, openNames, deskRight, right}
 use Rattle.sheet.specs.Rows.{table, ticksOf}
 use Rattle.sheet.specs.Bytes.{headerBytes, openDesk}
 use Rattle.sheet.proofs.Clauses.{Right, right-parts, header-few}
-use Rattle.layout.specs.Layout.{placeBytes, deskBytes, countUsed, laid, layout, placeIn, deskIn, bookOf}
+use Rattle.layout.specs.Layout.{placeBytes, deskBytes, countUsed, layout, placeIn, deskIn, bookOf}
 use Rattle.layout.proofs.Parts.{number-within}
 use Rattle.layout.proofs.Chunks.{length-table, getD-table, laid-table}
 use Rattle.layout.proofs.Rows.{row-there}
-use Rattle.layout.proofs.Used.{Ordered, ordered, used-below, count-in}
+use Rattle.layout.proofs.Used.{ordered, used-below}
 
 -- ---- parts of a list, joined
 

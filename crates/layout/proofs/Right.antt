@@ -2,30 +2,29 @@
 use Prim.Native.Nat.{ℕ, zero, suc, _+_, _*_, _^_, _<_, _≤_}
 use native.Mathlib.Nat.{add-zero}
 use native.Mathlib.Omega.{arith}
-use mathlib.Core.Bool.{Bool, true, false, cond, not, _||_, true≢false, false≢true}
-use mathlib.Core.Option.{Option, none, some}
-use mathlib.Core.List.{List, [], _∷_, _++_}
+use mathlib.Core.Bool.{true, not, _||_}
+use mathlib.Core.Option.{some}
+use mathlib.Core.List.{List, [], _∷_}
 use mathlib.Core.Path.{_≡_, refl, sym, ap, _∙_}
-use lib.Dec.{ltb, eqb, lit<}
-use lib.ListN.{length, getD, replicate, getD-replicate, List·getD-eq-default}
-use borrow.Author.Tests.{ltb-true, ltb-false, lt-ltb, le-leb, eq-eqb, ne-eqb, not-true}
+use lib.Dec.{ltb, lit<}
+use lib.ListN.{length, getD, replicate, getD-replicate}
+use borrow.Author.Tests.{ltb-true, lt-ltb, le-leb, eq-eqb, ne-eqb, not-true}
 use Rattle.keys.specs.Key.{validKey}
 use Rattle.model.specs.Positions.{Positions}
-use Rattle.model.specs.Book.{Place, free, row, Desk, closed, working, Book, place, desk, isFree, isOpen, withTicks}
+use Rattle.model.specs.Book.{Place, free, row, Desk, closed, working, Book, place, desk, isFree, withTicks}
 use Rattle.model.specs.WellFormed.{IsSet, PlaceOk, keyOf, WellFormed}
-use Rattle.model.proofs.Basics.{row-in, HasRow, has-row}
-use Rattle.octets.specs.Octets.{part, all, zeroAt}
+use Rattle.model.proofs.Basics.{row-in, has-row}
+use Rattle.octets.specs.Octets.{part, zeroAt}
 use Rattle.octets.proofs.Laws.{part-at, all-each}
 use Rattle.octets.proofs.Parts.{part-same}
-use Rattle.sheet.specs.Sheet.{sheetSize, ticksAt, rowSize, rowCount, deskRowAt, deskZerosAt, deskZerosSize, openedAt, workedAt, deskSize, deskCount, rowsStart, desksStart, headerNumberSize, rowAt, deskAt, headerNumber, used, keyAt, deskByte, deskRow, isClosed, carries, headerRight, validKeys, differentKeys, unusedZero, deskRight, right}
-use Rattle.sheet.specs.Rows.{ticksOf}
+use Rattle.sheet.specs.Sheet.{sheetSize, ticksAt, rowSize, rowCount, deskRowAt, deskZerosAt, deskZerosSize, openedAt, workedAt, deskSize, deskCount, rowsStart, desksStart, headerNumberSize, rowAt, deskAt, headerNumber, used, keyAt, deskByte, deskRow, carries, headerRight, validKeys, differentKeys, unusedZero, deskRight, right}
 use Rattle.sheet.specs.Bytes.{openDesk}
 use Rattle.sheet.proofs.Clauses.{closed-desk, open-desk, open-parts}
-use Rattle.layout.specs.Layout.{placeBytes, deskBytes, countUsed, laid, layout, placeIn, deskIn, bookOf}
+use Rattle.layout.specs.Layout.{placeBytes, deskBytes, countUsed, layout, placeIn, deskIn, bookOf}
 use Rattle.layout.proofs.Parts.{part-within}
 use Rattle.layout.proofs.Chunks.{table-is}
-use Rattle.layout.proofs.Rows.{length-place, Says, row-says, row-carries}
-use Rattle.layout.proofs.Places.{headerNumbers, header-number, copy, opened-in, worked-in, zeros-in, shape, length-layout, row-part, desk-part, desk-byte, desk-in, closed-law}
+use Rattle.layout.proofs.Rows.{Says, row-says, row-carries}
+use Rattle.layout.proofs.Places.{headerNumbers, header-number, opened-in, worked-in, zeros-in, shape, length-layout, row-part, desk-part, desk-byte, desk-in, closed-law}
 use Rattle.layout.proofs.Used.{Ordered, ordered, used-below, count-in}
 
 part-zero : (s : List ℕ) (a n : ℕ) → part s a n ≡ replicate n 0 → zeroAt s a n ≡ true

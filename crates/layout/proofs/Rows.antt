@@ -1,15 +1,14 @@
 -- A row's bytes: what is read of them is the row, and a row read from any bytes has these bytes. Assumes nothing.
-use Prim.Native.Nat.{ℕ, _+_, _-_, _/_, _^_, _<_, _≤_}
+use Prim.Native.Nat.{ℕ, _+_, _-_, _/_, _<_, _≤_}
 use native.Mathlib.Nat.{lt-trans, zero-add, suc-add, add-zero}
 use native.Mathlib.Omega.{arith}
-use mathlib.Core.Bool.{Bool, true, false, cond, not, Bool·beq}
-use mathlib.Core.List.{List, [], _∷_, _++_, append-nil, append-assoc}
+use mathlib.Core.Bool.{Bool, true, false, cond}
+use mathlib.Core.List.{List, [], _∷_, _++_}
 use mathlib.Core.Path.{_≡_, refl, sym, ap, _∙_}
 use lib.Dec.{eqb, lit<}
 use lib.ListN.{length, getD, set, length-append, length-replicate}
 use borrow.Author.Tests.{ltb-true, eqb-true}
 use Rattle.refusals.specs.Judge.{verdict}
-use Rattle.keys.specs.Key.{validKey}
 use Rattle.keys.proofs.Laws.{below-valid}
 use Rattle.model.specs.Positions.{rowLength, Positions, has, position, inRow}
 use Rattle.model.specs.Book.{Place, free, row}
@@ -18,13 +17,13 @@ use Rattle.model.proofs.Steps.{markVerdict}
 use Rattle.model.proofs.Laws.{Changes, changes}
 use Rattle.octets.specs.Octets.{numberAt, bytesOf, part}
 use Rattle.octets.proofs.Laws.{Bytes, length-bytesOf, getD-past}
-use Rattle.octets.proofs.Parts.{number-first, number-second, number-bytes, bytes-number, part-join, part-first, part-whole}
+use Rattle.octets.proofs.Parts.{bytes-number, part-join, part-first, part-whole}
 use Rattle.sheet.specs.Sheet.{keySize, firstAt, firstSize, ticksAt, ticksSize, rowSize, byteBits, keyAt, firstNumberAt}
-use Rattle.sheet.specs.Rows.{tickByteAt, tickBit, tickedAt, setTick, clearTick, ticksOf, rowBytes}
+use Rattle.sheet.specs.Rows.{tickedAt, setTick, clearTick, ticksOf, rowBytes}
 use Rattle.sheet.specs.Bytes.{judged, marked, markRows, markPosition, markRow}
 use Rattle.sheet.proofs.ReadBack.{length-row, row-key, row-first, row-ticks}
-use Rattle.layout.specs.Layout.{bit, tickBytes, placeBytes}
-use Rattle.layout.proofs.Parts.{part-seam, number-within, part-within}
+use Rattle.layout.specs.Layout.{tickBytes, placeBytes}
+use Rattle.layout.proofs.Parts.{number-within, part-within}
 use Rattle.layout.proofs.Ticks.{test-bit, length-ticks, tick-at, tick-set, tick-clear, ticks-bytes, ticks-read}
 
 -- what stands in a test's first case may use the test

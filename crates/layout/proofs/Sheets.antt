@@ -1,12 +1,12 @@
 -- A call on any slice of bytes is the model's call on the book that it holds, laid out again, where it is a right sheet, and else
 -- 20: one law for all calls, one for each report, one for a fresh sheet. Assumes nothing.
-use Prim.Native.Nat.{ℕ, _+_, _*_, _-_}
-use mathlib.Core.Bool.{Bool, true, false, cond, not}
+use Prim.Native.Nat.{ℕ, _+_, _*_}
+use mathlib.Core.Bool.{Bool, true, false, cond}
 use mathlib.Core.List.{List, [], _∷_, _++_, append-assoc}
 use mathlib.Core.Path.{_≡_, refl, sym, ap, _∙_}
 use lib.Dec.{eqb}
 use lib.ListN.{length, replicate, replicate-append-replicate}
-use Rattle.refusals.specs.Judge.{_when_, verdict}
+use Rattle.refusals.specs.Judge.{verdict}
 use Rattle.model.specs.Book.{free, closed, Book, fresh}
 use Rattle.model.specs.Step.{Call, Enrol, Find, Open, Mark, Save, Drop, step}
 use Rattle.model.specs.WellFormed.{WellFormed, InRange}
@@ -14,7 +14,7 @@ use Rattle.model.specs.Counts.{rowReport, firstGap}
 use Rattle.model.proofs.Outcome.{outcome}
 use Rattle.model.proofs.WellFormed.{well-formed}
 use Rattle.octets.proofs.Laws.{Bytes}
-use Rattle.sheet.specs.Sheet.{sheetSize, rowSize, rowCount, rowsStart, deskSize, deskCount, right}
+use Rattle.sheet.specs.Sheet.{sheetSize, rowSize, rowCount, deskSize, deskCount, right}
 use Rattle.sheet.specs.Bytes.{Outcome, judged, headerBytes, freshSheet, freshCall, enrolCall, findCall, openCall, dropCall, markCall, saveCall, reportCall, gapCall}
 use Rattle.layout.specs.Layout.{placeBytes, deskBytes, countUsed, laid, layout, bookOf, call, report, laidOut, onSheet, freshOn}
 use Rattle.layout.proofs.Chunks.{laid-zeros}
