@@ -1,9 +1,9 @@
 -- Laws of stream keys: which are valid, that a made key is, and that a key names one stream. Assumes nothing.
-use Prim.Native.Nat.{ℕ, _+_, _*_, _^_, _/_, _%_, _<_, _≤_}
+use Prim.Native.Nat.{ℕ, _+_, _^_, _/_, _%_, _-_, _<_, _≤_}
 use native.Mathlib.Omega.{arith}
 use mathlib.Core.Path.{_≡_, refl, ap}
 use mathlib.Core.Bool.{Bool, true, false, not, _&&_, _||_}
-use mathlib.Core.List.{List, [], _∷_}
+use mathlib.Core.List.{[], _∷_}
 use lib.Dec.{leb, ltb}
 use borrow.Author.Tests.{ltb-true, ltb-false, lt-ltb, le-leb}
 use Rattle.refusals.specs.Judge.{_when_, verdict}
@@ -16,7 +16,7 @@ use Rattle.keys.specs.Stream.{Stream, telemetry, rsr, keyCall}
 
 -- ---- the widths
 
-and-true : (x y : Bool) → (x && y) ≡ true → (x ≡ true) × (y ≡ true)
+pub and-true : (x y : Bool) → (x && y) ≡ true → (x ≡ true) × (y ≡ true)
 and-true true y e = (refl, e)
 and-true false y e = (e, cc)
 
@@ -114,6 +114,39 @@ names-one (rsr a b c d) (rsr a′ b′ c′ d′) key e e′ =
     let r : c ≡ c′ = omega arith in
     let s : d ≡ d′ = omega arith in
     cc
+
+-- Every valid key names a stream: the calls make all the valid keys.
+pub record Named (key : ℕ) : Type 0 where
+  pub stream : Stream
+  pub is : keyCall stream ≡ 0 ∷ key ∷ []
+
+telemetry-named : (key : ℕ) → key < rsrStart → Named key
+unfolding telemetryKeyCall verdict
+telemetry-named key h =
+    record { stream = telemetry (key / 2 ^ 32) (key / 2 ^ 24 % 2 ^ 8) (key / 2 ^ 8 % 2 ^ 16) (key % 2 ^ 8); is = answer }
+  where
+    answer : telemetryKeyCall (key / 2 ^ 32) (key / 2 ^ 24 % 2 ^ 8) (key / 2 ^ 8 % 2 ^ 16) (key % 2 ^ 8) ≡ 0 ∷ key ∷ []
+    answer =
+        let e : telemetryKey (key / 2 ^ 32) (key / 2 ^ 24 % 2 ^ 8) (key / 2 ^ 8 % 2 ^ 16) (key % 2 ^ 8) ≡ key = omega arith in
+        rw (lt-ltb (key / 2 ^ 32) (2 ^ 10) (omega arith), lt-ltb (key / 2 ^ 24 % 2 ^ 8) (2 ^ 8) (omega arith), lt-ltb (key / 2 ^ 8 % 2 ^ 16) (2 ^ 16) (omega arith), lt-ltb (key % 2 ^ 8) (2 ^ 8) (omega arith)) (ap (λ k. 0 ∷ k ∷ []) e)
+
+rsr-named : (key : ℕ) → rsrStart ≤ key → key < rsrEnd → Named key
+unfolding rsrKeyCall verdict
+rsr-named key l h =
+    let n : ℕ = key - rsrStart in
+    record { stream = rsr (n / 2 ^ 24) (n / 2 ^ 16 % 2 ^ 8) (n / 2 ^ 8 % 2 ^ 8) (n % 2 ^ 8); is = answer (key - rsrStart) (omega arith) (omega arith) }
+  where
+    answer : (n : ℕ) → key ≡ rsrStart + n → n < 2 ^ 32 → rsrKeyCall (n / 2 ^ 24) (n / 2 ^ 16 % 2 ^ 8) (n / 2 ^ 8 % 2 ^ 8) (n % 2 ^ 8) ≡ 0 ∷ key ∷ []
+    answer n q m =
+        let e : rsrKey (n / 2 ^ 24) (n / 2 ^ 16 % 2 ^ 8) (n / 2 ^ 8 % 2 ^ 8) (n % 2 ^ 8) ≡ key = omega arith in
+        rw (lt-ltb (n / 2 ^ 24) (2 ^ 8) (omega arith), lt-ltb (n / 2 ^ 16 % 2 ^ 8) (2 ^ 8) (omega arith), lt-ltb (n / 2 ^ 8 % 2 ^ 8) (2 ^ 8) (omega arith), lt-ltb (n % 2 ^ 8) (2 ^ 8) (omega arith)) (ap (λ k. 0 ∷ k ∷ []) e)
+
+pub valid-named : (key : ℕ) → validKey key ≡ true → Named key
+valid-named key e = at (ltb key rsrStart) refl
+  where
+    at : (t : Bool) → ltb key rsrStart ≡ t → Named key
+    at true t = telemetry-named key (ltb-true key rsrStart t)
+    at false t = rsr-named key (ltb-false key rsrStart t) (below-valid key e)
 
 -- ---- answers
 

@@ -1,0 +1,38 @@
+-- Laws of a list of refusals: what is known where none applies. Assumes nothing.
+use Prim.Native.Nat.{ℕ, _<_}
+use native.Mathlib.Omega.{arith}
+use mathlib.Core.Bool.{Bool, true, false}
+use mathlib.Core.List.{List, [], _∷_}
+use mathlib.Core.Path.{_≡_, refl}
+use lib.Dec.{eqb}
+use borrow.Author.Tests.{eqb-true}
+use Rattle.refusals.specs.Judge.{Row, _when_, verdict, answered}
+
+-- No row's condition holds.
+abbrev pub NoneHolds : List Row → Type 0
+NoneHolds [] = Unit {0}
+NoneHolds ((n when c) ∷ rows) = (c ≡ false) × NoneHolds rows
+
+-- No row has the number 0.
+abbrev pub Numbered : List Row → Type 0
+Numbered [] = Unit {0}
+Numbered ((n when c) ∷ rows) = (0 < n) × Numbered rows
+
+pub none-verdict : (rows : List Row) → NoneHolds rows → verdict rows ≡ 0
+unfolding verdict
+none-verdict [] h = refl
+none-verdict ((n when c) ∷ rows) h = rw (h .0) (none-verdict rows (h .1))
+
+pub verdict-none : (rows : List Row) → Numbered rows → verdict rows ≡ 0 → NoneHolds rows
+unfolding verdict
+verdict-none [] q e = tt
+verdict-none ((n when true) ∷ rows) q e = absurd (omega (arith, q .0, e))
+verdict-none ((n when false) ∷ rows) q e = (refl, verdict-none rows (q .1) e)
+
+-- An answer that begins with 0 is no refusal.
+pub answered-none : (rows : List Row) (words rest : List ℕ) → answered rows words ≡ 0 ∷ rest → verdict rows ≡ 0
+answered-none rows words rest e = by (eqb (verdict rows) 0) refl
+  where
+    by : (b : Bool) → eqb (verdict rows) 0 ≡ b → verdict rows ≡ 0
+    by true t = eqb-true _ _ t
+    by false t = let f : verdict rows ∷ [] ≡ 0 ∷ rest = rw t at e in cc

@@ -1,0 +1,43 @@
+-- Different answers have different words. Assumes nothing.
+use Prim.Native.Nat.{ℕ}
+use native.Mathlib.Omega.{arith}
+use mathlib.Core.List.{List, [], _∷_}
+use mathlib.Core.Path.{_≡_, ap}
+use Rattle.refusals.specs.Table.{numberOf}
+use Rattle.refusals.proofs.Laws.{number-injective}
+use Rattle.sfdu.specs.declared.Kind.{Kind}
+use Rattle.sfdu.specs.declared.Primary.{Primary}
+use Rattle.sfdu.specs.declared.Read.{Read}
+use Rattle.sfdu.specs.declared.Read.the-variants.{Record, Refused}
+use Rattle.sfdu.specs.declared.Write.{Write}
+use Rattle.sfdu.specs.declared.Write.the-variants.{Written, Refused as WriteRefused}
+use Rattle.sfdu.specs.Nesting.{kindNumber}
+use Rattle.sfdu.specs.Read.{wordsOf, primaryWords}
+use Rattle.sfdu.specs.Write.{wordsOf as writeWordsOf}
+use Rattle.sfdu.proofs.Accepted.{same-kind}
+
+pub same-primary : (p q : Primary) → primaryWords p ≡ primaryWords q → p ≡ q
+same-primary p q e =
+    let major : p .major ≡ q .major = cc in
+    let minor : p .minor ≡ q .minor = cc in
+    let mission : p .mission ≡ q .mission = cc in
+    let format : p .format ≡ q .format = cc in
+    λ i. record { major = major i; minor = minor i; mission = mission i; format = format i }
+
+pub same-read : (a b : Read) → wordsOf a ≡ wordsOf b → a ≡ b
+same-read (Record k n p) (Record l m q) e =
+    let kinds : kindNumber k ≡ kindNumber l = cc in
+    let words : primaryWords p ≡ primaryWords q = cc in
+    let kind : k ≡ l = same-kind k l kinds in
+    let primary : p ≡ q = same-primary p q words in
+    let size : n ≡ m = cc in
+    cc
+same-read (Record k n p) (Refused r) e = let z : _≡_ {A = ℕ} 0 1 = cc in absurd (omega arith)
+same-read (Refused r) (Record k n p) e = let z : _≡_ {A = ℕ} 0 1 = cc in absurd (omega arith)
+same-read (Refused r) (Refused s) e = let n : numberOf r ≡ numberOf s = cc in ap Refused (number-injective r s n)
+
+pub same-write : (a b : Write) → writeWordsOf a ≡ writeWordsOf b → a ≡ b
+same-write (Written n) (Written m) e = cc
+same-write (Written n) (WriteRefused r) e = let z : _≡_ {A = ℕ} 0 1 = cc in absurd (omega arith)
+same-write (WriteRefused r) (Written m) e = let z : _≡_ {A = ℕ} 0 1 = cc in absurd (omega arith)
+same-write (WriteRefused r) (WriteRefused s) e = let n : numberOf r ≡ numberOf s = cc in ap WriteRefused (number-injective r s n)

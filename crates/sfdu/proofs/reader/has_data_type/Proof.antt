@@ -1,0 +1,21 @@
+-- `sfdu::reader::has_data_type` meets its contract. Assumes nothing.
+use native.Mathlib.Omega.{arith}
+use lib.Dec.{lit≤}
+use Rattle.sfdu.specs.Read.{blockType}
+use Rattle.sfdu.proofs.Placed.{placed}
+use borrow.Author.Needs.{needs}
+use Rattle.sfdu.proofs.reader.has_data_type.Statement.{statement}
+use Rattle.sfdu.proofs.reader.has_data_type.Tie as tie
+
+data-at-requires : tie.Need-data-at-requires
+data-at-requires c κs = search needs
+
+read-be-requires : tie.Need-read-be-requires
+read-be-requires c κs = let k = placed (c .before .before .args .kind) in (lit≤ tt, omega arith)
+
+returns : tie.Need-returns
+unfolding blockType
+returns c = cc
+
+pub has-data-type-spec : {M : Type 1} → statement M
+has-data-type-spec = tie.close (tie.spec data-at-requires read-be-requires returns)

@@ -1,0 +1,15 @@
+-- `sfdu::reader::label_length` meets its contract. Assumes nothing.
+use Rattle.sfdu.specs.Read.{labelLength}
+use borrow.Author.Needs.{needs}
+use Rattle.sfdu.proofs.reader.label_length.Statement.{statement}
+use Rattle.sfdu.proofs.reader.label_length.Tie as tie
+
+read-be-requires : tie.Need-read-be-requires
+read-be-requires c κs = search needs
+
+returns : tie.Need-returns
+unfolding labelLength
+returns c = cc
+
+pub label-length-spec : {M : Type 1} → statement M
+label-length-spec = tie.close (tie.spec read-be-requires returns)

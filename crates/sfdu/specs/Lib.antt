@@ -1,0 +1,4 @@
+pub mod Nesting
+pub mod Read
+pub mod Write
+pub mod RoundTrip

@@ -1,0 +1,111 @@
+// Where the parts of a record stand. Document 01, "How a record nests".
+ghost use mathlib.Core.Path.{_≡_};
+ghost use Rattle.sfdu.specs.Nesting.{kindNumber, secondaryLength, secondaryType, dataAt, dataValueAt, aggregationLength, leastLabelLength};
+use crate::Kind;
+
+// The numbers that name the kinds in calls and answers.
+pub const TELEMETRY_NUMBER: u32 = 1;
+
+pub const RSR_NUMBER: u32 = 2;
+
+// The label: three tags of four bytes, and the length of what follows it.
+pub const AUTHORITY_AT: usize = 0;
+
+pub const CONTROL_AT: usize = 4;
+
+pub const KIND_AT: usize = 8;
+
+pub const TAG: usize = 4;
+
+pub const AUTHORITY: [u8; 4] = *b"NJPL";
+
+pub const CONTROL: [u8; 4] = *b"2I00";
+
+pub const TELEMETRY: [u8; 4] = *b"0800";
+
+pub const RSR: [u8; 4] = *b"C997";
+
+pub const LENGTH_AT: usize = 12;
+
+pub const LENGTH: usize = 8;
+
+pub const LABEL: usize = 20;
+
+// The blocks: a label of a type and a length, two bytes each, and then the value.
+pub const WORD: usize = 2;
+
+pub const BLOCK_LABEL: usize = 4;
+
+pub const AGGREGATION_AT: usize = 20;
+
+pub const PRIMARY_AT: usize = 24;
+
+pub const PRIMARY_VALUE_AT: usize = 28;
+
+pub const SECONDARY_AT: usize = 32;
+
+pub const SECONDARY_VALUE_AT: usize = 36;
+
+pub const PRIMARY_LENGTH: u64 = 4;
+
+pub const AGGREGATION_TYPE: u64 = 1;
+
+pub const PRIMARY_TYPE: u64 = 2;
+
+pub const DATA_TYPE: u64 = 10;
+
+pub const MOST_DATA: usize = 65535;
+
+pub fn kind_number(kind: Kind) -> u32
+    ensures { λ r. ⌜ r ≡ kindNumber kind ⌝ }
+{
+    match kind {
+        Kind::Telemetry => TELEMETRY_NUMBER,
+        Kind::Rsr => RSR_NUMBER,
+    }
+}
+
+pub fn secondary_length(kind: Kind) -> usize
+    ensures { λ r. ⌜ r ≡ secondaryLength kind ⌝ }
+{
+    match kind {
+        Kind::Telemetry => 80,
+        Kind::Rsr => 220,
+    }
+}
+
+pub fn secondary_type(kind: Kind) -> u64
+    ensures { λ r. ⌜ r ≡ secondaryType kind ⌝ }
+{
+    match kind {
+        Kind::Telemetry => 78,
+        Kind::Rsr => 104,
+    }
+}
+
+// The data block, behind the secondary one, and its value.
+pub fn data_at(kind: Kind) -> usize
+    ensures { λ r. ⌜ r ≡ dataAt kind ⌝ }
+{
+    SECONDARY_VALUE_AT + secondary_length(kind)
+}
+
+pub fn data_value_at(kind: Kind) -> usize
+    ensures { λ r. ⌜ r ≡ dataValueAt kind ⌝ }
+{
+    data_at(kind) + BLOCK_LABEL
+}
+
+// The aggregation's value: the primary and the secondary block.
+pub fn aggregation_length(kind: Kind) -> u64
+    ensures { λ r. ⌜ r ≡ aggregationLength kind ⌝ }
+{
+    (data_at(kind) - PRIMARY_AT) as u64
+}
+
+// The length in the label of a record with no data.
+pub fn least_label_length(kind: Kind) -> u64
+    ensures { λ r. ⌜ r ≡ leastLabelLength kind ⌝ }
+{
+    (data_value_at(kind) - LABEL) as u64
+}

@@ -1,0 +1,290 @@
+// Read one: the checks in the order of document 01's refusal table, and the two parts.
+ghost use denote.Ref.{ptr};
+ghost use mathlib.Core.List.{_++_};
+ghost use mathlib.Core.Path.{_≡_};
+ghost use Prim.Native.Nat.{_+_, _-_, _≤_, _<_};
+ghost use lib.ListN.{length};
+ghost use lib.Dec.{eqb};
+ghost use Rattle.refusals.specs.Judge.{answered};
+ghost use Rattle.octets.specs.Octets.{sameAt};
+ghost use Rattle.sfdu.specs.Nesting.{authority, control, authorityAt, controlAt, tagSize, labelSize, blockLabelSize, aggregationAt, primaryAt, secondaryAt, dataAt, dataValueAt, aggregationType, primaryType, secondaryType, dataType, aggregationLength, primaryLength, secondaryLength};
+ghost use Rattle.sfdu.specs.Read.{wordsOf, readOne, lengthRows, headerRows, dataRows, recordWords, hasKind, labelLength, lengthInRange, recordLength, blockType, blockLength, blockEnd, isBlock, nests, secondaryPart, secondaryStart, dataPart, dataStart};
+use crate::Kind;
+use crate::Primary;
+use crate::Read;
+use crate::nesting::AGGREGATION_AT;
+use crate::nesting::AGGREGATION_TYPE;
+use crate::nesting::AUTHORITY;
+use crate::nesting::AUTHORITY_AT;
+use crate::nesting::BLOCK_LABEL;
+use crate::nesting::CONTROL;
+use crate::nesting::CONTROL_AT;
+use crate::nesting::DATA_TYPE;
+use crate::nesting::KIND_AT;
+use crate::nesting::LABEL;
+use crate::nesting::LENGTH;
+use crate::nesting::LENGTH_AT;
+use crate::nesting::MOST_DATA;
+use crate::nesting::PRIMARY_AT;
+use crate::nesting::PRIMARY_LENGTH;
+use crate::nesting::PRIMARY_TYPE;
+use crate::nesting::PRIMARY_VALUE_AT;
+use crate::nesting::RSR;
+use crate::nesting::SECONDARY_AT;
+use crate::nesting::SECONDARY_VALUE_AT;
+use crate::nesting::TAG;
+use crate::nesting::TELEMETRY;
+use crate::nesting::WORD;
+use crate::nesting::aggregation_length;
+use crate::nesting::data_at;
+use crate::nesting::data_value_at;
+use crate::nesting::least_label_length;
+use crate::nesting::secondary_length;
+use crate::nesting::secondary_type;
+use octets::is_same;
+use octets::read_be;
+use refusals::Refusal;
+
+// The first record of a slice; what stands after it does not matter.
+pub fn read_one(s: &[u8]) -> Read
+    ensures { λ r. ⌜ wordsOf r ≡ readOne (now (s .entry)) ⌝ }
+{
+    if s.len() < LABEL {
+        return Read::Refused(Refusal::TooShort);
+    }
+    if !has_authority(s) {
+        return Read::Refused(Refusal::Authority);
+    }
+    if !has_control(s) {
+        return Read::Refused(Refusal::LabelControl);
+    }
+    if has_kind(s, Kind::Telemetry) {
+        return read_length(s, Kind::Telemetry);
+    }
+    if has_kind(s, Kind::Rsr) {
+        return read_length(s, Kind::Rsr);
+    }
+    Read::Refused(Refusal::UnknownKind)
+}
+
+fn has_authority(s: &[u8]) -> bool
+    requires { ⌜ labelSize ≤ length (now s) ⌝ }
+    ensures { λ r. ⌜ r ≡ sameAt (now (s .entry)) authorityAt authority 0 tagSize ⌝ }
+{
+    is_same(s, AUTHORITY_AT, &AUTHORITY, 0, TAG)
+}
+
+fn has_control(s: &[u8]) -> bool
+    requires { ⌜ labelSize ≤ length (now s) ⌝ }
+    ensures { λ r. ⌜ r ≡ sameAt (now (s .entry)) controlAt control 0 tagSize ⌝ }
+{
+    is_same(s, CONTROL_AT, &CONTROL, 0, TAG)
+}
+
+fn has_kind(s: &[u8], kind: Kind) -> bool
+    requires { ⌜ labelSize ≤ length (now s) ⌝ }
+    ensures { λ r. ⌜ r ≡ hasKind kind (now (s .entry)) ⌝ }
+{
+    match kind {
+        Kind::Telemetry => is_same(s, KIND_AT, &TELEMETRY, 0, TAG),
+        Kind::Rsr => is_same(s, KIND_AT, &RSR, 0, TAG),
+    }
+}
+
+// The refusals from the label's length on.
+fn read_length(s: &[u8], kind: Kind) -> Read
+    requires { ⌜ labelSize ≤ length (now s) ⌝ }
+    ensures { λ r. ⌜ wordsOf r ≡ answered (lengthRows kind (now (s .entry)) ++ headerRows kind (now (s .entry)) ++ dataRows kind (now (s .entry))) (recordWords kind (now (s .entry))) ⌝ }
+{
+    if !length_in_range(s, kind) {
+        return Read::Refused(Refusal::LabelLength);
+    }
+    let size = LABEL + label_length(s) as usize;
+    if s.len() < size {
+        return Read::Refused(Refusal::Truncated);
+    }
+    read_blocks(s, kind, size)
+}
+
+// The length in the label: that of the record past the label.
+fn label_length(s: &[u8]) -> u64
+    requires { ⌜ labelSize ≤ length (now s) ⌝ }
+    ensures { λ r. ⌜ r ≡ labelLength (now (s .entry)) ⌝ }
+{
+    read_be(s, LENGTH_AT, LENGTH)
+}
+
+fn length_in_range(s: &[u8], kind: Kind) -> bool
+    requires { ⌜ labelSize ≤ length (now s) ⌝ }
+    ensures { λ r. ⌜ r ≡ lengthInRange kind (now (s .entry)) ⌝ }
+{
+    let after = label_length(s);
+    let least = least_label_length(kind);
+    let most = least + MOST_DATA as u64;
+    (least <= after) & (after <= most)
+}
+
+// The refusals from the aggregation's label on, of a record that is `size` bytes long and lent whole.
+fn read_blocks(s: &[u8], kind: Kind, size: usize) -> Read
+    requires { ⌜ (size ≡ recordLength (now s)) × (dataValueAt kind ≤ size) × (size ≤ length (now s)) ⌝ }
+    ensures { λ r. ⌜ wordsOf r ≡ answered (headerRows kind (now (s .entry)) ++ dataRows kind (now (s .entry))) (recordWords kind (now (s .entry))) ⌝ }
+{
+    if !has_aggregation(s, kind) {
+        return Read::Refused(Refusal::AggregationLabel);
+    }
+    if !has_primary(s) {
+        return Read::Refused(Refusal::PrimaryLabel);
+    }
+    if !has_secondary(s, kind) {
+        return Read::Refused(Refusal::SecondaryLabel);
+    }
+    read_data(s, kind, size)
+}
+
+fn has_aggregation(s: &[u8], kind: Kind) -> bool
+    requires { ⌜ dataValueAt kind ≤ length (now s) ⌝ }
+    ensures { λ r. ⌜ r ≡ isBlock (now (s .entry)) aggregationAt aggregationType (aggregationLength kind) ⌝ }
+{
+    is_block(
+        s,
+        AGGREGATION_AT,
+        AGGREGATION_TYPE,
+        aggregation_length(kind),
+    )
+}
+
+fn has_primary(s: &[u8]) -> bool
+    requires { ⌜ secondaryAt ≤ length (now s) ⌝ }
+    ensures { λ r. ⌜ r ≡ isBlock (now (s .entry)) primaryAt primaryType primaryLength ⌝ }
+{
+    is_block(s, PRIMARY_AT, PRIMARY_TYPE, PRIMARY_LENGTH)
+}
+
+fn has_secondary(s: &[u8], kind: Kind) -> bool
+    requires { ⌜ dataValueAt kind ≤ length (now s) ⌝ }
+    ensures { λ r. ⌜ r ≡ isBlock (now (s .entry)) secondaryAt (secondaryType kind) (secondaryLength kind) ⌝ }
+{
+    is_block(
+        s,
+        SECONDARY_AT,
+        secondary_type(kind),
+        secondary_length(kind) as u64,
+    )
+}
+
+// Whether the block at an offset has that type and that length.
+fn is_block(s: &[u8], at: usize, class: u64, size: u64) -> bool
+    requires { ⌜ at + blockLabelSize ≤ length (now s) ⌝ }
+    ensures { λ r. ⌜ r ≡ isBlock (now (s .entry)) at class size ⌝ }
+{
+    let same_class = read_be(s, at, WORD) == class;
+    let same_size = block_length(s, at) == size;
+    same_class & same_size
+}
+
+fn block_length(s: &[u8], at: usize) -> u64
+    requires { ⌜ at + blockLabelSize ≤ length (now s) ⌝ }
+    ensures { λ r. ⌜ r ≡ blockLength (now (s .entry)) at ⌝ }
+    ensures { λ r. ⌜ r < 65536 ⌝ }
+{
+    read_be(s, at + WORD, WORD)
+}
+
+// The refusals from the data block's label on, and the record where there is none.
+fn read_data(s: &[u8], kind: Kind, size: usize) -> Read
+    requires { ⌜ (size ≡ recordLength (now s)) × (dataValueAt kind ≤ size) × (size ≤ length (now s)) ⌝ }
+    ensures { λ r. ⌜ wordsOf r ≡ answered (dataRows kind (now (s .entry))) (recordWords kind (now (s .entry))) ⌝ }
+{
+    if !has_data_type(s, kind) {
+        return Read::Refused(Refusal::DataType);
+    }
+    if !has_data_length(s, kind, size) {
+        return Read::Refused(Refusal::DataLength);
+    }
+    if !blocks_nest(s, kind, size) {
+        return Read::Refused(Refusal::Nesting);
+    }
+    Read::Record {
+        kind,
+        size,
+        primary: Primary {
+            major: s[PRIMARY_VALUE_AT],
+            minor: s[PRIMARY_VALUE_AT + 1],
+            mission: s[PRIMARY_VALUE_AT + 2],
+            format: s[PRIMARY_VALUE_AT + 3],
+        },
+    }
+}
+
+fn has_data_type(s: &[u8], kind: Kind) -> bool
+    requires { ⌜ dataValueAt kind ≤ length (now s) ⌝ }
+    ensures { λ r. ⌜ r ≡ eqb (blockType (now (s .entry)) (dataAt kind)) dataType ⌝ }
+{
+    read_be(s, data_at(kind), WORD) == DATA_TYPE
+}
+
+fn has_data_length(s: &[u8], kind: Kind, size: usize) -> bool
+    requires { ⌜ (size ≡ recordLength (now s)) × (dataValueAt kind ≤ size) × (size ≤ length (now s)) ⌝ }
+    ensures { λ r. ⌜ r ≡ eqb (blockLength (now (s .entry)) (dataAt kind)) (recordLength (now (s .entry)) - dataValueAt kind) ⌝ }
+{
+    let rest = size - data_value_at(kind);
+    block_length(s, data_at(kind)) == rest as u64
+}
+
+// Whether each block ends within the field that encloses it.
+fn blocks_nest(s: &[u8], kind: Kind, size: usize) -> bool
+    requires { ⌜ (size ≡ recordLength (now s)) × (dataValueAt kind ≤ size) × (size ≤ length (now s)) ⌝ }
+    ensures { λ r. ⌜ r ≡ nests kind (now (s .entry)) ⌝ }
+{
+    let whole = size as u64;
+    let headers = block_end(s, AGGREGATION_AT);
+    let primary = block_end(s, PRIMARY_AT);
+    let secondary = block_end(s, SECONDARY_AT);
+    let data = block_end(s, data_at(kind));
+    (headers <= whole) & (primary <= headers) & (secondary <= headers) & (data <= whole)
+}
+
+// Where the value of the block at an offset ends.
+fn block_end(s: &[u8], at: usize) -> u64
+    requires { ⌜ at + blockLabelSize ≤ length (now s) ⌝ }
+    requires { ⌜ at < 65536 ⌝ }
+    ensures { λ r. ⌜ r ≡ blockEnd (now (s .entry)) at ⌝ }
+{
+    (at + BLOCK_LABEL) as u64 + block_length(s, at)
+}
+
+// The value of the secondary block, that very part of the slice; the empty part at its start where read one refuses.
+pub fn secondary_part(s: &[u8]) -> &[u8]
+    ensures { λ r. ⌜ (now r ≡ secondaryPart (now (s .entry))) × (ptr r .1 ≡ ptr (s .entry) .1 + secondaryStart (now (s .entry))) ⌝ }
+{
+    let found = read_one(s);
+    match found {
+        Read::Record {
+            kind,
+            size: _,
+            primary: _,
+        } => {
+            let e = data_at(kind);
+            &s[SECONDARY_VALUE_AT..e]
+        }
+        Read::Refused(_) => &s[0..0],
+    }
+}
+
+// The value of the data block, that very part of the slice; the empty part at its start where read one refuses.
+pub fn data_part(s: &[u8]) -> &[u8]
+    ensures { λ r. ⌜ (now r ≡ dataPart (now (s .entry))) × (ptr r .1 ≡ ptr (s .entry) .1 + dataStart (now (s .entry))) ⌝ }
+{
+    let found = read_one(s);
+    match found {
+        Read::Record {
+            kind,
+            size,
+            primary: _,
+        } => {
+            let a = data_value_at(kind);
+            &s[a..size]
+        }
+        Read::Refused(_) => &s[0..0],
+    }
+}
