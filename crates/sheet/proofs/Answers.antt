@@ -2,14 +2,14 @@
 use mathlib.Core.Path.{_≡_, refl, ap}
 use Rattle.refusals.proofs.Laws.{number-injective, number-positive}
 use Rattle.sheet.specs.declared.Answer.{Answer}
-use Rattle.sheet.specs.declared.Answer.the-variants as A
 use Rattle.sheet.specs.declared.RowAnswer.{RowAnswer}
-use Rattle.sheet.specs.declared.RowAnswer.the-variants as R
 use Rattle.sheet.specs.declared.ReportAnswer.{ReportAnswer}
-use Rattle.sheet.specs.declared.ReportAnswer.the-variants as Report
 use Rattle.sheet.specs.declared.GapAnswer.{GapAnswer}
-use Rattle.sheet.specs.declared.GapAnswer.the-variants as G
 use Rattle.sheet.specs.Words.{answerWords, rowWords, reportAnswerWords, gapWords}
+use Rattle.sheet.specs.declared.Answer.the-variants as A
+use Rattle.sheet.specs.declared.RowAnswer.the-variants as R
+use Rattle.sheet.specs.declared.ReportAnswer.the-variants as Report
+use Rattle.sheet.specs.declared.GapAnswer.the-variants as G
 
 pub answer-injective : (x y : Answer) → answerWords x ≡ answerWords y → x ≡ y
 answer-injective A.Done A.Done e = refl
