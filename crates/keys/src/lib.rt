@@ -2,8 +2,9 @@
 use refusals::Refusal;
 ghost use mathlib.Core.Path.{_≡_};
 ghost use mathlib.Core.Bool.{_&&_};
+ghost use Prim.Native.Nat.{_<_};
 ghost use lib.Dec.{ltb};
-ghost use Rattle.keys.specs.Key.{validKey, telemetryKeyCall, rsrKeyCall};
+ghost use Rattle.keys.specs.Key.{validKey, telemetryKey, rsrKey, telemetryKeyCall, rsrKeyCall};
 ghost use Rattle.keys.specs.Words.{wordsOf};
 
 // The first number too wide for a field of 8, 10 or 16 bits.
@@ -52,9 +53,15 @@ pub fn telemetry_key(spacecraft: u32, source: u32, equipment: u32, stream: u32) 
     if !both_fit(equipment, LIMIT_16, stream, LIMIT_8) {
         return KeyAnswer::Refused(Refusal::BadKey);
     }
-    KeyAnswer::Key(
-        spacecraft as u64 * AT_32 + source as u64 * AT_24 + equipment as u64 * AT_8 + stream as u64,
-    )
+    KeyAnswer::Key(telemetry_key_of(spacecraft, source, equipment, stream))
+}
+
+// The same where the numbers are known to fit.
+pub fn telemetry_key_of(spacecraft: u32, source: u32, equipment: u32, stream: u32) -> u64
+    requires { ⌜ spacecraft < 1024 ⌝ }
+    ensures { λ r. ⌜ r ≡ telemetryKey spacecraft source equipment stream ⌝ }
+{
+    spacecraft as u64 * AT_32 + source as u64 * AT_24 + equipment as u64 * AT_8 + stream as u64
 }
 
 // The key of an RSR stream; refused where a number is wider than its field.
@@ -67,13 +74,18 @@ pub fn rsr_key(spacecraft: u32, station: u32, receiver: u32, subchannel: u32) ->
     if !both_fit(receiver, LIMIT_8, subchannel, LIMIT_8) {
         return KeyAnswer::Refused(Refusal::BadKey);
     }
-    KeyAnswer::Key(
-        RSR_START
-            + spacecraft as u64 * AT_24
-            + station as u64 * AT_16
-            + receiver as u64 * AT_8
-            + subchannel as u64,
-    )
+    KeyAnswer::Key(rsr_key_of(spacecraft, station, receiver, subchannel))
+}
+
+// The same where the numbers are known to fit.
+pub fn rsr_key_of(spacecraft: u32, station: u32, receiver: u32, subchannel: u32) -> u64
+    ensures { λ r. ⌜ r ≡ rsrKey spacecraft station receiver subchannel ⌝ }
+{
+    RSR_START
+        + spacecraft as u64 * AT_24
+        + station as u64 * AT_16
+        + receiver as u64 * AT_8
+        + subchannel as u64
 }
 
 // Whether a key is one that a stream can have.

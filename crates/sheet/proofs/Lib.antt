@@ -8,3 +8,4 @@ pub mod ReadBack
 pub mod Missing
 pub mod Reports
 pub mod Calls
+pub mod Answers

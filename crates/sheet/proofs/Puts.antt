@@ -1,39 +1,14 @@
--- Parts replaced one after the other: what was written piece by piece is one part put in. Assumes nothing.
+-- What stands where after a part is put in, and parts lent and come back. Assumes nothing.
 use Prim.Native.Nat.{ℕ, _+_, _≤_, _<_}
 use native.Mathlib.Nat.{zero-add}
-use native.Mathlib.Numerals.{add-one}
 use native.Mathlib.Omega.{arith}
-use mathlib.Core.List.{List, [], _∷_, _++_, append-assoc, append-nil}
+use mathlib.Core.List.{List, _++_, append-assoc, append-nil}
 use mathlib.Core.Path.{_≡_, sym, ap, _∙_}
-use lib.ListN.{length, take, drop, set, getD, length-append, take-append-drop, List·getD-append}
+use lib.ListN.{length, take, drop, getD, take-append-drop, List·getD-append}
 use mathlib.Core.Logic.{_⊎_, inl}
-use lib.Seq.{length-take-le, take-at, drop-append-add, drop-drop, set-split, drop-length, take-add, ext-getD, getD-append-add}
+use lib.Seq.{length-take-le, drop-drop, drop-length, take-add, ext-getD, getD-append-add}
 use Rattle.octets.specs.Octets.{part, put}
 use Rattle.octets.proofs.Laws.{length-part, part-at, length-put, put-all, putting, putting-outside}
-
-length-head : (s : List ℕ) (a : ℕ) (v : List ℕ) → a ≤ length s → length (take a s ++ v) ≡ a + length v
-length-head s a v h = length-append (take a s) v ∙ ap (λ (n : ℕ). n + length v) (length-take-le a s h)
-
--- one part is put in, and the next one right behind it
-pub put-next : (s : List ℕ) (a : ℕ) (v w : List ℕ) (b : ℕ) → a + length v ≡ b → a ≤ length s → put (put s a v) b w ≡ put s a (v ++ w)
-unfolding put
-put-next s a v w b e h =
-    let l = length-head s a v h ∙ e in
-    let far : b + length w ≡ a + length (v ++ w) = rw length-append (omega arith) in
-    let past : drop (b + length w) (take a s ++ v ++ drop b s) ≡ drop (a + length (v ++ w)) s =
-    ap (λ (n : ℕ). drop (n + length w) (take a s ++ v ++ drop b s)) (sym l) ∙ drop-append-add (take a s ++ v) (drop b s) (length w)
-    ∙ drop-drop (length w) b s ∙ ap (λ (n : ℕ). drop n s) far in
-    rw (e, take-at (take a s ++ v) (drop b s) b l, past) (ap (λ (l : List ℕ). l ++ drop (a + length (v ++ w)) s) (append-assoc (take a s) v w))
-
--- the same of lists that are known by equations, as a run of calls gives them
-pub put-then : (s : List ℕ) (a : ℕ) (v w : List ℕ) (b : ℕ) {t u : List ℕ} → t ≡ put s a v → u ≡ put t b w → a + length v ≡ b → a ≤ length s
-    → u ≡ put s a (v ++ w)
-put-then s a v w b p q e h = q ∙ rw p (put-next s a v w b e h)
-
--- one element is a part
-pub put-one : (s : List ℕ) (a x : ℕ) → a < length s → set s a x ≡ put s a (x ∷ [])
-unfolding put
-put-one s a x h = set-split s a x h ∙ rw (add-one, append-assoc)
 
 -- all of a list replaced
 pub put-whole : (s v : List ℕ) → length v ≡ length s → put s 0 v ≡ v

@@ -141,22 +141,17 @@ markRow on n row = markPosition on (positionIn row n) row
 abbrev pub workedCopy : (d : ℕ) → List ℕ → List ℕ
 workedCopy d s = part s (deskAt d + workedAt) rowSize
 
-abbrev pub withWorked : (d : ℕ) → List ℕ → List ℕ → List ℕ
-withWorked d s copy = put s (deskAt d + workedAt) copy
-
 unfoldable pub markDesk : Bool → (d n : ℕ) → List ℕ → Outcome
 markDesk on d n s =
     let outcome = markRow on n (workedCopy d s) in
-    (outcome .0, withWorked d s (outcome .1))
+    (outcome .0, put s (deskAt d + workedAt) (outcome .1))
 
--- "Tick, untick (desk, number): change one bit of the desk's worked copy."
+-- "Tick, untick (desk, number): change one bit of the desk's worked copy." 28, 29 and 30 are judged there.
 unfoldable pub markCall : Bool → (d n : ℕ) → List ℕ → Outcome
 markCall on d n s =
-    let copy = workedCopy d s in
-    let i = positionIn copy n in
     judged
-    ((20 when not (right s)) ∷ (21 when not (ltb d deskCount)) ∷ (27 when isClosed s d) ∷ markRows on copy i)
-    (done, withWorked d s (marked on copy i))
+    ((20 when not (right s)) ∷ (21 when not (ltb d deskCount)) ∷ (27 when isClosed s d) ∷ [])
+    (markDesk on d n s)
     s
 
 abbrev pub tickCall : (d n : ℕ) → List ℕ → Outcome

@@ -26,35 +26,18 @@ returns-2 c =
       not-true (c .before .both-fit2 .result) (c .if2 .taken),
     )
 
-mul-t10 : tie.Need-mul-t10
-mul-t10 c = search needs
-
-add-t11 : tie.Need-add-t11
-add-t11 c = search needs
-
-mul-t13 : tie.Need-mul-t13
-mul-t13 c = search needs
-
-add-t14 : tie.Need-add-t14
-add-t14 c = search needs
-
-mul-t16 : tie.Need-mul-t16
-mul-t16 c = search needs
-
-add-t17 : tie.Need-add-t17
-add-t17 c = search needs
-
-add-t19 : tie.Need-add-t19
-add-t19 c = search needs
+rsr-key-of-requires : tie.Need-rsr-key-of-requires
+rsr-key-of-requires c κs = search needs
 
 returns-3 : tie.Need-returns-3
 unfolding rsrKeyCall verdict
 returns-3 c =
     simp (
-      ← c .before .before .before .both-fit .ensures,
-      not-false (c .before .before .before .both-fit .result) (c .before .before .if1 .left),
-      ← c .before .both-fit2 .ensures,
-      not-false (c .before .both-fit2 .result) (c .if2 .left),
+      c .rsr-key-of .ensures,
+      ← c .before .before .before .before .both-fit .ensures,
+      not-false (c .before .before .before .before .both-fit .result) (c .before .before .before .if1 .left),
+      ← c .before .before .both-fit2 .ensures,
+      not-false (c .before .before .both-fit2 .result) (c .before .if2 .left),
     )
 
 pub rsr-key-spec : {M : Type 1} → statement M
@@ -65,11 +48,5 @@ rsr-key-spec =
     returns
     both-fit-requires-2
     returns-2
-    mul-t10
-    add-t11
-    mul-t13
-    add-t14
-    mul-t16
-    add-t17
-    add-t19
+    rsr-key-of-requires
     returns-3)

@@ -36,32 +36,18 @@ returns-2 c =
       not-true (c .before .both-fit2 .result) (c .if2 .taken),
     )
 
-mul-t10 : tie.Need-mul-t10
-mul-t10 c = search needs
-
-mul-t12 : tie.Need-mul-t12
-mul-t12 c = search needs
-
-add-t13 : tie.Need-add-t13
-add-t13 c = omega (arith, narrow (c .before .before .before .before .args .spacecraft) (c .before .before .before .before .args .source) (c .before .before .before .both-fit .result) (c .before .before .before .both-fit .ensures) (c .before .before .if1 .left))
-
-mul-t15 : tie.Need-mul-t15
-mul-t15 c = search needs
-
-add-t16 : tie.Need-add-t16
-add-t16 c = omega (arith, narrow (c .before .before .before .before .args .spacecraft) (c .before .before .before .before .args .source) (c .before .before .before .both-fit .result) (c .before .before .before .both-fit .ensures) (c .before .before .if1 .left))
-
-add-t18 : tie.Need-add-t18
-add-t18 c = omega (arith, narrow (c .before .before .before .before .args .spacecraft) (c .before .before .before .before .args .source) (c .before .before .before .both-fit .result) (c .before .before .before .both-fit .ensures) (c .before .before .if1 .left))
+telemetry-key-of-requires : tie.Need-telemetry-key-of-requires
+telemetry-key-of-requires c κs = narrow (c .before .before .before .before .args .spacecraft) (c .before .before .before .before .args .source) (c .before .before .before .both-fit .result) (c .before .before .before .both-fit .ensures) (c .before .before .if1 .left)
 
 returns-3 : tie.Need-returns-3
 unfolding telemetryKeyCall verdict
 returns-3 c =
     simp (
-      ← c .before .before .before .both-fit .ensures,
-      not-false (c .before .before .before .both-fit .result) (c .before .before .if1 .left),
-      ← c .before .both-fit2 .ensures,
-      not-false (c .before .both-fit2 .result) (c .if2 .left),
+      c .telemetry-key-of .ensures,
+      ← c .before .before .before .before .both-fit .ensures,
+      not-false (c .before .before .before .before .both-fit .result) (c .before .before .before .if1 .left),
+      ← c .before .before .both-fit2 .ensures,
+      not-false (c .before .before .both-fit2 .result) (c .before .if2 .left),
     )
 
 pub telemetry-key-spec : {M : Type 1} → statement M
@@ -72,10 +58,5 @@ telemetry-key-spec =
     returns
     both-fit-requires-2
     returns-2
-    mul-t10
-    mul-t12
-    add-t13
-    mul-t15
-    add-t16
-    add-t18
+    telemetry-key-of-requires
     returns-3)

@@ -33,7 +33,7 @@ returns : tie.Need-returns
 returns c =
     let first = c .before .before .before .before .before .before .before in
     let key = first .before .before .before .before .before in
-    row-written _ _ _ _ _ (omega arith) (key .write-be .ensures) (first .write-be2 .ensures) (c .before .before .write-ticks .ensures)
+    row-written _ _ _ _ _ (omega arith) (omega arith) (key .write-be .ensures) (first .write-be2 .ensures) (c .before .before .write-ticks .ensures)
 
 pub write-row-spec : {M : Type 1} → statement M
 write-row-spec =

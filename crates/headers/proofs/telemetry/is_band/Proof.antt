@@ -1,0 +1,17 @@
+use borrow.Author.Needs.{needs}
+use Rattle.headers.proofs.telemetry.is_band.Statement.{statement}
+use Rattle.headers.proofs.telemetry.is_band.Tie as tie
+use Rattle.headers.proofs.telemetry.is_band.Reads as reads
+use Rattle.headers.proofs.telemetry.is_band.Lts as lts
+use Rattle.headers.proofs.rsr.is_band.Reads as is-band-reads
+
+-- src/telemetry.rt:89:19
+is-band-requires : tie.Need-is-band-requires
+is-band-requires c κs = search needs
+
+-- src/telemetry.rt:86:1
+returns : tie.Need-returns
+returns c = ?
+
+pub is-band-spec : {M : Type 1} → statement M
+is-band-spec = tie.close (tie.spec is-band-requires returns)
