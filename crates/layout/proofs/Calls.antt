@@ -27,7 +27,7 @@ use Rattle.sheet.specs.Rows.{rowBytes, blankTicks}
 use Rattle.sheet.specs.Bytes.{Outcome, judged, rowWith, enrolAt, enrolCall, findCall, openDesk, openAt, openCall, clearDesk, dropCall, markDesk, markCall, isCurrent, stored, saveAt, saveCall, reportCall, gapCall}
 use Rattle.sheet.specs.Bytes as Bytes
 use Rattle.sheet.proofs.Puts.{put-same}
-use Rattle.sheet.proofs.Calls as Judged
+use Rattle.sheet.proofs.Calls.{refuses}
 use Rattle.layout.specs.Layout.{bitsValue, tickBytes, placeBytes, deskBytes, countUsed, layout, call, report, laidOut}
 use Rattle.layout.proofs.Rows.{length-place, row-same, mark-law}
 use Rattle.layout.proofs.Places.{header-put, worked-put, Shape, shape, length-layout, row-part, desk-put, row-put, desk-put-in, closed-law}
@@ -38,8 +38,7 @@ use Rattle.layout.proofs.Right.{n, in-order, few, used-is, row-used, ro
 
 -- the rows of a refusal table, where the first is 20
 pub not-right : (s : List ℕ) (rows : List Row) (outcome : Outcome) → right s ≡ false → judged ((20 when not (right s)) ∷ rows) outcome s ≡ (20 ∷ [], s)
-unfolding judged verdict
-not-right s rows outcome e = rw e
+not-right s rows outcome e = refuses rows outcome s 20 (ap not e) (lit< tt)
 
 -- no row of the model's has the number 0
 numbered : (c : Call) (b : Book) → Numbered (refusals c b)
@@ -275,9 +274,9 @@ module _ (b : Book) (ok : WellFormed b) where
         by false = ap (λ (x : List ℕ). (31 ∷ [], x)) (clear-law b (shape ok) d (o .there))
 
   pub mark-call : (flag : Bool) (d number : ℕ) → markCall flag d number s ≡ laidOut (call (Mark flag d number) b)
+  unfolding markCall
   mark-call flag d number =
-      sym (Judged.mark-call flag d number s)
-      ∙ by-desk d (markDesk flag d number s) (step (Mark flag d number) b) (mark-no-desk b flag d number)
+      by-desk d (markDesk flag d number s) (step (Mark flag d number) b) (mark-no-desk b flag d number)
       (λ t x. mark-closed b d t flag number x) (λ r opened worked t q. mark-open d r opened worked q flag number t)
 
   pub save-call : (d : ℕ) → saveCall d s ≡ laidOut (call (Save d) b)
