@@ -1,0 +1,3 @@
+pub mod Standin
+pub mod Walk
+pub mod Listing
