@@ -1,3 +1,6 @@
 pub mod Places
 pub mod Listings
 pub mod Passed
+pub mod Filled
+pub mod Underway
+pub mod Columns

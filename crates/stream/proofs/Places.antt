@@ -10,10 +10,12 @@ use lib.Seq.{take-length}
 use borrow.Author.Tests.{le-leb, lt-leb, leb-true, leb-false}
 use Rattle.refusals.specs.Judge.{verdict}
 use Rattle.sfdu.specs.declared.Kind.{Kind}
-use Rattle.sfdu.specs.Nesting.{kindNumber}
+use Rattle.sfdu.specs.Nesting.{kindNumber, dataValueAt}
 use Rattle.sfdu.specs.Read.{kindOf, recordLength, readRows, recordWords, accepts, readOne}
+use Rattle.sfdu.proofs.Placed.{placed}
 use Rattle.sfdu.proofs.Accepted.{accepted, found, words-refused}
 use Rattle.stream.specs.Walk.{whole, past, refusal, step}
+use Rattle.stream.specs.Turn.{RecordAt}
 
 -- Where a whole record stands, the place past it lies further on, and within the stream.
 pub record Whole (s : List ℕ) (at : ℕ) : Type 0 where
@@ -36,8 +38,17 @@ none-at-end s at h = by (whole s at) refl
     by false e = refl
 
 -- The part of the stream from a place on, as the code cuts it out.
-pub from-there : (s : List ℕ) (at : ℕ) → readOne (take (length s - at) (drop at s)) ≡ readOne (drop at s)
-from-there s at = ap readOne (rw (← length-drop at s, take-length))
+pub from-there : (s : List ℕ) (at : ℕ) → take (length s - at) (drop at s) ≡ drop at s
+from-there s at = rw (← length-drop at s, take-length)
+
+-- The headers of a whole record are within the stream.
+pub headers-there : (s : List ℕ) (at : ℕ) (k : Kind) (n : ℕ) → RecordAt s at k n → dataValueAt k ≤ length (take (length s - at) (drop at s))
+unfolding whole
+headers-there s at k n r =
+    let a = accepted (drop at s) (r .is-whole) in
+    let l : length (take (length s - at) (drop at s)) ≡ length (drop at s) = ap length (from-there s at) in
+    let p = placed (kindOf (drop at s)) in
+    rw (r .kind) (omega arith)
 
 -- ---- a step, from what read one answers at the place
 
@@ -67,10 +78,8 @@ refused-by s n e = by (eqb (verdict (readRows s)) 0) refl
 
 -- A record was found.
 pub record StepFound (s : List ℕ) (at : ℕ) (k : Kind) (n next : ℕ) : Type 0 where
-  pub is-whole : whole s at ≡ true
+  pub there : RecordAt s at k n
   pub moved : next ≡ past s at
-  pub kind : k ≡ kindOf (drop at s)
-  pub size : n ≡ recordLength (drop at s)
 
 -- None was: why not.
 pub record StepNone (s : List ℕ) (at place why : ℕ) : Type 0 where
@@ -93,7 +102,7 @@ unfolding step whole
 found-there s at k n rest next e =
     let f = found (drop at s) k n rest (found-words s at k n rest next e) in
     let z = rw (f .accepted) at e in
-    record { is-whole = f .accepted; moved = cc; kind = f .kind; size = f .size }
+    record { there = record { is-whole = f .accepted; kind = f .kind; size = f .size }; moved = cc }
 
 -- Read one's answer has a first word.
 no-words : (s : List ℕ) → [] ≡ readOne s → ⊥

@@ -1,3 +1,4 @@
 pub mod Standin
 pub mod Walk
 pub mod Listing
+pub mod Turn

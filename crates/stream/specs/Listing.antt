@@ -50,3 +50,36 @@ walkFrom s at = listing (length s) s at
 
 unfoldable pub walked : List ℕ → List ℕ
 walked s = answer (walkFrom s 0)
+
+-- ---- the lists
+
+-- A list with xs at its start: "entries past the count stay".
+abbrev pub fills {ℓ} : {A : Type ℓ} → List A → List A → List A
+fills xs old = xs ++ drop (length xs) old
+
+-- The four lists of plain numbers, one for each field of an entry.
+pub record Columns : Type 0 where
+  pub places : List ℕ
+  pub lengths : List ℕ
+  pub kinds : List ℕ
+  pub numbers : List ℕ
+
+-- "Of number lists of unequal length the shortest counts."
+abbrev pub shortest : Columns → ℕ
+shortest c = min (min (length (c .places)) (length (c .lengths))) (min (length (c .kinds)) (length (c .numbers)))
+
+abbrev pub fillsColumns : List Entry → Columns → Columns
+fillsColumns es old = record {
+  places = fills (map (λ (e : Entry). e .place) es) (old .places);
+  lengths = fills (map (λ (e : Entry). e .length) es) (old .lengths);
+  kinds = fills (map (λ (e : Entry). e .kind) es) (old .kinds);
+  numbers = fills (map (λ (e : Entry). e .number) es) (old .numbers);
+}
+
+-- The answer, and what the lists hold after it.
+unfoldable pub listNumbers : List ℕ → Columns → List ℕ × Columns
+listNumbers s old = let l = listing (shortest old) s 0 in (answer l, fillsColumns (l .entries) old)
+
+-- The same for a table of entries.
+unfoldable pub listEntries : List ℕ → List Entry → List ℕ × List Entry
+listEntries s old = let l = listing (length old) s 0 in (answer l, fills (l .entries) old)

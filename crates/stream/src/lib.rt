@@ -1,6 +1,9 @@
 // Streams of records back to back: a cursor, a walk, number lists and a table of entries.
+mod listing;
+mod standin;
 mod walking;
 
+pub use listing::list_numbers;
 pub use walking::walk;
 
 // A place in a stream, in bytes from its start.
@@ -39,4 +42,12 @@ pub struct Entry {
     pub length: u64,
     pub kind: u32,
     pub number: u32,
+}
+
+// A turn of a list: the next record's entry and the place past it, or the list's answer.
+pub struct Turn {
+    pub listed: bool,
+    pub entry: Entry,
+    pub next: usize,
+    pub answer: Walked,
 }

@@ -1,6 +1,6 @@
 use mathlib.Core.Path.{sym, ap, _∙_}
 use Rattle.refusals.specs.Table.{numberOf}
-use Rattle.sfdu.specs.Read.{wordsOf, primaryWords}
+use Rattle.sfdu.specs.Read.{wordsOf, primaryWords, readOne}
 use Rattle.stream.proofs.Places.{whole-record, from-there, step-done, step-found, step-refused, found-there}
 use native.Mathlib.Omega.{arith}
 use borrow.Author.Needs.{needs}
@@ -41,9 +41,9 @@ add-t16 c =
     let s = d .before .before .args .s .now in
     let at = d .before .before .args .self .at in
     let g = c .before .found .given .0 in
-    let e = step-found s at (g .0) (g .1 .0) (primaryWords (g .1 .1 .0)) (d .if1 .left) (sym (ap wordsOf (c .before .found .given .1)) ∙ c .before .before .before .read-one .ensures ∙ from-there s at) in
+    let e = step-found s at (g .0) (g .1 .0) (primaryWords (g .1 .1 .0)) (d .if1 .left) (sym (ap wordsOf (c .before .found .given .1)) ∙ c .before .before .before .read-one .ensures ∙ ap readOne (from-there s at)) in
     let f = found-there s at (g .0) (g .1 .0) (primaryWords (g .1 .1 .0)) _ (sym e) in
-    let w = whole-record s at (f .is-whole) in
+    let w = whole-record s at (f .there .is-whole) in
     omega (arith, f .moved)
 
 -- src/walking.rt:39:27
@@ -57,7 +57,7 @@ returns-2 c =
     let s = d .before .before .args .s .now in
     let at = d .before .before .args .self .at in
     let g = c .before .found .given .0 in
-    sym (step-found s at (g .0) (g .1 .0) (primaryWords (g .1 .1 .0)) (d .if1 .left) (sym (ap wordsOf (c .before .found .given .1)) ∙ c .before .before .before .read-one .ensures ∙ from-there s at))
+    sym (step-found s at (g .0) (g .1 .0) (primaryWords (g .1 .1 .0)) (d .if1 .left) (sym (ap wordsOf (c .before .found .given .1)) ∙ c .before .before .before .read-one .ensures ∙ ap readOne (from-there s at)))
 
 -- src/walking.rt:20:5
 returns-3 : tie.Need-returns-3
@@ -65,7 +65,7 @@ returns-3 c =
     let d = c .before .before .before .before .before in
     let s = d .before .before .args .s .now in
     let at = d .before .before .args .self .at in
-    sym (step-refused s at (numberOf (c .before .found2 .given .0 .0)) (d .if1 .left) (sym (ap wordsOf (c .before .found2 .given .1)) ∙ c .before .before .before .read-one .ensures ∙ from-there s at))
+    sym (step-refused s at (numberOf (c .before .found2 .given .0 .0)) (d .if1 .left) (sym (ap wordsOf (c .before .found2 .given .1)) ∙ c .before .before .before .read-one .ensures ∙ ap readOne (from-there s at)))
 
 pub step-spec : {M : Type 1} → statement M
 step-spec =

@@ -39,7 +39,7 @@ add-count c =
     let s = c .before .before .before .before .before .before .args .s .now in
     let g = c .before .found .given .0 in
     let f = found-there s (u .at) (g .0) (g .1 .0) (primaryWords (g .1 .1 .0)) (g .1 .1 .1 .0 .at) (sym (ap stepWords (c .before .found .given .1)) ∙ c .before .before .before .step .ensures) in
-    let w = whole-record s (u .at) (f .is-whole) in
+    let w = whole-record s (u .at) (f .there .is-whole) in
     omega (arith, u .inv .few)
 
 -- src/walking.rt:50:5
@@ -49,7 +49,7 @@ loop-less c =
     let s = c .before .before .before .before .before .before .args .s .now in
     let g = c .before .found .given .0 in
     let f = found-there s (u .at) (g .0) (g .1 .0) (primaryWords (g .1 .1 .0)) (g .1 .1 .1 .0 .at) (sym (ap stepWords (c .before .found .given .1)) ∙ c .before .before .before .step .ensures) in
-    let w = whole-record s (u .at) (f .is-whole) in
+    let w = whole-record s (u .at) (f .there .is-whole) in
     omega (arith, f .moved)
 
 -- src/walking.rt:50:5
@@ -59,8 +59,8 @@ loop-again c =
     let s = c .before .before .before .before .before .before .args .s .now in
     let g = c .before .found .given .0 in
     let f = found-there s (u .at) (g .0) (g .1 .0) (primaryWords (g .1 .1 .0)) (g .1 .1 .1 .0 .at) (sym (ap stepWords (c .before .found .given .1)) ∙ c .before .before .before .step .ensures) in
-    let w = whole-record s (u .at) (f .is-whole) in
-    rw (f .moved) (passes s (u .at) (u .count) (u .inv) (f .is-whole))
+    let w = whole-record s (u .at) (f .there .is-whole) in
+    rw (f .moved) (passes s (u .at) (u .count) (u .inv) (f .there .is-whole))
 
 -- src/walking.rt:67:27
 enum-told : tie.Need-enum-told Inv-loop μ-loop
