@@ -16,7 +16,7 @@ use Rattle.stream.specs.declared.Entry.{Entry}
 use Rattle.stream.specs.declared.Turn.{Turn}
 use Rattle.stream.specs.declared.Walked.{Walked}
 use Rattle.stream.specs.Walk.{wordsOf, whole, past, refusal}
-use Rattle.stream.specs.Listing.{Listing, entryAt, stopped, prepend, listing, answer}
+use Rattle.stream.specs.Listing.{Listing, entryAt, stopped, prepend, listing, answer, fills, listEntries}
 use Rattle.stream.specs.Turn.{RecordAt, TurnAt, noTurn}
 use Rattle.stream.proofs.Places.{from-there, StepNone}
 use Rattle.stream.proofs.Listings.{lists, lists-none, lists-full}
@@ -112,3 +112,13 @@ module _ (s : List ℕ) (n at : ℕ) (es : List Entry) (t : Turn) (turn : TurnAt
   finished free u l =
       let all-of-it : listing n s 0 ≡ record { entries = es; stop = at; number = cond (whole s at) 16 (refusal s at) } = u .rest ∙ rw (stops free u l, append-nil) in
       record { answers = turn .answer l ∙ sym (ap answer all-of-it); entries = ap (λ (x : Listing). x .entries) all-of-it }
+
+-- What a table holds then, and the answer.
+pub filled-is : (s : List ℕ) (old : List Entry) (at : ℕ) (es : List Entry) (t : Turn) → TurnAt s at (length es) (length old) t
+    → (free : ℕ) → Underway s (length old) free at es → t .listed ≡ false
+    → _≡_ {A = List ℕ × List Entry} (wordsOf (t .answer), fills es old) (listEntries s old)
+unfolding listEntries
+filled-is s old at es t turn free u l =
+    let done = finished s (length old) at es t turn free u l in
+    let table : fills es old ≡ fills (listing (length old) s 0 .entries) old = ap (λ (x : List Entry). fills x old) (sym (done .entries)) in
+    λ j. (done .answers j, table j)

@@ -3,6 +3,7 @@ mod listing;
 mod standin;
 mod walking;
 
+pub use listing::list_entries;
 pub use listing::list_numbers;
 pub use walking::walk;
 

@@ -3,7 +3,7 @@ ghost use mathlib.Core.Path.{_≡_};
 ghost use Prim.Native.Nat.{min};
 ghost use Rattle.sfdu.specs.Nesting.{kindNumber};
 ghost use Rattle.stream.specs.Walk.{wordsOf};
-ghost use Rattle.stream.specs.Listing.{entryAt, Columns, listNumbers};
+ghost use Rattle.stream.specs.Listing.{entryAt, Columns, listNumbers, listEntries};
 ghost use Rattle.stream.specs.Turn.{RecordAt, TurnAt, noTurn};
 use crate::Cursor;
 use crate::Entry;
@@ -130,6 +130,25 @@ pub fn list_numbers(
             lengths[i] = e.length;
             kinds[i] = e.kind;
             numbers[i] = e.number;
+            at = turn.next;
+            i = i + 1;
+        } else {
+            return turn.answer;
+        }
+    }
+}
+
+// Fills a table of entries from a stream, one entry for a record. Entries past the count stay.
+pub fn list_entries(s: &[u8], table: &mut [Entry]) -> Walked
+    ensures { λ r. ⌜ (wordsOf r, now (table .exit)) ≡ listEntries (now (s .entry)) (now (table .entry)) ⌝ }
+{
+    let size = table.len();
+    let mut at = 0;
+    let mut i = 0;
+    loop {
+        let turn = turn_at(s, at, i, size);
+        if turn.listed {
+            table[i] = turn.entry;
             at = turn.next;
             i = i + 1;
         } else {
