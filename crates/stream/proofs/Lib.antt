@@ -4,3 +4,5 @@ pub mod Passed
 pub mod Filled
 pub mod Underway
 pub mod Columns
+pub mod Laws
+pub mod Words

@@ -68,7 +68,7 @@ step-refused s at n h e = rw (words-refused (drop at s) n (sym e), lt-leb (lengt
 -- ---- what a step's words say of the place
 
 -- Read one's refusal is the number of the first row that holds.
-refused-by : (s : List ℕ) (n : ℕ) → n ∷ [] ≡ readOne s → verdict (readRows s) ≡ n
+pub refused-by : (s : List ℕ) (n : ℕ) → n ∷ [] ≡ readOne s → verdict (readRows s) ≡ n
 unfolding readOne
 refused-by s n e = by (eqb (verdict (readRows s)) 0) refl
   where
