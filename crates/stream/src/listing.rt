@@ -12,6 +12,7 @@ use crate::Stop;
 use crate::Turn;
 use crate::Walked;
 use crate::standin::record_number;
+use crate::walking::stopped;
 use refusals::Refusal;
 use sfdu::Kind;
 
@@ -37,18 +38,19 @@ fn entry_at(s: &[u8], at: usize, kind: Kind, size: usize) -> Entry
     }
 }
 
-// No record is listed: the list stops here.
+// No record is listed: the list stops.
 fn no_turn(answer: Walked) -> Turn
     ensures { λ r. ⌜ r ≡ noTurn answer ⌝ }
 {
+    let none = Entry {
+        place: 0,
+        length: 0,
+        kind: 0,
+        number: 0,
+    };
     Turn {
         listed: false,
-        entry: Entry {
-            place: 0,
-            length: 0,
-            kind: 0,
-            number: 0,
-        },
+        entry: none,
         next: 0,
         answer,
     }
@@ -68,33 +70,17 @@ fn turn_at(s: &[u8], at: usize, count: usize, size: usize) -> Turn
             next,
         } => {
             if size <= count {
-                return no_turn(Walked {
-                    count,
-                    place: at,
-                    stop: Stop::Refused(Refusal::ListFull),
-                });
+                return no_turn(stopped(count, at, Stop::Refused(Refusal::ListFull)));
             }
             Turn {
                 listed: true,
                 entry: entry_at(s, at, kind, length),
                 next: next.at,
-                answer: Walked {
-                    count,
-                    place: at,
-                    stop: Stop::End,
-                },
+                answer: stopped(count, at, Stop::End),
             }
         }
-        Step::Done(_) => no_turn(Walked {
-            count,
-            place: at,
-            stop: Stop::End,
-        }),
-        Step::Refused(r, _) => no_turn(Walked {
-            count,
-            place: at,
-            stop: Stop::Refused(r),
-        }),
+        Step::Done(_) => no_turn(stopped(count, at, Stop::End)),
+        Step::Refused(r, _) => no_turn(stopped(count, at, Stop::Refused(r))),
     }
 }
 

@@ -61,19 +61,17 @@ pub fn walk(s: &[u8]) -> Walked
                 count = count + 1;
             }
             Step::Done(_) => {
-                return Walked {
-                    count,
-                    place: at,
-                    stop: Stop::End,
-                };
+                return stopped(count, at, Stop::End);
             }
             Step::Refused(r, _) => {
-                return Walked {
-                    count,
-                    place: at,
-                    stop: Stop::Refused(r),
-                };
+                return stopped(count, at, Stop::Refused(r));
             }
         }
     }
+}
+
+pub fn stopped(count: usize, place: usize, stop: Stop) -> Walked
+    ensures { λ r. ⌜ r ≡ record { count = count; place = place; stop = stop } ⌝ }
+{
+    Walked { count, place, stop }
 }

@@ -5,7 +5,7 @@ use mathlib.Core.Path.{sym, ap, _∙_}
 use lib.ListN.{length}
 use borrow.Author.Needs.{needs}
 use Rattle.sfdu.specs.Read.{primaryWords}
-use Rattle.stream.specs.Walk.{stepWords}
+use Rattle.stream.specs.Walk.{stepWords, wordsOf}
 use Rattle.stream.proofs.Places.{whole-record, found-there, done-there, refused-there}
 use Rattle.stream.proofs.Passed.{Passed, begins, passes, finished}
 use Rattle.stream.proofs.walking.walk.Statement.{statement}
@@ -67,24 +67,30 @@ enum-told : tie.Need-enum-told Inv-loop μ-loop
 enum-told c = search needs
 
 -- src/walking.rt:64:17
+stopped-requires : tie.Need-stopped-requires Inv-loop μ-loop
+stopped-requires c κs = search needs
+
 returns : tie.Need-returns Inv-loop μ-loop
 returns c =
-    let u = c .before .before .before .loop in
-    let s = c .before .before .before .before .before .args .s .now in
-    let n = done-there s (u .at) _ (sym (ap stepWords (c .enum-told .given .1)) ∙ c .before .before .step .ensures) in
-    finished s (u .at) (u .count) (u .inv) _ (n .none) (n .number)
+    let u = c .before .before .before .before .loop in
+    let s = c .before .before .before .before .before .before .args .s .now in
+    let n = done-there s (u .at) _ (sym (ap stepWords (c .before .enum-told .given .1)) ∙ c .before .before .before .step .ensures) in
+    ap wordsOf (c .stopped .ensures) ∙ finished s (u .at) (u .count) (u .inv) _ (n .none) (n .number)
 
 -- src/walking.rt:70:27
 enum-known-found-2 : tie.Need-enum-known-found-2 Inv-loop μ-loop
 enum-known-found-2 c = search needs
 
 -- src/walking.rt:71:17
+stopped-requires-2 : tie.Need-stopped-requires-2 Inv-loop μ-loop
+stopped-requires-2 c κs = search needs
+
 returns-2 : tie.Need-returns-2 Inv-loop μ-loop
 returns-2 c =
-    let u = c .before .before .before .before .loop in
-    let s = c .before .before .before .before .before .before .args .s .now in
-    let n = refused-there s (u .at) _ _ (sym (ap stepWords (c .before .found2 .given .1)) ∙ c .before .before .before .step .ensures) in
-    finished s (u .at) (u .count) (u .inv) _ (n .none) (n .number)
+    let u = c .before .before .before .before .before .loop in
+    let s = c .before .before .before .before .before .before .before .args .s .now in
+    let n = refused-there s (u .at) _ _ (sym (ap stepWords (c .before .before .found2 .given .1)) ∙ c .before .before .before .before .step .ensures) in
+    ap wordsOf (c .stopped2 .ensures) ∙ finished s (u .at) (u .count) (u .inv) _ (n .none) (n .number)
 
 pub walk-spec : {M : Type 1} → statement M
 walk-spec =
@@ -99,6 +105,8 @@ walk-spec =
     loop-less
     loop-again
     enum-told
+    stopped-requires
     returns
     enum-known-found-2
+    stopped-requires-2
     returns-2)
