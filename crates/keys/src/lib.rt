@@ -2,8 +2,9 @@
 use refusals::Refusal;
 ghost use mathlib.Core.Path.{_≡_};
 ghost use mathlib.Core.Bool.{_&&_};
+ghost use Prim.Native.Nat.{_<_};
 ghost use lib.Dec.{ltb};
-ghost use Rattle.keys.specs.Key.{validKey, telemetryKeyCall, rsrKeyCall};
+ghost use Rattle.keys.specs.Key.{validKey, telemetryKey, rsrKey, telemetryKeyCall, rsrKeyCall};
 ghost use Rattle.keys.specs.Words.{wordsOf};
 
 // The first number too wide for a field of 8, 10 or 16 bits.
@@ -32,75 +33,59 @@ pub enum KeyAnswer {
     Refused(Refusal),
 }
 
-// Whether four numbers each lie below their limits.
-fn all_fit(
-    a: u32,
-    alimit: u32,
-    b: u32,
-    blimit: u32,
-    c: u32,
-    climit: u32,
-    d: u32,
-    dlimit: u32,
-) -> bool
-    ensures { λ r. ⌜ r ≡ (ltb a alimit && ltb b blimit && ltb c climit && ltb d dlimit) ⌝ }
+// Whether two numbers each lie below their limits.
+fn both_fit(a: u32, alimit: u32, b: u32, blimit: u32) -> bool
+    ensures { λ r. ⌜ r ≡ (ltb a alimit && ltb b blimit) ⌝ }
 {
     if alimit <= a {
         return false;
     }
-    if blimit <= b {
-        return false;
-    }
-    if climit <= c {
-        return false;
-    }
-    d < dlimit
+    b < blimit
 }
 
 // The key of a telemetry stream; refused where a number is wider than its field.
 pub fn telemetry_key(spacecraft: u32, source: u32, equipment: u32, stream: u32) -> KeyAnswer
     ensures { λ r. ⌜ wordsOf r ≡ telemetryKeyCall spacecraft source equipment stream ⌝ }
 {
-    if !all_fit(
-        spacecraft,
-        LIMIT_10,
-        source,
-        LIMIT_8,
-        equipment,
-        LIMIT_16,
-        stream,
-        LIMIT_8,
-    ) {
+    if !both_fit(spacecraft, LIMIT_10, source, LIMIT_8) {
         return KeyAnswer::Refused(Refusal::BadKey);
     }
-    KeyAnswer::Key(
-        spacecraft as u64 * AT_32 + source as u64 * AT_24 + equipment as u64 * AT_8 + stream as u64,
-    )
+    if !both_fit(equipment, LIMIT_16, stream, LIMIT_8) {
+        return KeyAnswer::Refused(Refusal::BadKey);
+    }
+    KeyAnswer::Key(telemetry_key_of(spacecraft, source, equipment, stream))
+}
+
+// The same where the numbers are known to fit.
+pub fn telemetry_key_of(spacecraft: u32, source: u32, equipment: u32, stream: u32) -> u64
+    requires { ⌜ spacecraft < 1024 ⌝ }
+    ensures { λ r. ⌜ r ≡ telemetryKey spacecraft source equipment stream ⌝ }
+{
+    spacecraft as u64 * AT_32 + source as u64 * AT_24 + equipment as u64 * AT_8 + stream as u64
 }
 
 // The key of an RSR stream; refused where a number is wider than its field.
 pub fn rsr_key(spacecraft: u32, station: u32, receiver: u32, subchannel: u32) -> KeyAnswer
     ensures { λ r. ⌜ wordsOf r ≡ rsrKeyCall spacecraft station receiver subchannel ⌝ }
 {
-    if !all_fit(
-        spacecraft,
-        LIMIT_8,
-        station,
-        LIMIT_8,
-        receiver,
-        LIMIT_8,
-        subchannel,
-        LIMIT_8,
-    ) {
+    if !both_fit(spacecraft, LIMIT_8, station, LIMIT_8) {
         return KeyAnswer::Refused(Refusal::BadKey);
     }
-    KeyAnswer::Key(
-        RSR_START
-            + spacecraft as u64 * AT_24
-            + station as u64 * AT_16
-            + receiver as u64 * AT_8
-            + subchannel as u64,
-    )
+    if !both_fit(receiver, LIMIT_8, subchannel, LIMIT_8) {
+        return KeyAnswer::Refused(Refusal::BadKey);
+    }
+    KeyAnswer::Key(rsr_key_of(spacecraft, station, receiver, subchannel))
+}
+
+// The same where the numbers are known to fit.
+pub fn rsr_key_of(spacecraft: u32, station: u32, receiver: u32, subchannel: u32) -> u64
+    ensures { λ r. ⌜ r ≡ rsrKey spacecraft station receiver subchannel ⌝ }
+{
+    RSR_START
+        + spacecraft as u64 * AT_24
+        + station as u64 * AT_16
+        + receiver as u64 * AT_8
+        + subchannel as u64
 }
 
 // Whether a key is one that a stream can have.

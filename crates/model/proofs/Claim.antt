@@ -3,22 +3,18 @@
 -- Assumes nothing.
 use Prim.Native.Nat.{ℕ}
 use mathlib.Core.Path.{_≡_, refl, sym, ap, _∙_, subst}
-use mathlib.Core.Bool.{Bool, true, false, cond, _&&_}
 use mathlib.Core.List.{List, [], _∷_, _++_, map}
-use lib.Dec.{eqb}
-use Rattle.model.specs.Positions.{Positions}
-use Rattle.model.specs.Book.{working, Book, idle, fresh, desk}
-use Rattle.model.specs.Step.{Call, Enrol, Find, Open, Mark, Save, Drop, Answer, accepted, reply, refused, step, Entry, _⇒_, callOf, Run, run}
-use Rattle.model.specs.History.{noted, transactionFrom, transaction, kept, serialFrom, serial}
+use Rattle.model.specs.Book.{Book, idle, fresh}
+use Rattle.model.specs.Step.{Call, Save, Answer, step, Entry, _⇒_, callOf, run}
+use Rattle.model.specs.History.{serial}
 use Rattle.model.specs.WellFormed.{WellFormed, InRange, AllInRange}
 use Rattle.model.specs.Chain.{Chain, stop, next, Steps}
 use Rattle.model.specs.Claim.{bookAfter, Claim}
-use Rattle.model.proofs.Basics.{by-test}
 use Rattle.model.proofs.Outcome.{outcome}
 use Rattle.model.proofs.WellFormed.{well-formed, fresh-well-formed}
 use Rattle.model.proofs.Replay.{replays-run, serial-run}
 use Rattle.model.proofs.Stale.{watching, stale-exactly, stale-cause}
-use Rattle.model.proofs.History.{serial-order}
+use Rattle.model.proofs.History.{All, serial-all, serial-entries, serial-order}
 
 -- ---- a log cut in two
 
@@ -38,41 +34,18 @@ cut b ((x ⇒ y) ∷ past) c a future e =
 
 -- ---- the serial history is in range
 
-range-append : (xs ys : List Entry) → AllInRange (map callOf xs) → AllInRange (map callOf ys) → AllInRange (map callOf (xs ++ ys))
-unfolding AllInRange
-range-append [] ys f g = g
-range-append (x ∷ xs) ys f g = (f .0, range-append xs ys (f .1) g)
+range-all : (log : List Entry) → AllInRange (map callOf log) → All (λ e. InRange (callOf e)) log
+unfolding AllInRange All
+range-all [] f = tt
+range-all (e ∷ log) f = (f .0, range-all log (f .1))
 
-noted-range : (d : ℕ) (t : List Entry) (e : Entry) → AllInRange (map callOf t) → AllInRange (map callOf (noted d t e))
-unfolding noted AllInRange
-noted-range d t (Enrol key first ⇒ a) f = f
-noted-range d t (Find key ⇒ a) f = f
-noted-range d t (Open e r ⇒ a) f = by-test (λ es. AllInRange (map callOf es)) (accepted a && eqb e d) (λ _. (tt, tt)) (λ _. f)
-noted-range d t (Mark flag e n ⇒ a) f = by-test (λ es. AllInRange (map callOf es)) (eqb e d) (λ _. range-append t _ f (tt, tt)) (λ _. f)
-noted-range d t (Save e ⇒ a) f = f
-noted-range d t (Drop e ⇒ a) f = f
+all-range : (log : List Entry) → All (λ e. InRange (callOf e)) log → AllInRange (map callOf log)
+unfolding AllInRange All
+all-range [] f = tt
+all-range (e ∷ log) f = (f .0, all-range log (f .1))
 
-transaction-range : (d : ℕ) (t log : List Entry) → AllInRange (map callOf t) → AllInRange (map callOf (transactionFrom d t log))
-unfolding transactionFrom
-transaction-range d t [] f = f
-transaction-range d t (e ∷ log) f = transaction-range d (noted d t e) log (noted-range d t e f)
-
-kept-range : (past : List Entry) (e : Entry) → InRange (callOf e) → AllInRange (map callOf (kept past e))
-unfolding kept AllInRange
-kept-range past (Enrol key first ⇒ a) f = by-test (λ es. AllInRange (map callOf es)) (accepted a) (λ _. (f, tt)) (λ _. tt)
-kept-range past (Find key ⇒ a) f = tt
-kept-range past (Open d r ⇒ a) f = tt
-kept-range past (Mark flag d n ⇒ a) f = tt
-kept-range past (Save d ⇒ a) f =
-    by-test (λ es. AllInRange (map callOf es)) (accepted a)
-    (λ _. range-append (transaction d past) _ (transaction-range d [] past tt) (tt, tt))
-    (λ _. tt)
-kept-range past (Drop d ⇒ a) f = tt
-
-serial-range : (past log : List Entry) → AllInRange (map callOf log) → AllInRange (map callOf (serialFrom past log))
-unfolding serialFrom AllInRange
-serial-range past [] f = tt
-serial-range past (e ∷ log) f = range-append (kept past e) _ (kept-range past e (f .0)) (serial-range (past ++ e ∷ []) log (f .1))
+serial-range : (log : List Entry) → AllInRange (map callOf log) → AllInRange (map callOf (serial log))
+serial-range log f = all-range (serial log) (serial-all (λ e. InRange (callOf e)) log (range-all log f))
 
 -- ---- from the model's answers to the claim
 
@@ -93,6 +66,7 @@ module _ {S : Type 0} (Meets : Call → S → Answer → S → Type 0) (layout :
       record {
         model-answers = answers;
         model-store = laid;
+        serial-entries = serial-entries log;
         serial-order = serial-order log;
         serial-run = again;
         serial-store = λ other end chain e.
@@ -129,7 +103,7 @@ module _ {S : Type 0} (Meets : Call → S → Answer → S → Type 0) (layout :
   pub chain-claim : {log : List Entry} {last : S} → Chain Meets (layout fresh) log last → AllInRange (map callOf log) → Claim Meets layout log last
   chain-claim {log = log} {last = last} chain f =
       let k = chain-run chain f in
-      claim-from Meets layout log (k .0) last (k .1) (λ other end chain′ e. chain-run chain′ (rw e (serial-range [] log f)))
+      claim-from Meets layout log (k .0) last (k .1) (λ other end chain′ e. chain-run chain′ (rw e (serial-range log f)))
 
 -- ---- the model itself
 

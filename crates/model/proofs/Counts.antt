@@ -3,13 +3,14 @@
 use Prim.Native.Nat.{ℕ, zero, suc, _+_, _≤_, _<_, zero-le, suc-le-suc}
 use native.Mathlib.Nat.{zero-lt-suc}
 use native.Mathlib.Omega.{arith}
-use mathlib.Core.Path.{_≡_, refl, sym, ap, _∙_}
-use mathlib.Core.Logic.{_↔_}
-use mathlib.Core.Bool.{Bool, true, false, not, _&&_, _||_, true≢false, false≢true}
+use mathlib.Core.Path.{_≡_, refl, sym, ap}
+use mathlib.Core.Bool.{Bool, true, false, not, _&&_, true≢false, false≢true}
 use mathlib.Core.Option.{Option, none, some, Option·map, Option·none-ne-some}
 use mathlib.Core.List.{List, [], _∷_}
-use lib.ListN.{length, set}
-use Rattle.model.specs.Positions.{Positions, has, size, anyTicked, missing, least}
+use lib.ListN.{length, getD, set}
+use Rattle.model.specs.Positions.{Positions, has, size, anyTicked, missing, least, numberAt}
+use Rattle.model.specs.Book.{Place, free, row}
+use Rattle.model.specs.Counts.{gapOr, firstGapFrom}
 use Rattle.model.proofs.Basics.{and-true}
 
 -- ---- bounds
@@ -153,3 +154,40 @@ size-untick (true ∷ s) zero e = refl
 size-untick (false ∷ s) zero e = absurd (false≢true e)
 size-untick (true ∷ s) (suc i) e = ap suc (size-untick s i e)
 size-untick (false ∷ s) (suc i) e = size-untick s i e
+
+-- ---- the first gap
+
+-- Nothing is missing in a place.
+abbrev pub NoGap : Place → Type 0
+NoGap free = Unit {0}
+NoGap (row key first ticks) = least (missing ticks) ≡ none
+
+-- The first gap of places counted from r on: none in any place; or the lowest missing number of place i, and none before.
+pub data Gap (r : ℕ) (ps : List Place) : List ℕ → Type 0 where
+  no-gap : ((j : ℕ) → NoGap (getD ps j free)) → Gap r ps (0 ∷ [])
+  gap-at : (i key first : ℕ) (ticks : Positions) (p : ℕ) → getD ps i free ≡ row key first ticks → least (missing ticks) ≡ some p
+      → ((j : ℕ) → j < i → NoGap (getD ps j free)) → (q : ℕ) → q ≡ r + i → Gap r ps (0 ∷ numberAt key first p ∷ q ∷ [])
+
+-- A place without a gap, before the others.
+gap-after : (r : ℕ) (p : Place) (ps : List Place) → NoGap p → {words : List ℕ} → Gap (suc r) ps words → Gap r (p ∷ ps) words
+gap-after r p ps n (no-gap f) = no-gap all
+  where
+    all : (j : ℕ) → NoGap (getD (p ∷ ps) j free)
+    all zero = n
+    all (suc j) = f j
+gap-after r p ps n (gap-at i key first ticks k e l f q h) = gap-at (suc i) key first ticks k e l below q (omega arith)
+  where
+    below : (j : ℕ) → j < suc i → NoGap (getD (p ∷ ps) j free)
+    below zero b = n
+    below (suc j) b = f j (omega arith)
+
+pub first-gap : (r : ℕ) (ps : List Place) → Gap r ps (firstGapFrom r ps)
+unfolding firstGapFrom
+first-gap r [] = no-gap (λ j. tt)
+first-gap r (free ∷ ps) = gap-after r free ps tt (first-gap (suc r) ps)
+first-gap r (row key first ticks ∷ ps) = at (least (missing ticks)) refl (first-gap (suc r) ps)
+  where
+    at : (o : Option ℕ) → least (missing ticks) ≡ o → Gap (suc r) ps (firstGapFrom (suc r) ps)
+        → Gap r (row key first ticks ∷ ps) (gapOr key first r o (firstGapFrom (suc r) ps))
+    at none e g = gap-after r (row key first ticks) ps e g
+    at (some p) e g = gap-at zero key first ticks p refl e (λ j h. absurd (omega arith)) r (omega arith)

@@ -1,17 +1,84 @@
--- Checks on the definition of the serial history, that hold of every log, also of one that no run gives: its accepted enrolments
--- and saves are those of the log, in their order; and a transaction is the desk's last accepted open and all its ticks and
--- unticks since. Assumes nothing.
+-- Checks on the definition of the serial history, that hold of every log, also of one that no run gives: its entries are entries of
+-- the log; its accepted enrolments and saves are those of the log, in their order; and a transaction is the desk's last accepted
+-- open and all its ticks and unticks since. Assumes nothing.
 use Prim.Native.Nat.{ℕ}
-use mathlib.Core.Path.{_≡_, refl, sym, ap, _∙_}
+use mathlib.Core.Path.{_≡_, refl, sym, ap, _∙_, subst⁻¹}
 use mathlib.Core.Bool.{Bool, true, false, cond, _&&_}
 use mathlib.Core.Option.{Option, none, some}
-use mathlib.Core.List.{List, [], _∷_, _++_, append-assoc, append-nil}
+use mathlib.Core.List.{List, [], _∷_, _++_, append-assoc, append-nil, List·Memᴰ, List·Memᴰ·head, List·Memᴰ·tail, List·Memᴰ·not-nil}
 use lib.Dec.{eqb}
 use borrow.Author.Tests.{eq-eqb}
 use Rattle.model.specs.Step.{Enrol, Find, Open, Mark, Save, Drop, Answer, done, atRow, refused, accepted, Entry, _⇒_}
 use Rattle.model.specs.History.{noted, transactionFrom, transaction, kept, serialFrom, serial, isResult, results}
 use Rattle.model.specs.Stale.{openedBy, later, lastOpened}
 use Rattle.model.proofs.Basics.{by-test}
+
+-- ---- the entries
+
+-- What holds of every entry of a log.
+unfoldable pub All : (Entry → Type 0) → List Entry → Type 0
+All P [] = Unit {0}
+All P (e ∷ log) = P e × All P log
+
+module _ (P : Entry → Type 0) where
+  all-append : (xs ys : List Entry) → All P xs → All P ys → All P (xs ++ ys)
+  unfolding All
+  all-append [] ys f g = g
+  all-append (x ∷ xs) ys f g = (f .0, all-append xs ys (f .1) g)
+
+  all-one : (e : Entry) → P e → All P (e ∷ [])
+  unfolding All
+  all-one e p = (p, tt)
+
+  noted-all : (d : ℕ) (t : List Entry) (e : Entry) → All P t → P e → All P (noted d t e)
+  unfolding noted
+  noted-all d t (Enrol key first ⇒ a) f p = f
+  noted-all d t (Find key ⇒ a) f p = f
+  noted-all d t (Open e r ⇒ a) f p = by-test (All P) (accepted a && eqb e d) (λ _. all-one _ p) (λ _. f)
+  noted-all d t (Mark flag e n ⇒ a) f p = by-test (All P) (eqb e d) (λ _. all-append t _ f (all-one _ p)) (λ _. f)
+  noted-all d t (Save e ⇒ a) f p = f
+  noted-all d t (Drop e ⇒ a) f p = f
+
+  transaction-all : (d : ℕ) (t log : List Entry) → All P t → All P log → All P (transactionFrom d t log)
+  unfolding transactionFrom All
+  transaction-all d t [] f g = f
+  transaction-all d t (e ∷ log) f g = transaction-all d (noted d t e) log (noted-all d t e f (g .0)) (g .1)
+
+  kept-all : (past : List Entry) (e : Entry) → All P past → P e → All P (kept past e)
+  unfolding kept All
+  kept-all past (Enrol key first ⇒ a) f p = by-test (All P) (accepted a) (λ _. all-one _ p) (λ _. tt)
+  kept-all past (Find key ⇒ a) f p = tt
+  kept-all past (Open d r ⇒ a) f p = tt
+  kept-all past (Mark flag d n ⇒ a) f p = tt
+  kept-all past (Save d ⇒ a) f p =
+      by-test (All P) (accepted a) (λ _. all-append (transaction d past) _ (transaction-all d [] past tt f) (all-one _ p)) (λ _. tt)
+  kept-all past (Drop d ⇒ a) f p = tt
+
+  serialFrom-all : (past log : List Entry) → All P past → All P log → All P (serialFrom past log)
+  unfolding serialFrom All
+  serialFrom-all past [] f g = tt
+  serialFrom-all past (e ∷ log) f g =
+      all-append (kept past e) _ (kept-all past e f (g .0)) (serialFrom-all (past ++ e ∷ []) log (all-append past _ f (all-one e (g .0))) (g .1))
+
+  -- What holds of every entry of a log holds of every entry of its serial history.
+  pub serial-all : (log : List Entry) → All P log → All P (serial log)
+  unfolding All
+  serial-all log f = serialFrom-all [] log tt f
+
+  all-member : (log : List Entry) → All P log → (e : Entry) → List·Memᴰ e log → P e
+  unfolding All
+  all-member [] f e m = absurd (List·Memᴰ·not-nil m)
+  all-member (x ∷ log) f e (List·Memᴰ·head q) = subst⁻¹ P q (f .0)
+  all-member (x ∷ log) f e (List·Memᴰ·tail m) = all-member log (f .1) e m
+
+  member-all : (log : List Entry) → ((e : Entry) → List·Memᴰ e log → P e) → All P log
+  unfolding All
+  member-all [] f = tt
+  member-all (x ∷ log) f = (f x (List·Memᴰ·head refl), member-all log (λ e m. f e (List·Memᴰ·tail m)))
+
+pub serial-entries : (log : List Entry) (e : Entry) → List·Memᴰ e (serial log) → List·Memᴰ e log
+serial-entries log =
+    all-member (λ e. List·Memᴰ e log) (serial log) (serial-all (λ e. List·Memᴰ e log) log (member-all (λ e. List·Memᴰ e log) log (λ e m. m)))
 
 -- ---- the results
 

@@ -3,24 +3,24 @@
 use Prim.Native.Nat.{ℕ, zero, suc, _+_, _≤_, _<_, zero-le, suc-le-suc}
 use native.Mathlib.Nat.{zero-lt-suc}
 use native.Mathlib.Omega.{arith}
-use mathlib.Core.Path.{_≡_, refl, sym, ap, _∙_}
+use mathlib.Core.Path.{_≡_, refl, ap}
 use mathlib.Core.Logic.{_≢_}
 use mathlib.Core.Bool.{Bool, true, false, cond, not, Bool·beq, _||_, true≢false, false≢true}
-use mathlib.Core.Option.{Option, none, some}
+use mathlib.Core.Option.{some}
 use mathlib.Core.List.{List, [], _∷_, _++_}
 use lib.Dec.{eqb}
 use lib.ListN.{length, getD, set}
 use lib.Seq.{getD-set-same}
-use borrow.Author.Tests.{eqb-true, eqb-false, ltb-true, not-true, not-false}
+use borrow.Author.Tests.{eqb-true, eqb-false, ltb-true, not-false}
 use Rattle.refusals.specs.Judge.{verdict}
-use Rattle.model.specs.Positions.{rowLength, Positions, has, size, missing, inRow}
-use Rattle.model.specs.Book.{Place, free, row, working, Book, place, desk, isFree, ticksOf, workedOf, isDesk, hasKey, placeWith, lowestFree}
+use Rattle.model.specs.Positions.{rowLength, Positions, has, same, size, missing, inRow}
+use Rattle.model.specs.Book.{Place, free, row, closed, working, Book, place, desk, isFree, ticksOf, withTicks, workedOf, hasKey, placeWith, lowestFree}
 use Rattle.model.specs.Step.{Call, Enrol, Find, Open, Mark, Save, Drop, Answer, done, atRow, refused, answerWords, Reply, alreadySo, refusals, effect, step, run}
 use Rattle.model.specs.WellFormed.{WellFormed, PlaceOk, IsSet, keyOf}
-use Rattle.model.proofs.Basics.{by-test, by-bool, beq-true}
-use Rattle.model.proofs.Steps.{markVerdict}
-use Rattle.model.proofs.Outcome.{Outcome, refusal, unopened, unmarked, marking, outcome}
-use Rattle.model.proofs.Counts.{size-bound, size-missing, size-tick, size-untick}
+use Rattle.model.proofs.Basics.{by-test, row-in, HasRow, has-row, put-back}
+use Rattle.model.proofs.Steps.{markVerdict, save-step}
+use Rattle.model.proofs.Outcome.{Has, Outcome, refusal, unopened, unmarked, marking, outcome}
+use Rattle.model.proofs.Counts.{size-missing, size-tick, size-untick}
 
 -- ---- find
 
@@ -123,6 +123,36 @@ counts-bound b w r = at (place b r) (w .place-ok r)
     at : (p : Place) → PlaceOk p → size (ticksOf p) + size (missing (ticksOf p)) ≤ rowLength
     at free k = zero-le
     at (row key first ticks) k = rw (← k .2) (size-missing ticks)
+
+-- ---- the rule of save
+
+module _ (b : Book) (d r : ℕ) (opened worked : Positions) (h : Has b d r opened worked) where
+  -- An accepted save makes the worked set the row's.
+  pub save-stores : isFree (place b r) ≡ false → step (Save d) b .answer ≡ done → ticksOf (place (step (Save d) b .book) r) ≡ worked
+  save-stores u =
+      rw (save-step b d (h .0) r opened worked (h .1))
+      (by-test (λ (s : Reply). s .answer ≡ done → ticksOf (place (s .book) r) ≡ worked) (same (ticksOf (place b r)) opened)
+      (λ _ _. stored (has-row (place b r) u))
+      (λ _ a. absurd (let z : _≡_ {A = ℕ} 0 1 = cc in omega arith)))
+    where
+      stored : HasRow (place b r) → ticksOf (getD (set (b .places) r (withTicks worked (place b r))) r free) ≡ worked
+      stored k = rw (getD-set-same (b .places) r _ free (row-in (b .places) r (k .is)), k .is)
+
+  -- A stale one changes no place.
+  pub stale-stores-nothing : step (Save d) b .answer ≡ refused 31 → step (Save d) b .book .places ≡ b .places
+  stale-stores-nothing =
+      rw (save-step b d (h .0) r opened worked (h .1))
+      (by-test (λ (s : Reply). s .answer ≡ refused 31 → s .book .places ≡ b .places) (same (ticksOf (place b r)) opened)
+      (λ _ a. absurd (let z : _≡_ {A = ℕ} 0 1 = cc in omega arith))
+      (λ _ _. refl))
+
+  -- Either closes the desk.
+  pub save-closes : desk (step (Save d) b .book) d ≡ closed
+  save-closes =
+      rw (save-step b d (h .0) r opened worked (h .1))
+      (by-test (λ (s : Reply). desk (s .book) d ≡ closed) (same (ticksOf (place b r)) opened)
+      (λ _. put-back closed (λ x. x ≡ closed) (b .desks) d closed refl refl)
+      (λ _. put-back closed (λ x. x ≡ closed) (b .desks) d closed refl refl))
 
 -- ---- answers as numbers
 

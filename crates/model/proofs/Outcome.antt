@@ -1,15 +1,15 @@
 -- What a call can come to, and what is known in each case: a proof about every step goes by these cases. Assumes nothing.
 use Prim.Native.Nat.{ℕ}
 use mathlib.Core.Path.{_≡_, refl, sym, _∙_}
-use mathlib.Core.Bool.{Bool, true, false, cond, not, Bool·beq, false≢true}
+use mathlib.Core.Bool.{Bool, true, false, cond, not, false≢true}
 use lib.Dec.{eqb}
 use lib.ListN.{set}
 use borrow.Author.Tests.{eqb-true, not-false}
 use Rattle.refusals.specs.Judge.{verdict}
 use Rattle.keys.specs.Key.{validKey}
-use Rattle.model.specs.Positions.{Positions, noTicks, has, same, inRow}
+use Rattle.model.specs.Positions.{Positions, noTicks, same}
 use Rattle.model.specs.Book.{row, Desk, closed, working, Book, place, desk, putPlace, putDesk, isFree, ticksOf, withTicks, isDesk, isOpen, hasKey, placeWith, allUsed, lowestFree, positionAt}
-use Rattle.model.specs.Step.{Call, Enrol, Find, Open, Mark, Save, Drop, done, atRow, refused, Reply, reply, alreadySo, refusals, effect, afterRefusal, judged, step}
+use Rattle.model.specs.Step.{Call, Enrol, Find, Open, Mark, Save, Drop, done, atRow, refused, Reply, reply, refusals, effect, afterRefusal, judged, step}
 use Rattle.model.proofs.Basics.{by-test, by-bool, Lowest, lowest, HasRow, has-row}
 use Rattle.model.proofs.Steps.{markVerdict, mark-step, save-step, mark-closed, save-closed, mark-no-desk, save-no-desk}
 

@@ -11,14 +11,14 @@ use lib.ListN.{getD, set}
 use lib.Seq.{getD-set-same, getD-set-other, set-set, set-getD}
 use borrow.Author.Tests.{eq-eqb, ne-eqb}
 use Rattle.refusals.specs.Judge.{verdict}
-use Rattle.model.specs.Positions.{Positions, same, position}
+use Rattle.model.specs.Positions.{Positions, same}
 use Rattle.model.specs.Book.{Place, free, row, Desk, closed, working, Book, idle, fresh, place, desk, putPlace, putDesk, ticksOf, withTicks, isDesk, positionAt}
 use Rattle.model.specs.Step.{Call, Enrol, Find, Open, Mark, Save, Drop, Answer, done, refused, Reply, reply, refusals, effect, step, Entry, _⇒_, callOf, run}
 use Rattle.model.specs.History.{noted, transactionFrom, transaction, kept, serialFrom, serial}
 use Rattle.model.specs.Chain.{Chain, stop, next, Steps}
 use Rattle.model.proofs.Basics.{same-true, row-not-free, row-in, put-all, idle-desk, idle-close, at-desk}
 use Rattle.model.proofs.Steps.{markVerdict, open-step, mark-step, save-step}
-use Rattle.model.proofs.Outcome.{isMark, Has, Outcome, refusal, enrolment, finding, opening, unopened, unmarked, marking, saving, stale, dropping, outcome}
+use Rattle.model.proofs.Outcome.{isMark, Outcome, refusal, enrolment, finding, opening, unopened, unmarked, marking, saving, stale, dropping, outcome}
 
 -- ---- transactions
 

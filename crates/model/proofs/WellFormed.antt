@@ -5,13 +5,13 @@ use native.Mathlib.Omega.{arith}
 use mathlib.Core.Path.{_≡_, refl, sym, ap, _∙_}
 use mathlib.Core.Logic.{_≢_, _⊎_, inl, inr}
 use mathlib.Core.Bool.{true, false, true≢false}
-use mathlib.Core.Option.{Option, none, some}
+use mathlib.Core.Option.{some}
 use mathlib.Core.List.{List, [], _∷_}
 use lib.Dec.{eqb}
-use lib.ListN.{length, getD, set, length-set, length-replicate}
+use lib.ListN.{getD, set, length-set, length-replicate}
 use lib.Seq.{getD-set-same, getD-set-other}
 use borrow.Author.Tests.{eqb-false}
-use Rattle.model.specs.Positions.{rowLength, Positions, noTicks, numbers}
+use Rattle.model.specs.Positions.{rowLength, Positions, noTicks, modulus}
 use Rattle.model.specs.Book.{Place, free, row, Desk, closed, working, Book, fresh, place, desk, putPlace, putDesk, isFree, withTicks, hasKey, lowestFree}
 use Rattle.model.specs.Step.{Call, Reply, step, run}
 use Rattle.model.specs.WellFormed.{IsSet, PlaceOk, DeskOk, keyOf, WellFormed, InRange, AllInRange}
@@ -60,7 +60,7 @@ module _ (b : Book) (s : WellFormed b) where
         used-first = s .used-first;
       }
 
-  enrolled : (key first : ℕ) → first < numbers key → Admitted key b → WellFormed (putPlace (lowestFree (b .places)) (row key first noTicks) b)
+  enrolled : (key first : ℕ) → first < modulus key → Admitted key b → WellFormed (putPlace (lowestFree (b .places)) (row key first noTicks) b)
   enrolled key first fits a =
       record {
         places-count = rw length-set (s .places-count);

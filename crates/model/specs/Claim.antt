@@ -3,7 +3,7 @@
 use Prim.Native.Nat.{ℕ}
 use mathlib.Core.Path.{_≡_}
 use mathlib.Core.Logic.{_≢_, _↔_}
-use mathlib.Core.List.{List, _∷_, _++_, map}
+use mathlib.Core.List.{List, _∷_, _++_, map, List·Memᴰ}
 use Rattle.model.specs.Positions.{Positions}
 use Rattle.model.specs.Book.{working, Book, idle, fresh, place, desk, ticksOf}
 use Rattle.model.specs.Step.{Call, Save, Answer, refused, Entry, _⇒_, callOf, run}
@@ -19,8 +19,10 @@ pub record Claim {S : Type 0} (Meets : Call → S → Answer → S → Type 0) (
   -- 1. The answers are the model's, and the store left is the model's book laid out.
   pub model-answers : run fresh (map callOf log) .log ≡ log
   pub model-store : last ≡ layout (bookAfter log)
-  -- 2. The serial history has the log's accepted enrolments and saves in their order; its calls, run on a fresh book, get the
-  -- answers that they had in the log, and end with the log's places and no desk open. So do they on a fresh store.
+  -- 2. The serial history is made of entries of the log, and has its accepted enrolments and saves in their order. Its calls, run
+  -- on a fresh book, get the answers that they had in the log, and end with the log's places and no desk open; and so do they on
+  -- a fresh store.
+  pub serial-entries : (e : Entry) → List·Memᴰ e (serial log) → List·Memᴰ e log
   pub serial-order : results (serial log) ≡ results log
   pub serial-run : run fresh (map callOf (serial log)) ≡ record { log = serial log; book = idle (bookAfter log .places) }
   pub serial-store : (again : List Entry) (end : S) → Chain Meets (layout fresh) again end → map callOf again ≡ map callOf (serial log)

@@ -12,17 +12,17 @@ rowLength = 1024
 
 -- ---- numbers
 
--- How many record numbers a stream has before they start again. "This holds for every stream": the key decides nothing.
-abbrev pub numbers : (key : ℕ) → ℕ
-numbers key = 2 ^ 32
+-- What the record numbers of a stream are counted modulo. "This holds for every stream": the key decides nothing.
+abbrev pub modulus : (key : ℕ) → ℕ
+modulus key = 2 ^ 32
 
 -- "Number n has position (n - first) mod 2^32." The first number is below 2^32.
 unfoldable pub position : (key first n : ℕ) → ℕ
-position key first n = (n + (numbers key - first)) % numbers key
+position key first n = (n + (modulus key - first)) % modulus key
 
 -- The number at a position.
 unfoldable pub numberAt : (key first i : ℕ) → ℕ
-numberAt key first i = (first + i) % numbers key
+numberAt key first i = (first + i) % modulus key
 
 -- "and is in the row if that is under 1,024"
 abbrev pub inRow : ℕ → Bool

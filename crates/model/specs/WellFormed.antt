@@ -1,12 +1,12 @@
 -- What holds of every book that calls can reach, whatever the calls: what a ledger sheet needs of it. Assumes nothing.
-use Prim.Native.Nat.{ℕ, _≤_, _<_}
+use Prim.Native.Nat.{ℕ, _≤_, _<_, _^_}
 use mathlib.Core.Path.{_≡_}
 use mathlib.Core.Bool.{true, false}
 use mathlib.Core.Option.{Option, none, some}
 use mathlib.Core.List.{List, [], _∷_}
 use lib.ListN.{length, getD}
 use Rattle.keys.specs.Key.{validKey}
-use Rattle.model.specs.Positions.{rowLength, Positions, numbers}
+use Rattle.model.specs.Positions.{rowLength, Positions, modulus}
 use Rattle.model.specs.Book.{placeCount, deskCount, Place, free, row, Desk, closed, working, Book, place, desk, isFree}
 use Rattle.model.specs.Step.{Call, Enrol, Find, Open, Mark, Save, Drop}
 
@@ -15,7 +15,7 @@ IsSet s = length s ≡ rowLength
 
 abbrev pub PlaceOk : Place → Type 0
 PlaceOk free = Unit {0}
-PlaceOk (row key first ticks) = (validKey key ≡ true) × (first < numbers key) × IsSet ticks
+PlaceOk (row key first ticks) = (validKey key ≡ true) × (first < modulus key) × IsSet ticks
 
 abbrev pub DeskOk : List Place → Desk → Type 0
 DeskOk ps closed = Unit {0}
@@ -37,7 +37,7 @@ pub record WellFormed (b : Book) : Type 0 where
 
 -- Desks, rows and keys are numbers of any size; a first number is what its parameter holds, below 2^32.
 abbrev pub InRange : Call → Type 0
-InRange (Enrol key first) = first < numbers key
+InRange (Enrol key first) = first < 2 ^ 32
 InRange (Find key) = Unit {0}
 InRange (Open d r) = Unit {0}
 InRange (Mark flag d n) = Unit {0}

@@ -17,6 +17,21 @@ pub fn read_be(s: &[u8], a: usize, n: usize) -> u64
     v
 }
 
+// The same for two and for four bytes.
+pub fn read_u16(s: &[u8], a: usize) -> u16
+    requires { ⌜ a + 2 ≤ length (now s) ⌝ }
+    ensures { λ r. ⌜ r ≡ numberAt (now (s .entry)) a 2 ⌝ }
+{
+    read_be(s, a, 2) as u16
+}
+
+pub fn read_u32(s: &[u8], a: usize) -> u32
+    requires { ⌜ a + 4 ≤ length (now s) ⌝ }
+    ensures { λ r. ⌜ r ≡ numberAt (now (s .entry)) a 4 ⌝ }
+{
+    read_be(s, a, 4) as u32
+}
+
 fn wide(x: u8) -> u64
     ensures { λ r. ⌜ r ≡ x ⌝ }
 {

@@ -36,7 +36,7 @@ use Rattle.sfdu.specs.Nesting.{
   leastLabelLength,
   mostLabelLength,
 }
-use Rattle.sfdu.specs.Read.{hasKind, kindOf, labelLength, recordLength, blockType, blockLength, lengthInRange, isBlock, readRows, accepts, recordWords, readOne}
+use Rattle.sfdu.specs.Read.{hasKind, kindOf, labelLength, recordLength, blockType, blockLength, lengthInRange, isBlock, primaryOf, readRows, accepts, recordWords, readOne}
 
 pub in-range : (k : Kind) (s : List ℕ) → lengthInRange k s ≡ true
     → (leastLabelLength k ≤ labelLength s) × (labelLength s ≤ mostLabelLength k)
@@ -57,7 +57,7 @@ numbered : (s : List ℕ) → Numbered (readRows s)
 numbered s =
     (lit< tt, (lit< tt, (lit< tt, (lit< tt, (lit< tt, (lit< tt, (lit< tt, (lit< tt, (lit< tt, (lit< tt, (lit< tt, (lit< tt, tt))))))))))))
 
-none-holds : (s : List ℕ) → accepts s ≡ true → NoneHolds (readRows s)
+pub none-holds : (s : List ℕ) → accepts s ≡ true → NoneHolds (readRows s)
 unfolding accepts
 none-holds s e = verdict-none (readRows s) (numbered s) (eqb-true _ _ e)
 
@@ -98,6 +98,9 @@ found s k n rest e =
     let same : kindNumber k ≡ kindNumber (kindOf s) = cc in
     let size : n ≡ recordLength s = cc in
     record { accepted = a; kind = same-kind k (kindOf s) same; size = size; words = w }
+
+pub primary-found : {s : List ℕ} {k : Kind} {n : ℕ} {rest : List ℕ} → Found s k n rest → rest ≡ primaryOf s
+primary-found f = let w = f .words in cc
 
 pub record Accepted (s : List ℕ) : Type 0 where
   pub label : labelSize ≤ length s

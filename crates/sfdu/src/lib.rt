@@ -3,6 +3,9 @@ mod nesting;
 mod reader;
 mod writer;
 
+pub use nesting::PRIMARY_VALUE_AT;
+pub use nesting::SECONDARY_AT;
+pub use nesting::kind_number;
 pub use reader::data_part;
 pub use reader::read_one;
 pub use reader::secondary_part;

@@ -1,6 +1,6 @@
 // Where the parts of a record stand. Document 01, "How a record nests".
 ghost use mathlib.Core.Path.{_≡_};
-ghost use Rattle.sfdu.specs.Nesting.{secondaryLength, secondaryType, dataAt, dataValueAt, aggregationLength, leastLabelLength};
+ghost use Rattle.sfdu.specs.Nesting.{kindNumber, secondaryLength, secondaryType, dataAt, dataValueAt, aggregationLength, leastLabelLength};
 use crate::Kind;
 
 // The numbers that name the kinds in calls and answers.
@@ -55,6 +55,15 @@ pub const PRIMARY_TYPE: u64 = 2;
 pub const DATA_TYPE: u64 = 10;
 
 pub const MOST_DATA: usize = 65535;
+
+pub fn kind_number(kind: Kind) -> u32
+    ensures { λ r. ⌜ r ≡ kindNumber kind ⌝ }
+{
+    match kind {
+        Kind::Telemetry => TELEMETRY_NUMBER,
+        Kind::Rsr => RSR_NUMBER,
+    }
+}
 
 pub fn secondary_length(kind: Kind) -> usize
     ensures { λ r. ⌜ r ≡ secondaryLength kind ⌝ }

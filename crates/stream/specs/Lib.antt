@@ -1,4 +1,3 @@
-pub mod Standin
 pub mod Walk
 pub mod Listing
 pub mod Turn

@@ -6,7 +6,7 @@ use mathlib.Core.List.{List, [], _∷_, _++_, map}
 use lib.ListN.{length, drop}
 use Rattle.sfdu.specs.Nesting.{kindNumber}
 use Rattle.sfdu.specs.Read.{kindOf, recordLength}
-use Rattle.stream.specs.Standin.{recordNumber}
+use Rattle.headers.specs.Fields.{recordNumber}
 use Rattle.stream.specs.declared.Entry.{Entry}
 use Rattle.stream.specs.Walk.{whole, past, refusal}
 

@@ -1,6 +1,5 @@
 // Streams of records back to back: a cursor, a walk, number lists and a table of entries.
 mod listing;
-mod standin;
 mod walking;
 
 pub use listing::list_entries;

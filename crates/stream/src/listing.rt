@@ -1,7 +1,6 @@
 // Lists of a stream's records in two layouts: four lists of numbers, and a table of entries.
 ghost use mathlib.Core.Path.{_≡_};
 ghost use Prim.Native.Nat.{min};
-ghost use Rattle.sfdu.specs.Nesting.{kindNumber};
 ghost use Rattle.stream.specs.Walk.{wordsOf};
 ghost use Rattle.stream.specs.Listing.{entryAt, Columns, listNumbers, listEntries};
 ghost use Rattle.stream.specs.Turn.{RecordAt, TurnAt, noTurn};
@@ -11,19 +10,11 @@ use crate::Step;
 use crate::Stop;
 use crate::Turn;
 use crate::Walked;
-use crate::standin::record_number;
 use crate::walking::stopped;
+use headers::record_number;
 use refusals::Refusal;
 use sfdu::Kind;
-
-fn kind_number(kind: Kind) -> u32
-    ensures { λ r. ⌜ r ≡ kindNumber kind ⌝ }
-{
-    match kind {
-        Kind::Telemetry => 1,
-        Kind::Rsr => 2,
-    }
-}
+use sfdu::kind_number;
 
 // The entry of the record at a place.
 fn entry_at(s: &[u8], at: usize, kind: Kind, size: usize) -> Entry

@@ -6,49 +6,47 @@ use Rattle.keys.specs.Key.{rsrKeyCall}
 use Rattle.keys.proofs.rsr_key.Statement.{statement}
 use Rattle.keys.proofs.rsr_key.Tie as tie
 
-all-fit-requires : tie.Need-all-fit-requires
-all-fit-requires c κs = search needs
+both-fit-requires : tie.Need-both-fit-requires
+both-fit-requires c κs = search needs
 
 returns : tie.Need-returns
 unfolding rsrKeyCall verdict
-returns c = simp (← c .before .all-fit .ensures, not-true (c .before .all-fit .result) (c .if1 .taken))
+returns c = simp (← c .before .both-fit .ensures, not-true (c .before .both-fit .result) (c .if1 .taken))
 
-mul-t9 : tie.Need-mul-t9
-mul-t9 c = search needs
-
-add-t10 : tie.Need-add-t10
-add-t10 c = search needs
-
-mul-t12 : tie.Need-mul-t12
-mul-t12 c = search needs
-
-add-t13 : tie.Need-add-t13
-add-t13 c = search needs
-
-mul-t15 : tie.Need-mul-t15
-mul-t15 c = search needs
-
-add-t16 : tie.Need-add-t16
-add-t16 c = search needs
-
-add-t18 : tie.Need-add-t18
-add-t18 c = search needs
+both-fit-requires-2 : tie.Need-both-fit-requires-2
+both-fit-requires-2 c κs = search needs
 
 returns-2 : tie.Need-returns-2
 unfolding rsrKeyCall verdict
-returns-2 c = simp (← c .before .all-fit .ensures, not-false (c .before .all-fit .result) (c .if1 .left))
+returns-2 c =
+    simp (
+      ← c .before .before .before .both-fit .ensures,
+      not-false (c .before .before .before .both-fit .result) (c .before .before .if1 .left),
+      ← c .before .both-fit2 .ensures,
+      not-true (c .before .both-fit2 .result) (c .if2 .taken),
+    )
+
+rsr-key-of-requires : tie.Need-rsr-key-of-requires
+rsr-key-of-requires c κs = search needs
+
+returns-3 : tie.Need-returns-3
+unfolding rsrKeyCall verdict
+returns-3 c =
+    simp (
+      c .rsr-key-of .ensures,
+      ← c .before .before .before .before .both-fit .ensures,
+      not-false (c .before .before .before .before .both-fit .result) (c .before .before .before .if1 .left),
+      ← c .before .before .both-fit2 .ensures,
+      not-false (c .before .before .both-fit2 .result) (c .before .if2 .left),
+    )
 
 pub rsr-key-spec : {M : Type 1} → statement M
 rsr-key-spec =
     tie.close
     (tie.spec
-    all-fit-requires
+    both-fit-requires
     returns
-    mul-t9
-    add-t10
-    mul-t12
-    add-t13
-    mul-t15
-    add-t16
-    add-t18
-    returns-2)
+    both-fit-requires-2
+    returns-2
+    rsr-key-of-requires
+    returns-3)

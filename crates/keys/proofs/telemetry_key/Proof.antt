@@ -1,53 +1,62 @@
 -- `telemetry_key` meets its contract. Assumes nothing.
-use borrow.Author.Needs.{needs}
-use borrow.Author.Tests.{not-true, not-false}
-use native.Mathlib.Omega.{arith}
 use Prim.Native.Nat.{ℕ, _<_}
+use native.Mathlib.Omega.{arith}
 use mathlib.Core.Path.{_≡_, sym, _∙_}
 use mathlib.Core.Bool.{Bool, false, not, _&&_}
 use lib.Dec.{ltb}
+use borrow.Author.Needs.{needs}
+use borrow.Author.Tests.{ltb-true, not-true, not-false}
 use Rattle.refusals.specs.Judge.{verdict}
 use Rattle.keys.specs.Key.{telemetryKeyCall}
-use Rattle.keys.proofs.Laws.{below}
+use Rattle.keys.proofs.Laws.{and-true}
 use Rattle.keys.proofs.telemetry_key.Statement.{statement}
 use Rattle.keys.proofs.telemetry_key.Tie as tie
 
 -- The spacecraft's number is narrow enough for the sums.
-narrow : (spacecraft source equipment stream : ℕ) (fit : Bool)
-    → fit ≡ (ltb spacecraft 1024 && ltb source 256 && ltb equipment 65536 && ltb stream 256) → not fit ≡ false → spacecraft < 1024
-narrow spacecraft source equipment stream fit e t =
-    below spacecraft 1024 source 256 equipment 65536 stream 256 (sym e ∙ not-false fit t) .one
+narrow : (spacecraft source : ℕ) (fit : Bool) → fit ≡ (ltb spacecraft 1024 && ltb source 256) → not fit ≡ false → spacecraft < 1024
+narrow spacecraft source fit e t = ltb-true spacecraft 1024 (and-true _ _ (sym e ∙ not-false fit t) .0)
 
-all-fit-requires : tie.Need-all-fit-requires
-all-fit-requires c κs = search needs
+both-fit-requires : tie.Need-both-fit-requires
+both-fit-requires c κs = search needs
 
 returns : tie.Need-returns
 unfolding telemetryKeyCall verdict
-returns c = simp (← c .before .all-fit .ensures, not-true (c .before .all-fit .result) (c .if1 .taken))
+returns c = simp (← c .before .both-fit .ensures, not-true (c .before .both-fit .result) (c .if1 .taken))
 
-mul-t9 : tie.Need-mul-t9
-mul-t9 c = search needs
-
-mul-t11 : tie.Need-mul-t11
-mul-t11 c = search needs
-
-add-t12 : tie.Need-add-t12
-add-t12 c = omega (arith, narrow (c .before .before .args .spacecraft) (c .before .before .args .source) (c .before .before .args .equipment) (c .before .before .args .stream) (c .before .all-fit .result) (c .before .all-fit .ensures) (c .if1 .left))
-
-mul-t14 : tie.Need-mul-t14
-mul-t14 c = search needs
-
-add-t15 : tie.Need-add-t15
-add-t15 c = omega (arith, narrow (c .before .before .args .spacecraft) (c .before .before .args .source) (c .before .before .args .equipment) (c .before .before .args .stream) (c .before .all-fit .result) (c .before .all-fit .ensures) (c .if1 .left))
-
-add-t17 : tie.Need-add-t17
-add-t17 c = omega (arith, narrow (c .before .before .args .spacecraft) (c .before .before .args .source) (c .before .before .args .equipment) (c .before .before .args .stream) (c .before .all-fit .result) (c .before .all-fit .ensures) (c .if1 .left))
+both-fit-requires-2 : tie.Need-both-fit-requires-2
+both-fit-requires-2 c κs = search needs
 
 returns-2 : tie.Need-returns-2
 unfolding telemetryKeyCall verdict
-returns-2 c = simp (← c .before .all-fit .ensures, not-false (c .before .all-fit .result) (c .if1 .left))
+returns-2 c =
+    simp (
+      ← c .before .before .before .both-fit .ensures,
+      not-false (c .before .before .before .both-fit .result) (c .before .before .if1 .left),
+      ← c .before .both-fit2 .ensures,
+      not-true (c .before .both-fit2 .result) (c .if2 .taken),
+    )
+
+telemetry-key-of-requires : tie.Need-telemetry-key-of-requires
+telemetry-key-of-requires c κs = narrow (c .before .before .before .before .args .spacecraft) (c .before .before .before .before .args .source) (c .before .before .before .both-fit .result) (c .before .before .before .both-fit .ensures) (c .before .before .if1 .left)
+
+returns-3 : tie.Need-returns-3
+unfolding telemetryKeyCall verdict
+returns-3 c =
+    simp (
+      c .telemetry-key-of .ensures,
+      ← c .before .before .before .before .both-fit .ensures,
+      not-false (c .before .before .before .before .both-fit .result) (c .before .before .before .if1 .left),
+      ← c .before .before .both-fit2 .ensures,
+      not-false (c .before .before .both-fit2 .result) (c .before .if2 .left),
+    )
 
 pub telemetry-key-spec : {M : Type 1} → statement M
 telemetry-key-spec =
     tie.close
-    (tie.spec all-fit-requires returns mul-t9 mul-t11 add-t12 mul-t14 add-t15 add-t17 returns-2)
+    (tie.spec
+    both-fit-requires
+    returns
+    both-fit-requires-2
+    returns-2
+    telemetry-key-of-requires
+    returns-3)

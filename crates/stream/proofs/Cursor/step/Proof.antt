@@ -1,3 +1,4 @@
+-- `stream::Cursor::step` meets its contract: done, or what read one answers at the place. Assumes nothing.
 use mathlib.Core.Path.{sym, ap, _∙_}
 use Rattle.refusals.specs.Table.{numberOf}
 use Rattle.sfdu.specs.Read.{wordsOf, primaryWords, readOne}
@@ -6,35 +7,25 @@ use native.Mathlib.Omega.{arith}
 use borrow.Author.Needs.{needs}
 use Rattle.stream.proofs.Cursor.step.Statement.{statement}
 use Rattle.stream.proofs.Cursor.step.Tie as tie
-use Rattle.stream.proofs.Cursor.step.Reads as reads
-use Rattle.stream.proofs.Cursor.step.Lts as lts
-use Rattle.sfdu.proofs.read_one.Reads as read-one-reads
 
--- src/walking.rt:25:13
 returns : tie.Need-returns
 returns c = sym (step-done _ _ (c .if1 .taken))
 
--- src/walking.rt:27:30
 sub-read-one : tie.Need-sub-read-one
 sub-read-one c = search needs
 
--- src/walking.rt:27:30
 part-read-one-start : tie.Need-part-read-one-start
 part-read-one-start c = search needs
 
--- src/walking.rt:27:30
 part-read-one-end : tie.Need-part-read-one-end
 part-read-one-end c = search needs
 
--- src/walking.rt:27:13
 read-one-requires : tie.Need-read-one-requires
 read-one-requires c κs = search needs
 
--- src/walking.rt:30:17
 enum-known-found : tie.Need-enum-known-found
 enum-known-found c = search needs
 
--- src/walking.rt:37:36
 add-t16 : tie.Need-add-t16
 add-t16 c =
     let d = c .before .before .before .before .before in
@@ -46,11 +37,9 @@ add-t16 c =
     let w = whole-record s at (f .there .is-whole) in
     omega (arith, f .moved)
 
--- src/walking.rt:39:27
 enum-known-found-2 : tie.Need-enum-known-found-2
 enum-known-found-2 c = search needs
 
--- src/walking.rt:20:5
 returns-2 : tie.Need-returns-2
 returns-2 c =
     let d = c .before .before .before .before .before in
@@ -59,7 +48,6 @@ returns-2 c =
     let g = c .before .found .given .0 in
     sym (step-found s at (g .0) (g .1 .0) (primaryWords (g .1 .1 .0)) (d .if1 .left) (sym (ap wordsOf (c .before .found .given .1)) ∙ c .before .before .before .read-one .ensures ∙ ap readOne (from-there s at)))
 
--- src/walking.rt:20:5
 returns-3 : tie.Need-returns-3
 returns-3 c =
     let d = c .before .before .before .before .before in

@@ -5,38 +5,28 @@ use Rattle.stream.proofs.Underway.{entry-is}
 use borrow.Author.Needs.{needs}
 use Rattle.stream.proofs.listing.entry_at.Statement.{statement}
 use Rattle.stream.proofs.listing.entry_at.Tie as tie
-use Rattle.stream.proofs.listing.entry_at.Reads as reads
-use Rattle.stream.proofs.listing.entry_at.Lts as lts
-use Rattle.stream.proofs.listing.kind_number.Reads as kind-number-reads
-use Rattle.stream.proofs.standin.record_number.Reads as record-number-reads
 
--- src/listing.rt:35:15
 kind-number-requires : tie.Need-kind-number-requires
 kind-number-requires c κs = search needs
 
--- src/listing.rt:36:31
 sub-record-number : tie.Need-sub-record-number
 sub-record-number c =
     let w = whole-record _ _ (c .before .before .pre .is-whole) in
     omega (arith, w .further, w .within)
 
--- src/listing.rt:36:31
 part-record-number-start : tie.Need-part-record-number-start
 part-record-number-start c =
     let w = whole-record _ _ (c .before .before .pre .is-whole) in
     omega (arith, w .further, w .within)
 
--- src/listing.rt:36:31
 part-record-number-end : tie.Need-part-record-number-end
 part-record-number-end c = search needs
 
--- src/listing.rt:36:17
 record-number-requires : tie.Need-record-number-requires
 record-number-requires c κs =
     let d = c .before .before .before in
     headers-there (d .args .s .now) (d .args .at) (d .args .kind) (d .args .size) (d .pre)
 
--- src/listing.rt:28:1
 returns : tie.Need-returns
 returns c =
     let d = c .before .before .before .before in

@@ -6,10 +6,6 @@ use borrow.Author.Needs.{needs, scaled-fits}
 use Rattle.stream.proofs.Columns.{Round, begins, stores, same, finished}
 use Rattle.stream.proofs.listing.list_numbers.Statement.{statement}
 use Rattle.stream.proofs.listing.list_numbers.Tie as tie
-use Rattle.stream.proofs.listing.list_numbers.Reads as reads
-use Rattle.stream.proofs.listing.list_numbers.Lts as lts
-use Rattle.stream.proofs.listing.least.Reads as least-reads
-use Rattle.stream.proofs.listing.turn_at.Reads as turn-at-reads
 
 abbrev Inv-loop : tie.InvT-loop
 Inv-loop s places₀ lengths₀ kinds₀ numbers₀ size at₀ i₀ places lengths kinds numbers at i =
@@ -18,120 +14,99 @@ Inv-loop s places₀ lengths₀ kinds₀ numbers₀ size at₀ i₀ places lengt
 abbrev μ-loop : tie.MeasureT-loop
 μ-loop s places₀ lengths₀ kinds₀ numbers₀ size at₀ i₀ places lengths kinds numbers at i = size - i
 
--- src/listing.rt:120:9
 least-requires : tie.Need-least-requires Inv-loop μ-loop
 least-requires c κs = search needs
 
--- src/listing.rt:121:9
 least-requires-2 : tie.Need-least-requires-2 Inv-loop μ-loop
 least-requires-2 c κs = search needs
 
--- src/listing.rt:119:9
 least-requires-3 : tie.Need-least-requires-3 Inv-loop μ-loop
 least-requires-3 c κs = search needs
 
--- src/listing.rt:125:5
 loop-holds : tie.Need-loop-holds Inv-loop μ-loop
 loop-holds c = begins _ _ _ (rw (c .least3 .ensures, c .before .least2 .ensures, c .before .before .least .ensures))
 
--- src/listing.rt:126:13
 turn-at-requires : tie.Need-turn-at-requires Inv-loop μ-loop
 turn-at-requires c κs = search needs
 
--- src/listing.rt:129:13
 mul-places : tie.Need-mul-places Inv-loop μ-loop
 mul-places c =
     let d = c .before .before in
     let x = stores _ _ _ _ _ _ (d .before .loop .inv) (d .turn-at .result) (d .turn-at .ensures) (c .before .if1 .taken) in
     scaled-fits _ _ 8 (x .fits .places) (c .before .before .before .before .before .before .before .before .before .before .before .before .good .1 .0 .1)
 
--- src/listing.rt:129:13
 slice-write-places : tie.Need-slice-write-places Inv-loop μ-loop
 slice-write-places c =
     let d = c .before .before in
     let x = stores _ _ _ _ _ _ (d .before .loop .inv) (d .turn-at .result) (d .turn-at .ensures) (c .before .if1 .taken) in
     x .within .places
 
--- src/listing.rt:130:13
 mul-lengths : tie.Need-mul-lengths Inv-loop μ-loop
 mul-lengths c =
     let d = c .before .before in
     let x = stores _ _ _ _ _ _ (d .before .loop .inv) (d .turn-at .result) (d .turn-at .ensures) (c .before .if1 .taken) in
     scaled-fits _ _ 8 (x .fits .lengths) (c .before .before .before .before .before .before .before .before .before .before .before .before .good .1 .1 .0 .1)
 
--- src/listing.rt:130:13
 slice-write-lengths : tie.Need-slice-write-lengths Inv-loop μ-loop
 slice-write-lengths c =
     let d = c .before .before in
     let x = stores _ _ _ _ _ _ (d .before .loop .inv) (d .turn-at .result) (d .turn-at .ensures) (c .before .if1 .taken) in
     x .within .lengths
 
--- src/listing.rt:131:13
 mul-kinds : tie.Need-mul-kinds Inv-loop μ-loop
 mul-kinds c =
     let d = c .before .before in
     let x = stores _ _ _ _ _ _ (d .before .loop .inv) (d .turn-at .result) (d .turn-at .ensures) (c .before .if1 .taken) in
     scaled-fits _ _ 4 (x .fits .kinds) (c .before .before .before .before .before .before .before .before .before .before .before .before .good .1 .1 .1 .0 .1)
 
--- src/listing.rt:131:13
 slice-write-kinds : tie.Need-slice-write-kinds Inv-loop μ-loop
 slice-write-kinds c =
     let d = c .before .before in
     let x = stores _ _ _ _ _ _ (d .before .loop .inv) (d .turn-at .result) (d .turn-at .ensures) (c .before .if1 .taken) in
     x .within .kinds
 
--- src/listing.rt:132:13
 mul-numbers : tie.Need-mul-numbers Inv-loop μ-loop
 mul-numbers c =
     let d = c .before .before in
     let x = stores _ _ _ _ _ _ (d .before .loop .inv) (d .turn-at .result) (d .turn-at .ensures) (c .before .if1 .taken) in
     scaled-fits _ _ 4 (x .fits .numbers) (c .before .before .before .before .before .before .before .before .before .before .before .before .good .1 .1 .1 .1 .0 .1)
 
--- src/listing.rt:132:13
 slice-write-numbers : tie.Need-slice-write-numbers Inv-loop μ-loop
 slice-write-numbers c =
     let d = c .before .before in
     let x = stores _ _ _ _ _ _ (d .before .loop .inv) (d .turn-at .result) (d .turn-at .ensures) (c .before .if1 .taken) in
     x .within .numbers
 
--- src/listing.rt:134:17
 add-i : tie.Need-add-i Inv-loop μ-loop
 add-i c =
     let d = c .before .before in
     let x = stores _ _ _ _ _ _ (d .before .loop .inv) (d .turn-at .result) (d .turn-at .ensures) (c .before .if1 .taken) in
     omega (arith, x .less)
 
--- src/listing.rt:125:5
 loop-less : tie.Need-loop-less Inv-loop μ-loop
 loop-less c =
     let d = c .before .before in
     let x = stores _ _ _ _ _ _ (d .before .loop .inv) (d .turn-at .result) (d .turn-at .ensures) (c .before .if1 .taken) in
     omega (arith, x .less)
 
--- src/listing.rt:125:5
 loop-again : tie.Need-loop-again Inv-loop μ-loop
 loop-again c =
     let d = c .before .before in
     let x = stores _ _ _ _ _ _ (d .before .loop .inv) (d .turn-at .result) (d .turn-at .ensures) (c .before .if1 .taken) in
     x .then
 
--- src/listing.rt:136:13
 same-length : tie.Need-same-length Inv-loop μ-loop
 same-length c = same (c .before .before .before .loop .inv) .places
 
--- src/listing.rt:136:13
 same-length-2 : tie.Need-same-length-2 Inv-loop μ-loop
 same-length-2 c = same (c .before .before .before .loop .inv) .lengths
 
--- src/listing.rt:136:13
 same-length-3 : tie.Need-same-length-3 Inv-loop μ-loop
 same-length-3 c = same (c .before .before .before .loop .inv) .kinds
 
--- src/listing.rt:136:13
 same-length-4 : tie.Need-same-length-4 Inv-loop μ-loop
 same-length-4 c = same (c .before .before .before .loop .inv) .numbers
 
--- src/listing.rt:136:13
 returns : tie.Need-returns Inv-loop μ-loop
 returns c =
     finished _ _ _ _ _ _ (c .before .before .before .loop .inv) (c .before .before .turn-at .result) (c .before .before .turn-at .ensures) (c .before .if1 .left)

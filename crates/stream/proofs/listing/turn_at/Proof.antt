@@ -7,30 +7,19 @@ use Rattle.stream.proofs.Underway.{turn-lists, turn-full, turn-none}
 use borrow.Author.Needs.{needs}
 use Rattle.stream.proofs.listing.turn_at.Statement.{statement}
 use Rattle.stream.proofs.listing.turn_at.Tie as tie
-use Rattle.stream.proofs.listing.turn_at.Reads as reads
-use Rattle.stream.proofs.listing.turn_at.Lts as lts
-use Rattle.stream.proofs.Cursor.step.Reads as step-reads
-use Rattle.stream.proofs.listing.entry_at.Reads as entry-at-reads
-use Rattle.stream.proofs.listing.no_turn.Reads as no-turn-reads
-use Rattle.stream.proofs.walking.stopped.Reads as stopped-reads
 
--- src/listing.rt:64:9
 step-requires : tie.Need-step-requires
 step-requires c κs = search needs
 
--- src/listing.rt:67:13
 enum-known-found : tie.Need-enum-known-found
 enum-known-found c = search needs
 
--- src/listing.rt:73:32
 stopped-requires : tie.Need-stopped-requires
 stopped-requires c κs = search needs
 
--- src/listing.rt:73:17
 no-turn-requires : tie.Need-no-turn-requires
 no-turn-requires c κs = search needs
 
--- src/listing.rt:73:17
 returns : tie.Need-returns
 returns c =
     let d = c .before .before .before .before in
@@ -39,7 +28,6 @@ returns c =
     let f = found-there (a .s .now) (a .at) (g .0) (g .1 .0) (primaryWords (g .1 .1 .0)) (g .1 .1 .1 .0 .at) (sym (ap stepWords (d .found .given .1)) ∙ d .before .before .step .ensures) in
     rw (c .no-turn .ensures) (turn-full (a .s .now) (a .at) (a .count) (a .size) _ (f .there .is-whole) (c .before .before .if1 .taken) (ap wordsOf (c .before .stopped .ensures)))
 
--- src/listing.rt:77:24
 entry-at-requires : tie.Need-entry-at-requires
 entry-at-requires c κs =
     let d = c .before .before in
@@ -47,35 +35,27 @@ entry-at-requires c κs =
     let g = d .found .given .0 in
     found-there (a .s .now) (a .at) (g .0) (g .1 .0) (primaryWords (g .1 .1 .0)) (g .1 .1 .1 .0 .at) (sym (ap stepWords (d .found .given .1)) ∙ d .before .before .step .ensures) .there
 
--- src/listing.rt:79:25
 stopped-requires-2 : tie.Need-stopped-requires-2
 stopped-requires-2 c κs = search needs
 
--- src/listing.rt:82:53
 enum-told : tie.Need-enum-told
 enum-told c = search needs
 
--- src/listing.rt:82:34
 stopped-requires-3 : tie.Need-stopped-requires-3
 stopped-requires-3 c κs = search needs
 
--- src/listing.rt:82:26
 no-turn-requires-2 : tie.Need-no-turn-requires-2
 no-turn-requires-2 c κs = search needs
 
--- src/listing.rt:83:23
 enum-known-found-2 : tie.Need-enum-known-found-2
 enum-known-found-2 c = search needs
 
--- src/listing.rt:83:40
 stopped-requires-4 : tie.Need-stopped-requires-4
 stopped-requires-4 c κs = search needs
 
--- src/listing.rt:83:32
 no-turn-requires-3 : tie.Need-no-turn-requires-3
 no-turn-requires-3 c κs = search needs
 
--- src/listing.rt:60:1
 returns-2 : tie.Need-returns-2
 returns-2 c =
     let d = c .before .before .before .before in
@@ -84,7 +64,6 @@ returns-2 c =
     let f = found-there (a .s .now) (a .at) (g .0) (g .1 .0) (primaryWords (g .1 .1 .0)) (g .1 .1 .1 .0 .at) (sym (ap stepWords (d .found .given .1)) ∙ d .before .before .step .ensures) in
     turn-lists (a .s .now) (a .at) (a .count) (a .size) _ _ _ (f .there .is-whole) (c .before .before .if1 .left) (c .before .entry-at .ensures) (f .moved)
 
--- src/listing.rt:60:1
 returns-3 : tie.Need-returns-3
 returns-3 c =
     let d = c .before .before in
@@ -92,7 +71,6 @@ returns-3 c =
     let n = done-there (a .s .now) (a .at) _ (sym (ap stepWords (d .enum-told .given .1)) ∙ d .before .before .step .ensures) in
     rw (c .no-turn2 .ensures) (turn-none (a .s .now) (a .at) (a .count) (a .size) _ _ _ n (ap wordsOf (c .before .stopped3 .ensures)))
 
--- src/listing.rt:60:1
 returns-4 : tie.Need-returns-4
 returns-4 c =
     let d = c .before .before .before in

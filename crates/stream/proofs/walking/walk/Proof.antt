@@ -10,9 +10,6 @@ use Rattle.stream.proofs.Places.{whole-record, found-there, done-there,
 use Rattle.stream.proofs.Passed.{Passed, begins, passes, finished}
 use Rattle.stream.proofs.walking.walk.Statement.{statement}
 use Rattle.stream.proofs.walking.walk.Tie as tie
-use Rattle.stream.proofs.walking.walk.Reads as reads
-use Rattle.stream.proofs.walking.walk.Lts as lts
-use Rattle.stream.proofs.Cursor.step.Reads as step-reads
 
 abbrev Inv-loop : tie.InvT-loop
 Inv-loop s at₀ count₀ at count = Passed s at count
@@ -20,19 +17,15 @@ Inv-loop s at₀ count₀ at count = Passed s at count
 abbrev μ-loop : tie.MeasureT-loop
 μ-loop s at₀ count₀ at count = length s - at
 
--- src/walking.rt:50:5
 loop-holds : tie.Need-loop-holds Inv-loop μ-loop
 loop-holds c = begins _
 
--- src/walking.rt:52:13
 step-requires : tie.Need-step-requires Inv-loop μ-loop
 step-requires c κs = search needs
 
--- src/walking.rt:58:17
 enum-known-found : tie.Need-enum-known-found Inv-loop μ-loop
 enum-known-found c = search needs
 
--- src/walking.rt:61:25
 add-count : tie.Need-add-count Inv-loop μ-loop
 add-count c =
     let u = c .before .before .before .before .loop in
@@ -42,7 +35,6 @@ add-count c =
     let w = whole-record s (u .at) (f .there .is-whole) in
     omega (arith, u .inv .few)
 
--- src/walking.rt:50:5
 loop-less : tie.Need-loop-less Inv-loop μ-loop
 loop-less c =
     let u = c .before .before .before .before .loop in
@@ -52,7 +44,6 @@ loop-less c =
     let w = whole-record s (u .at) (f .there .is-whole) in
     omega (arith, f .moved)
 
--- src/walking.rt:50:5
 loop-again : tie.Need-loop-again Inv-loop μ-loop
 loop-again c =
     let u = c .before .before .before .before .loop in
@@ -62,11 +53,9 @@ loop-again c =
     let w = whole-record s (u .at) (f .there .is-whole) in
     rw (f .moved) (passes s (u .at) (u .count) (u .inv) (f .there .is-whole))
 
--- src/walking.rt:67:27
 enum-told : tie.Need-enum-told Inv-loop μ-loop
 enum-told c = search needs
 
--- src/walking.rt:64:17
 stopped-requires : tie.Need-stopped-requires Inv-loop μ-loop
 stopped-requires c κs = search needs
 
@@ -77,11 +66,9 @@ returns c =
     let n = done-there s (u .at) _ (sym (ap stepWords (c .before .enum-told .given .1)) ∙ c .before .before .before .step .ensures) in
     ap wordsOf (c .stopped .ensures) ∙ finished s (u .at) (u .count) (u .inv) _ (n .none) (n .number)
 
--- src/walking.rt:70:27
 enum-known-found-2 : tie.Need-enum-known-found-2 Inv-loop μ-loop
 enum-known-found-2 c = search needs
 
--- src/walking.rt:71:17
 stopped-requires-2 : tie.Need-stopped-requires-2 Inv-loop μ-loop
 stopped-requires-2 c κs = search needs
 

@@ -1,0 +1,124 @@
+-- Document 01, "Telemetry secondary" and "RSR secondary": where the fields stand. Offsets count from the secondary block's start,
+-- as the paper gives them. s is a record. Assumes nothing.
+use Prim.Native.Nat.{ℕ, _+_, _*_, _%_}
+use mathlib.Core.Bool.{Bool, cond, _||_}
+use mathlib.Core.List.{List}
+use lib.Dec.{eqb, ltb, leb}
+use lib.IntN.{ℤ, pos, _-ℤ_}
+use lib.ListN.{getD}
+use Rattle.octets.specs.Octets.{numberAt}
+use Rattle.sfdu.specs.declared.Kind.{Kind}
+use Rattle.sfdu.specs.declared.Kind.the-variants.{Telemetry, Rsr}
+use Rattle.sfdu.specs.Nesting.{secondaryAt}
+
+-- The byte at an offset of the secondary block, and the number in `width` bytes from there.
+abbrev pub byteAt : List ℕ → ℕ → ℕ
+byteAt s at = getD s (secondaryAt + at) 0
+
+abbrev pub fieldAt : List ℕ → (at width : ℕ) → ℕ
+fieldAt s at width = numberAt s (secondaryAt + at) width
+
+-- ---- telemetry
+
+-- "The lowest two bits of byte 6, then byte 7 (0 to 1,023)."
+abbrev pub spacecraft : List ℕ → ℕ
+spacecraft s = byteAt s 6 % 4 * 256 + byteAt s 7
+
+abbrev pub source : List ℕ → ℕ
+source s = byteAt s 10
+
+abbrev pub received : List ℕ → ℕ
+received s = fieldAt s 14 8
+
+abbrev pub uplinkAt : ℕ
+uplinkAt = 26
+
+abbrev pub uplink : List ℕ → ℕ
+uplink s = byteAt s uplinkAt
+
+-- "The lowest two bits of 28."
+abbrev pub predictsMode : List ℕ → ℕ
+predictsMode s = byteAt s 28 % 4
+
+-- "The band is handed out only in mode 2 or 3."
+abbrev pub hasBand : List ℕ → Bool
+hasBand s = leb 2 (predictsMode s)
+
+abbrev pub virtualStream : List ℕ → ℕ
+virtualStream s = byteAt s 30
+
+abbrev pub equipment : List ℕ → ℕ
+equipment s = fieldAt s 74 2
+
+-- ---- RSR
+
+abbrev pub software : List ℕ → ℕ
+software s = fieldAt s 6 2
+
+abbrev pub complex : List ℕ → ℕ
+complex s = byteAt s 10
+
+abbrev pub station : List ℕ → ℕ
+station s = byteAt s 11
+
+abbrev pub receiver : List ℕ → ℕ
+receiver s = byteAt s 12
+
+abbrev pub subchannel : List ℕ → ℕ
+subchannel s = byteAt s 13
+
+abbrev pub rsrSpacecraft : List ℕ → ℕ
+rsrSpacecraft s = byteAt s 15
+
+abbrev pub pass : List ℕ → ℕ
+pass s = fieldAt s 16 2
+
+abbrev pub rsrUplink : List ℕ → ℕ
+rsrUplink s = byteAt s 18
+
+abbrev pub downlink : List ℕ → ℕ
+downlink s = byteAt s 19
+
+abbrev pub rsrMode : List ℕ → ℕ
+rsrMode s = byteAt s 20
+
+abbrev pub uplinkStation : List ℕ → ℕ
+uplinkStation s = byteAt s 21
+
+-- A byte in two's complement.
+unfoldable pub signedByte : ℕ → ℤ
+signedByte b = cond (ltb b 128) (pos b) (pos b -ℤ pos 256)
+
+abbrev pub expected : List ℕ → ℤ
+expected s = signedByte (byteAt s 22)
+
+abbrev pub bandwidth : List ℕ → ℕ
+bandwidth s = byteAt s 23
+
+abbrev pub overrideFlag : List ℕ → ℕ
+overrideFlag s = byteAt s 24
+
+abbrev pub attenuation : List ℕ → ℕ
+attenuation s = byteAt s 25
+
+abbrev pub rms : List ℕ → ℕ
+rms s = byteAt s 26
+
+abbrev pub peak : List ℕ → ℕ
+peak s = byteAt s 27
+
+abbrev pub year : List ℕ → ℕ
+year s = fieldAt s 28 2
+
+abbrev pub day : List ℕ → ℕ
+day s = fieldAt s 30 2
+
+abbrev pub overrideFrequency : List ℕ → ℕ
+overrideFrequency s = fieldAt s 64 8
+
+-- ---- both
+
+-- The record number: 22 to 25 for telemetry, 8 and 9 for RSR.
+unfoldable pub recordNumber : Kind → List ℕ → ℕ
+recordNumber Telemetry s = fieldAt s 22 4
+recordNumber Rsr s = fieldAt s 8 2

@@ -1,0 +1,78 @@
+-- Document 01: which fields are judged, and refusal 12: "a field out of range; it gives the first byte of the lowest such field,
+-- counted from the record's start". Assumes nothing.
+use Prim.Native.Nat.{ℕ, _+_}
+use mathlib.Core.Bool.{Bool, not, _&&_, _||_}
+use mathlib.Core.List.{List, [], _∷_, _++_, map}
+use lib.Dec.{eqb, leb}
+use lib.ListN.{getD}
+use Rattle.refusals.specs.Judge.{Row, _when_, verdict}
+use Rattle.sfdu.specs.declared.Kind.{Kind}
+use Rattle.sfdu.specs.declared.Kind.the-variants.{Telemetry, Rsr}
+use Rattle.sfdu.specs.Nesting.{primaryValueAt, secondaryAt}
+use Rattle.headers.specs.declared.Allowed.{Allowed}
+use Rattle.headers.specs.declared.Allowed.the-variants.{Between, Bands}
+use Rattle.headers.specs.declared.Judged.{Judged}
+use Rattle.headers.specs.Fields.{uplinkAt, uplink, hasBand, year, day}
+use Rattle.headers.specs.Date.{isYear, isDay}
+
+-- The letters of the bands: K, S, U, X.
+abbrev pub letterK : ℕ
+letterK = 75
+
+abbrev pub letterS : ℕ
+letterS = 83
+
+abbrev pub letterU : ℕ
+letterU = 85
+
+abbrev pub letterX : ℕ
+letterX = 88
+
+-- RSR: "(S, X, K)". Telemetry: "U, S, X or K".
+unfoldable pub isRsrBand : ℕ → Bool
+isRsrBand b = eqb b letterS || eqb b letterX || eqb b letterK
+
+unfoldable pub isBand : ℕ → Bool
+isBand b = eqb b letterU || isRsrBand b
+
+unfoldable pub inRange : Allowed → ℕ → Bool
+inRange (Between low high) b = leb low b && leb b high
+inRange Bands b = isRsrBand b
+
+-- The judged bytes of an RSR record, from the lowest: the primary's major class, minor class and format; then uplink and
+-- downlink band, mode, bandwidth, attenuation, RMS and peak.
+unfoldable pub judgedBytes : List Judged
+judgedBytes =
+    record { at = primaryValueAt; allowed = Between 21 21 }
+    ∷ record { at = primaryValueAt + 1; allowed = Between 4 4 }
+    ∷ record { at = primaryValueAt + 3; allowed = Between 0 0 }
+    ∷ record { at = secondaryAt + 18; allowed = Bands }
+    ∷ record { at = secondaryAt + 19; allowed = Bands }
+    ∷ record { at = secondaryAt + 20; allowed = Between 1 3 }
+    ∷ record { at = secondaryAt + 23; allowed = Between 1 127 }
+    ∷ record { at = secondaryAt + 25; allowed = Between 0 63 }
+    ∷ record { at = secondaryAt + 26; allowed = Between 0 128 }
+    ∷ record { at = secondaryAt + 27; allowed = Between 0 128 }
+    ∷ []
+
+-- What stands past the table's end.
+abbrev pub noField : Judged
+noField = record { at = 0; allowed = Between 0 0 }
+
+abbrev pub byteRow : List ℕ → Judged → Row
+byteRow s f = (f .at) when not (inRange (f .allowed) (getD s (f .at) 0))
+
+abbrev pub byteRows : List ℕ → List Row
+byteRows s = map (byteRow s) judgedBytes
+
+abbrev pub dateRows : List ℕ → List Row
+dateRows s = ((secondaryAt + 28) when not (isYear (year s))) ∷ ((secondaryAt + 30) when not (isDay (year s) (day s))) ∷ []
+
+-- Each judged field, from the lowest: its offset, given when it is out of range.
+abbrev pub fieldRows : Kind → List ℕ → List Row
+fieldRows Telemetry s = ((secondaryAt + uplinkAt) when (hasBand s && not (isBand (uplink s)))) ∷ []
+fieldRows Rsr s = byteRows s ++ dateRows s
+
+-- The offset of the lowest field out of range, or 0 where none is.
+unfoldable pub fault : Kind → List ℕ → ℕ
+fault k s = verdict (fieldRows k s)

@@ -1,0 +1,293 @@
+// The fields of an RSR record.
+ghost use mathlib.Core.Path.{_≡_};
+ghost use Prim.Native.Nat.{_≤_, _<_};
+ghost use lib.ListN.{length, getD};
+ghost use Rattle.refusals.specs.Judge.{verdict};
+ghost use Rattle.sfdu.specs.declared.Kind.the-variants.{Rsr};
+ghost use Rattle.sfdu.specs.Nesting.{dataValueAt};
+ghost use Rattle.sfdu.specs.Read.{primaryWords, primaryOf, recordLength};
+ghost use Rattle.headers.specs.Date.{isYear, isDay};
+ghost use Rattle.headers.specs.Fields.{recordNumber, signedByte};
+ghost use Rattle.headers.specs.Headers.{wordsOf, acceptedFields, judgedFields, sourceWords, sourceOf, signalWords, signalOf, timeWords, timeOf};
+ghost use Rattle.headers.specs.Ranges.{fault, inRange, isRsrBand, judgedBytes, noField, byteRows, dateRows};
+use crate::Allowed;
+use crate::Headers;
+use crate::Judged;
+use crate::RsrSignal;
+use crate::RsrSource;
+use crate::RsrTime;
+use octets::read_be;
+use octets::read_u16;
+use sfdu::PRIMARY_VALUE_AT;
+use sfdu::Primary;
+use sfdu::SECONDARY_AT;
+
+// Where the fields stand, from the record's start.
+const SOFTWARE_AT: usize = SECONDARY_AT + 6;
+
+const NUMBER_AT: usize = SECONDARY_AT + 8;
+
+const COMPLEX_AT: usize = SECONDARY_AT + 10;
+
+const STATION_AT: usize = SECONDARY_AT + 11;
+
+const RECEIVER_AT: usize = SECONDARY_AT + 12;
+
+const SUBCHANNEL_AT: usize = SECONDARY_AT + 13;
+
+const SPACECRAFT_AT: usize = SECONDARY_AT + 15;
+
+const PASS_AT: usize = SECONDARY_AT + 16;
+
+const UPLINK_AT: usize = SECONDARY_AT + 18;
+
+const DOWNLINK_AT: usize = SECONDARY_AT + 19;
+
+const MODE_AT: usize = SECONDARY_AT + 20;
+
+const UPLINK_STATION_AT: usize = SECONDARY_AT + 21;
+
+const EXPECTED_AT: usize = SECONDARY_AT + 22;
+
+const BANDWIDTH_AT: usize = SECONDARY_AT + 23;
+
+const OVERRIDDEN_AT: usize = SECONDARY_AT + 24;
+
+const ATTENUATION_AT: usize = SECONDARY_AT + 25;
+
+const RMS_AT: usize = SECONDARY_AT + 26;
+
+const PEAK_AT: usize = SECONDARY_AT + 27;
+
+const YEAR_AT: usize = SECONDARY_AT + 28;
+
+const DAY_AT: usize = SECONDARY_AT + 30;
+
+const FREQUENCY_AT: usize = SECONDARY_AT + 64;
+
+const FREQUENCY: usize = 8;
+
+// The judged bytes, from the lowest.
+const JUDGED: [Judged; 10] = [
+    Judged {
+        at: PRIMARY_VALUE_AT,
+        allowed: Allowed::Between(21, 21),
+    },
+    Judged {
+        at: PRIMARY_VALUE_AT + 1,
+        allowed: Allowed::Between(4, 4),
+    },
+    Judged {
+        at: PRIMARY_VALUE_AT + 3,
+        allowed: Allowed::Between(0, 0),
+    },
+    Judged {
+        at: UPLINK_AT,
+        allowed: Allowed::Bands,
+    },
+    Judged {
+        at: DOWNLINK_AT,
+        allowed: Allowed::Bands,
+    },
+    Judged {
+        at: MODE_AT,
+        allowed: Allowed::Between(1, 3),
+    },
+    Judged {
+        at: BANDWIDTH_AT,
+        allowed: Allowed::Between(1, 127),
+    },
+    Judged {
+        at: ATTENUATION_AT,
+        allowed: Allowed::Between(0, 63),
+    },
+    Judged {
+        at: RMS_AT,
+        allowed: Allowed::Between(0, 128),
+    },
+    Judged {
+        at: PEAK_AT,
+        allowed: Allowed::Between(0, 128),
+    },
+];
+
+const FIRST_YEAR: u16 = 1900;
+
+const LAST_YEAR: u16 = 3000;
+
+const LAST_DAY: u16 = 366;
+
+// The fields and the key of a whole RSR record, or the offset of the lowest field out of range.
+pub fn fields(s: &[u8], size: usize, primary: Primary) -> Headers
+    requires { ⌜ (size ≡ recordLength (now s)) × (primaryWords primary ≡ primaryOf (now s)) × (dataValueAt Rsr ≤ length (now s)) ⌝ }
+    ensures { λ r. ⌜ wordsOf r ≡ judgedFields Rsr (now (s .entry)) ⌝ }
+{
+    let at = field_fault(s);
+    if at != 0 {
+        return Headers::OutOfRange(at);
+    }
+    read_fields(s, size, primary)
+}
+
+fn read_fields(s: &[u8], size: usize, primary: Primary) -> Headers
+    requires { ⌜ (size ≡ recordLength (now s)) × (primaryWords primary ≡ primaryOf (now s)) × (dataValueAt Rsr ≤ length (now s)) ⌝ }
+    ensures { λ r. ⌜ wordsOf r ≡ acceptedFields Rsr (now (s .entry)) ⌝ }
+{
+    let source = read_source(s);
+    let signal = read_signal(s);
+    let time = read_time(s);
+    let key = keys::rsr_key_of(
+        source.spacecraft as u32,
+        source.station as u32,
+        source.receiver as u32,
+        source.subchannel as u32,
+    );
+    Headers::Rsr {
+        size,
+        primary,
+        source,
+        signal,
+        time,
+        key,
+    }
+}
+
+// The offset of the lowest field out of range, or 0.
+fn field_fault(s: &[u8]) -> usize
+    requires { ⌜ dataValueAt Rsr ≤ length (now s) ⌝ }
+    ensures { λ r. ⌜ r ≡ fault Rsr (now (s .entry)) ⌝ }
+{
+    let at = byte_fault(s);
+    if at != 0 {
+        return at;
+    }
+    date_fault(s)
+}
+
+fn byte_fault(s: &[u8]) -> usize
+    requires { ⌜ dataValueAt Rsr ≤ length (now s) ⌝ }
+    ensures { λ r. ⌜ r ≡ verdict (byteRows (now (s .entry))) ⌝ }
+{
+    for i in 0..JUDGED.len() {
+        let field = judged(i);
+        let at = field.at;
+        let allowed = field.allowed;
+        if !in_range(allowed, s[at]) {
+            return at;
+        }
+    }
+    0
+}
+
+fn judged(i: usize) -> Judged
+    requires { ⌜ i < 10 ⌝ }
+    ensures { λ r. ⌜ r ≡ getD judgedBytes i noField ⌝ }
+{
+    JUDGED[i]
+}
+
+fn in_range(allowed: Allowed, b: u8) -> bool
+    ensures { λ r. ⌜ r ≡ inRange allowed b ⌝ }
+{
+    match allowed {
+        Allowed::Between(low, high) => (low <= b) & (b <= high),
+        Allowed::Bands => is_band(b),
+    }
+}
+
+pub fn is_band(b: u8) -> bool
+    ensures { λ r. ⌜ r ≡ isRsrBand b ⌝ }
+{
+    (b == b'S') | (b == b'X') | (b == b'K')
+}
+
+fn date_fault(s: &[u8]) -> usize
+    requires { ⌜ dataValueAt Rsr ≤ length (now s) ⌝ }
+    ensures { λ r. ⌜ r ≡ verdict (dateRows (now (s .entry))) ⌝ }
+{
+    let year = read_u16(s, YEAR_AT);
+    if !is_year(year) {
+        return YEAR_AT;
+    }
+    let day = read_u16(s, DAY_AT);
+    if !is_day(year, day) {
+        return DAY_AT;
+    }
+    0
+}
+
+fn is_year(year: u16) -> bool
+    ensures { λ r. ⌜ r ≡ isYear year ⌝ }
+{
+    (FIRST_YEAR <= year) & (year <= LAST_YEAR)
+}
+
+// Whether a day is one of the year.
+fn is_day(_year: u16, day: u16) -> bool
+    ensures { λ r. ⌜ r ≡ isDay «_year» day ⌝ }
+{
+    (1 <= day) & (day <= LAST_DAY)
+}
+
+fn read_source(s: &[u8]) -> RsrSource
+    requires { ⌜ dataValueAt Rsr ≤ length (now s) ⌝ }
+    ensures { λ r. ⌜ sourceWords r ≡ sourceOf (now (s .entry)) ⌝ }
+{
+    RsrSource {
+        software: read_u16(s, SOFTWARE_AT),
+        number: number(s),
+        complex: s[COMPLEX_AT],
+        station: s[STATION_AT],
+        receiver: s[RECEIVER_AT],
+        subchannel: s[SUBCHANNEL_AT],
+        spacecraft: s[SPACECRAFT_AT],
+        pass: read_u16(s, PASS_AT),
+    }
+}
+
+pub fn number(s: &[u8]) -> u16
+    requires { ⌜ dataValueAt Rsr ≤ length (now s) ⌝ }
+    ensures { λ r. ⌜ r ≡ recordNumber Rsr (now (s .entry)) ⌝ }
+{
+    read_u16(s, NUMBER_AT)
+}
+
+fn read_signal(s: &[u8]) -> RsrSignal
+    requires { ⌜ dataValueAt Rsr ≤ length (now s) ⌝ }
+    ensures { λ r. ⌜ signalWords r ≡ signalOf (now (s .entry)) ⌝ }
+{
+    let expected = signed(s[EXPECTED_AT]);
+    RsrSignal {
+        uplink: s[UPLINK_AT],
+        downlink: s[DOWNLINK_AT],
+        mode: s[MODE_AT],
+        uplink_station: s[UPLINK_STATION_AT],
+        expected,
+        bandwidth: s[BANDWIDTH_AT],
+        overridden: s[OVERRIDDEN_AT],
+        attenuation: s[ATTENUATION_AT],
+        rms: s[RMS_AT],
+        peak: s[PEAK_AT],
+    }
+}
+
+// A byte in two's complement.
+fn signed(b: u8) -> i8
+    ensures { λ r. ⌜ r ≡ signedByte b ⌝ }
+{
+    if b < 128 {
+        return b as i8;
+    }
+    (b as i16 - 256) as i8
+}
+
+fn read_time(s: &[u8]) -> RsrTime
+    requires { ⌜ dataValueAt Rsr ≤ length (now s) ⌝ }
+    ensures { λ r. ⌜ timeWords r ≡ timeOf (now (s .entry)) ⌝ }
+{
+    RsrTime {
+        year: read_u16(s, YEAR_AT),
+        day: read_u16(s, DAY_AT),
+        frequency: read_be(s, FREQUENCY_AT, FREQUENCY),
+    }
+}
