@@ -37,6 +37,7 @@ pub struct Walked {
 }
 
 // An entry of a list: where a record stands, its length in bytes, its kind's number and its record number.
+#[repr(C)]
 pub struct Entry {
     pub place: u64,
     pub length: u64,
