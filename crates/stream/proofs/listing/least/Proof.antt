@@ -6,5 +6,8 @@ use Rattle.stream.proofs.listing.least.Tie as tie
 returns : tie.Need-returns
 returns c = search needs
 
+returns-2 : tie.Need-returns-2
+returns-2 c = search needs
+
 pub least-spec : {M : Type 1} → statement M
-least-spec = tie.close (tie.spec returns)
+least-spec = tie.close (tie.spec returns returns-2)
