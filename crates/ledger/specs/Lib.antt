@@ -1,0 +1,2 @@
+-- What the contracts of `ledger` cite.
+pub mod Verdicts
