@@ -1,0 +1,4 @@
+pub mod Standin
+pub mod Text
+pub mod Listing
+pub mod Window
