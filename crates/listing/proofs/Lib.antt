@@ -1,2 +1,4 @@
 pub mod Decimals
 pub mod Laid
+pub mod Rows
+pub mod Judging

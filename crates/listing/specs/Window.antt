@@ -33,7 +33,7 @@ unfoldable pub cutShort : List ℕ → Bool
 cutShort s = eqb (refusal s) 1 || eqb (refusal s) 6
 
 unfoldable pub foundIn : List ℕ → (last : Bool) → List ℕ
-foundIn s last = cond (not last && cutShort s) [] (foundAt s)
+foundIn s last = cond (cutShort s && not last) [] (foundAt s)
 
 -- ---- text laid out
 

@@ -1,3 +1,4 @@
+use Rattle.listing.proofs.Judging.{over-label}
 use borrow.Author.Needs.{needs}
 use Rattle.listing.proofs.window.is_over.Statement.{statement}
 use Rattle.listing.proofs.window.is_over.Tie as tie
@@ -15,7 +16,7 @@ read-be-requires c κs = search needs
 
 -- src/window.rt:81:1
 returns : tie.Need-returns
-returns c = ?
+returns c = over-label _ _ (c .read-be .ensures)
 
 pub is-over-spec : {M : Type 1} → statement M
 is-over-spec = tie.close (tie.spec sub-result read-be-requires returns)
