@@ -5,7 +5,6 @@ mod telemetry;
 
 pub use call::read_headers;
 pub use call::record_number;
-
 use refusals::Refusal;
 use sfdu::Primary;
 

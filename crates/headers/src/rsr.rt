@@ -70,16 +70,46 @@ const FREQUENCY: usize = 8;
 
 // The judged bytes, from the lowest.
 const JUDGED: [Judged; 10] = [
-    Judged { at: PRIMARY_VALUE_AT, allowed: Allowed::Between(21, 21) },
-    Judged { at: PRIMARY_VALUE_AT + 1, allowed: Allowed::Between(4, 4) },
-    Judged { at: PRIMARY_VALUE_AT + 3, allowed: Allowed::Between(0, 0) },
-    Judged { at: UPLINK_AT, allowed: Allowed::Bands },
-    Judged { at: DOWNLINK_AT, allowed: Allowed::Bands },
-    Judged { at: MODE_AT, allowed: Allowed::Between(1, 3) },
-    Judged { at: BANDWIDTH_AT, allowed: Allowed::Between(1, 127) },
-    Judged { at: ATTENUATION_AT, allowed: Allowed::Between(0, 63) },
-    Judged { at: RMS_AT, allowed: Allowed::Between(0, 128) },
-    Judged { at: PEAK_AT, allowed: Allowed::Between(0, 128) },
+    Judged {
+        at: PRIMARY_VALUE_AT,
+        allowed: Allowed::Between(21, 21),
+    },
+    Judged {
+        at: PRIMARY_VALUE_AT + 1,
+        allowed: Allowed::Between(4, 4),
+    },
+    Judged {
+        at: PRIMARY_VALUE_AT + 3,
+        allowed: Allowed::Between(0, 0),
+    },
+    Judged {
+        at: UPLINK_AT,
+        allowed: Allowed::Bands,
+    },
+    Judged {
+        at: DOWNLINK_AT,
+        allowed: Allowed::Bands,
+    },
+    Judged {
+        at: MODE_AT,
+        allowed: Allowed::Between(1, 3),
+    },
+    Judged {
+        at: BANDWIDTH_AT,
+        allowed: Allowed::Between(1, 127),
+    },
+    Judged {
+        at: ATTENUATION_AT,
+        allowed: Allowed::Between(0, 63),
+    },
+    Judged {
+        at: RMS_AT,
+        allowed: Allowed::Between(0, 128),
+    },
+    Judged {
+        at: PEAK_AT,
+        allowed: Allowed::Between(0, 128),
+    },
 ];
 
 const FIRST_YEAR: u16 = 1900;

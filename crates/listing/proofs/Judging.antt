@@ -72,9 +72,17 @@ whole-record s e =
       most = ltb-false _ _ (h .1 .1 .1 .1 .1 .0);
     }
 
--- Where s is cut short, it is shorter than the window: more of the stream can be read behind it.
-abbrev front : List ℕ → List Row
+-- The rows before 6..
+abbrev pub front : List ℕ → List Row
 front s = labelRows s ++ ((5 when not (lengthInRange (kindOf s) s)) ∷ (17 when ltb bufferSize (recordLength s)) ∷ [])
+
+-- ..and those from 6 on, for a kind.
+abbrev pub back : Kind → List ℕ → List Row
+back k s = (6 when ltb (length s) (recordLength s)) ∷ (headerRows k s ++ dataRows k s)
+
+pub refusal-rows : (s : List ℕ) → refusal s ≡ verdict (front s ++ back (kindOf s) s)
+unfolding refusal
+refusal-rows s = refl
 
 under-label : (s : List ℕ) → refusal s ≡ 1 → length s < labelSize
 unfolding refusal
@@ -90,6 +98,7 @@ or-split : (a b : Bool) → (a || b) ≡ true → (a ≡ true) ⊎ (b ≡ true)
 or-split true b e = inl refl
 or-split false b e = inr e
 
+-- Where s is cut short, it is shorter than the window: more of the stream can be read behind it.
 pub cut-room : (s : List ℕ) → cutShort s ≡ true → length s < bufferSize
 unfolding cutShort
 cut-room s e =

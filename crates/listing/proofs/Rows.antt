@@ -56,3 +56,16 @@ inserted m n true false [] after a h = absurd (false≢true (h refl))
 inserted m n true true [] after a h = rw (eq-eqb n n refl)
 inserted m n over cut ((k when true) ∷ before) after a h = sym (unless-cut over m n k (a .0))
 inserted m n over cut ((k when false) ∷ before) after a h = inserted m n over cut before after (a .1) h
+
+-- ---- rows behind others count only where none of those applies
+
+pub behind : (before rows : List Row) → NoneHolds before → verdict (before ++ rows) ≡ verdict rows
+unfolding verdict
+behind [] rows h = refl
+behind ((k when c) ∷ before) rows h = rw (h .0) (behind before rows (h .1))
+
+pub agree : (before rows others : List Row) → (NoneHolds before → verdict others ≡ verdict rows) → verdict (before ++ others) ≡ verdict (before ++ rows)
+unfolding verdict
+agree [] rows others h = h tt
+agree ((k when true) ∷ before) rows others h = refl
+agree ((k when false) ∷ before) rows others h = agree before rows others (λ n. h (refl, n))

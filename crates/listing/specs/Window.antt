@@ -63,6 +63,7 @@ pub record Drains (w : List ℕ) (place : ℕ) (last : Bool) (old new : List ℕ
   pub t : List ℕ
   pub lines : Lines w place last (d .used) (d .done) t
   pub puts : Puts old new start (d .end) t
+  pub within : d .end ≤ length new
 
 -- ---- a piece of the stream listed
 
@@ -87,7 +88,6 @@ pub record Lists (w out : List ℕ) (s : State) (got : ℕ) (w′ out′ : List 
       → linesFrom (s .place) (take (s .have + got) w ++ more) ≡ t ++ unless (r .done) (linesFrom (r .place) (take (r .have) w′ ++ more))
   -- no byte is lost
   pub count : r .place + r .have ≡ s .place + s .have + got
-  -- the text is short
-  pub short : length t ≤ mostText
+  pub within : r .text ≤ length out′
   -- where it goes on, the stream has not ended, and the window has room
   pub room : r .done ≡ false → (0 < got) × (r .have < bufferSize)

@@ -78,6 +78,7 @@ pub fn put_line(
 ) -> usize
     requires { ⌜ (at + 40 ≤ length (now out)) × (size ≤ bufferSize) ⌝ }
     ensures { λ r. ⌜ Puts (now (out .entry)) (now (out .exit)) at r (line place size kind number) ⌝ }
+    ensures { λ r. ⌜ r ≤ at + 40 ⌝ }
 {
     let a = put_word(out, at, place, SPACE);
     let b = put_word(out, a, size as u64, SPACE);
@@ -89,6 +90,7 @@ pub fn put_line(
 pub fn put_last(out: &mut [u8], at: usize, place: u64, number: u32) -> usize
     requires { ⌜ (at + 24 ≤ length (now out)) × (number < 100) ⌝ }
     ensures { λ r. ⌜ Puts (now (out .entry)) (now (out .exit)) at r (lastLine place number) ⌝ }
+    ensures { λ r. ⌜ r ≤ at + 24 ⌝ }
 {
     let a = put_word(out, at, place, SPACE);
     put_word(out, a, number as u64, LINE_END)

@@ -66,13 +66,21 @@ fn stop(s: &[u8], last: bool, number: u32) -> Found
         if is_over(s) {
             return Found::Stop(OVER_BUFFER);
         }
-        return if last { Found::Stop(TRUNCATED) } else { Found::More };
+        return if last {
+            Found::Stop(TRUNCATED)
+        } else {
+            Found::More
+        };
     }
     if number == TOO_SHORT {
         if !last {
             return Found::More;
         }
-        return if s.len() == 0 { Found::Stop(0) } else { Found::Stop(TOO_SHORT) };
+        return if s.len() == 0 {
+            Found::Stop(0)
+        } else {
+            Found::Stop(TOO_SHORT)
+        };
     }
     Found::Stop(number)
 }
@@ -96,11 +104,7 @@ fn drain(w: &[u8], place: u64, last: bool, out: &mut [u8], start: usize) -> Drai
     loop {
         let found = judge(&w[at..], last);
         match found {
-            Found::Record {
-                kind,
-                size,
-                number,
-            } => {
+            Found::Record { kind, size, number } => {
                 end = put_line(out, end, place + at as u64, size, kind, number);
                 at = at + size;
             }

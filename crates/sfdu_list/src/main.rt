@@ -26,8 +26,7 @@ struct Piece {
 }
 
 // Reads into the window from `have` on.
-fn read_piece(fd: i32, w: &mut [u8], have: usize) -> Piece
-{
+fn read_piece(fd: i32, w: &mut [u8], have: usize) -> Piece {
     let part = &mut w[have..];
     let got = libc::read(fd, part);
     Piece {
@@ -36,8 +35,7 @@ fn read_piece(fd: i32, w: &mut [u8], have: usize) -> Piece
     }
 }
 
-fn turn(fd: i32, name: &[u8], w: &mut [u8], out: &mut [u8], s: State) -> Turn
-{
+fn turn(fd: i32, name: &[u8], w: &mut [u8], out: &mut [u8], s: State) -> Turn {
     let have = s.have;
     let piece = read_piece(fd, w, have);
     if piece.failed {
@@ -58,8 +56,7 @@ fn turn(fd: i32, name: &[u8], w: &mut [u8], out: &mut [u8], s: State) -> Turn
     flush(out, listed)
 }
 
-fn flush(out: &[u8], s: State) -> Turn
-{
+fn flush(out: &[u8], s: State) -> Turn {
     let n = s.text;
     let is_written = io::write_all(STDOUT_FILENO, &out[..n]);
     if !is_written {

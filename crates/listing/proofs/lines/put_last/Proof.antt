@@ -38,7 +38,7 @@ returns c =
     let n = word-short 2 (k .args .number) lineEnd (lit< tt) (omega arith) in
     let a = c .before .before .before .before .before .before .put-word .ensures in
     let b = c .before .before .put-word2 .ensures in
-    then a b (omega (arith, a .end, b .end))
+    (then a b (omega (arith, a .end, b .end)), omega (arith, a .end, b .end))
 
 pub put-last-spec : {M : Type 1} → statement M
 put-last-spec = tie.close (tie.spec put-word-requires put-word-requires-2 same-length returns)

@@ -59,7 +59,7 @@ returns c =
     let b = c .before .before .before .before .before .before .before .before .before .before .put-word2 .ensures in
     let l = c .before .before .before .before .before .before .put-letter .ensures in
     let d = c .before .before .put-word3 .ensures in
-    then (then (then a b (omega (arith, a .end, b .end))) l (omega (arith, a .end, b .end, l .end))) d (omega (arith, a .end, b .end, l .end, d .end))
+    (then (then (then a b (omega (arith, a .end, b .end))) l (omega (arith, a .end, b .end, l .end))) d (omega (arith, a .end, b .end, l .end, d .end)), omega (arith, a .end, b .end, l .end, d .end))
 
 pub put-line-spec : {M : Type 1} → statement M
 put-line-spec =
