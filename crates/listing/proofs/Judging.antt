@@ -17,7 +17,7 @@ use Rattle.sfdu.specs.Nesting.{kindNumber, labelSize, lengthAt, lengthSize, dat
 use Rattle.sfdu.specs.Read.{kindOf, recordLength, lengthInRange, labelRows, headerRows, dataRows, readRows, accepts, labelLength, recordWords, readOne}
 use Rattle.sfdu.proofs.Placed.{placed}
 use Rattle.sfdu.proofs.Accepted.{in-range, record-length, same-kind}
-use Rattle.listing.specs.Standin.{recordNumber}
+use Rattle.headers.specs.Fields.{recordNumber}
 use Rattle.listing.specs.Listing.{bufferSize, listRows, refusal, whole, stopNumber}
 use Rattle.listing.specs.Window.{foundAt, cutShort, foundIn}
 use Rattle.listing.proofs.Rows.{given, below, unless-cut, inserted}

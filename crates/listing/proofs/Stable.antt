@@ -19,7 +19,7 @@ use Rattle.refusals.proofs.Judged.{NoneHolds}
 use Rattle.sfdu.specs.Nesting.{authority, control, authorityAt, controlAt, kindBytes, kindAt, tagSize, labelSize, blockLabelSize, dataAt, dataValueAt, aggregationAt, primaryAt, secondaryAt}
 use Rattle.sfdu.specs.Read.{hasKind, kindOf, labelLength, recordLength, lengthInRange, blockType, blockLength, blockEnd, isBlock, nests, headerRows, dataRows}
 use Rattle.sfdu.proofs.Placed.{placed}
-use Rattle.listing.specs.Standin.{recordNumber}
+use Rattle.headers.specs.Fields.{recordNumber}
 use Rattle.listing.specs.Listing.{bufferSize, refusal, whole, stopNumber, recordLine}
 use Rattle.listing.specs.Window.{cutShort}
 use Rattle.listing.proofs.Rows.{behind, agree}

@@ -1,4 +1,3 @@
-pub mod Standin
 pub mod Text
 pub mod Listing
 pub mod Window

@@ -6,7 +6,7 @@ use lib.ListN.{length, drop}
 use lib.Dec.{eqb, ltb}
 use Rattle.refusals.specs.Judge.{Row, _when_, verdict}
 use Rattle.sfdu.specs.Read.{kindOf, recordLength, lengthInRange, labelRows, headerRows, dataRows}
-use Rattle.listing.specs.Standin.{recordNumber}
+use Rattle.headers.specs.Fields.{recordNumber}
 use Rattle.listing.specs.Text.{heading, line, lastLine}
 
 -- "65,536, its buffer".

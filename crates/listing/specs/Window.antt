@@ -9,7 +9,7 @@ use lib.Dec.{eqb}
 use Rattle.octets.specs.Octets.{put}
 use Rattle.sfdu.specs.Nesting.{kindNumber}
 use Rattle.sfdu.specs.Read.{kindOf, recordLength}
-use Rattle.listing.specs.Standin.{recordNumber}
+use Rattle.headers.specs.Fields.{recordNumber}
 use Rattle.listing.specs.declared.Found.{Found}
 use Rattle.listing.specs.declared.Found.the-variants.{Record, More, Stop}
 use Rattle.listing.specs.declared.Drained.{Drained}

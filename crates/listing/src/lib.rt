@@ -1,7 +1,6 @@
 // The listing program's work, on lent slices: a window onto a stream is gone over record by record, and a line of text is laid
 // out for each.
 mod lines;
-mod standin;
 mod window;
 
 pub use lines::begin;

@@ -15,7 +15,7 @@ use crate::Found;
 use crate::State;
 use crate::lines::put_last;
 use crate::lines::put_line;
-use crate::standin::record_number;
+use headers::record_number;
 use octets::read_be;
 use sfdu::Read;
 use sfdu::read_one;

@@ -11,7 +11,6 @@ use Rattle.listing.proofs.window.judge.Statement.{statement}
 use Rattle.listing.proofs.window.judge.Tie as tie
 use Rattle.listing.proofs.window.judge.Reads as reads
 use Rattle.listing.proofs.window.judge.Lts as lts
-use Rattle.listing.proofs.standin.record_number.Reads as record-number-reads
 use Rattle.listing.proofs.window.stop.Reads as stop-reads
 use Rattle.refusals.proofs.number.Reads as number-reads
 use Rattle.sfdu.proofs.read_one.Reads as read-one-reads

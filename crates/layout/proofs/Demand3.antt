@@ -1,0 +1,88 @@
+-- Demand 3 of every list of calls on a fresh sheet. Assumes nothing.
+use Prim.Native.Nat.{ℕ}
+use native.Mathlib.Omega.{arith}
+use mathlib.Core.List.{List, [], _∷_, map}
+use mathlib.Core.Logic.{_≢_}
+use mathlib.Core.Path.{_≡_, refl, sym, ap, _∙_}
+use Rattle.refusals.specs.Table.{numberOf}
+use Rattle.refusals.proofs.Laws.{number-positive}
+use Rattle.model.specs.Book.{Book, idle, fresh}
+use Rattle.model.specs.Step.{Call, Answer, done, atRow, refused, answerWords, step, Entry, callOf, run}
+use Rattle.model.specs.WellFormed.{WellFormed, InRange, AllInRange}
+use Rattle.model.specs.Chain.{Chain, stop, next}
+use Rattle.model.specs.Claim.{bookAfter}
+use Rattle.model.proofs.Outcome.{outcome}
+use Rattle.model.proofs.WellFormed.{well-formed, fresh-well-formed, run-well-formed}
+use Rattle.model.proofs.Laws.{Proper, words-injective, step-proper}
+use Rattle.model.proofs.Claim.{chain-claim}
+use Rattle.sheet.specs.Bytes.{freshSheet}
+use Rattle.sheet.specs.Words as Words
+use Rattle.sheet.specs.declared.Answer as sheet
+use Rattle.sheet.specs.declared.Answer.the-variants as A
+use Rattle.sheet.specs.declared.RowAnswer.{RowAnswer}
+use Rattle.sheet.specs.declared.RowAnswer.the-variants as R
+use Rattle.layout.specs.Layout.{layout, call, onSheet}
+use Rattle.layout.specs.Demand3.{answerOf, rowAnswerOf, Meets, headerAndRows, Demand3}
+use Rattle.layout.proofs.Places.{shape, front-part}
+use Rattle.layout.proofs.Sheets.{fresh-layout, on-layout}
+
+-- ---- one call
+
+proper : (a : Answer) → a ≢ refused 0 → Proper a
+proper done h = tt
+proper (atRow r) h = tt
+proper (refused number) h = λ e. h (ap refused e)
+
+-- a call that keeps its promise on the layout of a well-formed book does what the model does
+each : (c : Call) (b : Book) (a : Answer) (t : List ℕ) → WellFormed b → InRange c → Meets c (layout b) a t
+    → (a ≡ step c b .answer) × (t ≡ layout (step c b .book))
+each c b a t ok f m =
+    let same = m .1 ∙ on-layout (call c) b ok in
+    (words-injective a (step c b .answer) (proper a (m .0)) (step-proper c b) (ap (λ r. r .0) same), ap (λ r. r .1) same)
+
+-- and what the model does keeps the promise
+improper : (a : Answer) → Proper a → a ≢ refused 0
+improper done h e = let z : _≡_ {A = ℕ} 0 1 = cc in omega arith
+improper (atRow r) h e = let z : _≡_ {A = ℕ} 0 1 = cc in omega arith
+improper (refused number) h e = h (cc)
+
+model-meets : (c : Call) (b : Book) → WellFormed b → Meets c (layout b) (step c b .answer) (layout (step c b .book))
+model-meets c b ok = (improper (step c b .answer) (step-proper c b), sym (on-layout (call c) b ok))
+
+-- What a contract says, with the answer as the function's enum.
+pub answer-meets : (c : Call) (s : List ℕ) (r : sheet.Answer) (t : List ℕ) → (Words.answerWords r, t) ≡ onSheet (call c) s → Meets c s (answerOf r) t
+answer-meets c s A.Done t e = (improper done tt, e)
+answer-meets c s (A.Refused q) t e = (improper (refused (numberOf q)) (number-positive q), e)
+
+pub row-answer-meets : (c : Call) (s : List ℕ) (r : RowAnswer) (t : List ℕ) → (Words.rowWords r, t) ≡ onSheet (call c) s → Meets c s (rowAnswerOf r) t
+row-answer-meets c s (R.Row row) t e = (improper (atRow row) tt, e)
+row-answer-meets c s (R.Refused q) t e = (improper (refused (numberOf q)) (number-positive q), e)
+
+-- ---- a list of calls
+
+chain-from : (calls : List Call) (b : Book) → WellFormed b → AllInRange calls → Chain Meets (layout b) (run b calls .log) (layout (run b calls .book))
+unfolding run AllInRange
+chain-from [] b ok f = stop
+chain-from (c ∷ calls) b ok f =
+    next (model-meets c b ok) (chain-from calls (step c b .book) (well-formed b ok (outcome c b) (f .0)) (f .1))
+
+-- Every list of calls has such a chain.
+pub chain-exists : (calls : List Call) → AllInRange calls → Chain Meets freshSheet (run fresh calls .log) (layout (run fresh calls .book))
+chain-exists calls f = rw fresh-layout (chain-from calls fresh fresh-well-formed f)
+
+-- ---- the theorem
+
+front-same : (b : Book) → WellFormed b → headerAndRows (layout (idle (b .places))) ≡ headerAndRows (layout b)
+front-same b ok =
+    front-part (idle (b .places)) (record { rows-count = ok .places-count; desks-count = refl }) ∙ sym (front-part b (shape ok))
+
+pub demand3 : {log : List Entry} {last : List ℕ} → Chain Meets freshSheet log last → AllInRange (map callOf log) → Demand3 log last
+demand3 {log = log} {last = last} chain f =
+    let claim = chain-claim Meets layout each (rw fresh-layout at chain) f in
+    record {
+      claim = claim;
+      serial-rows = λ again end other e.
+          ap headerAndRows (claim .serial-store again end other e .1)
+          ∙ front-same (bookAfter log) (run-well-formed (map callOf log) f)
+          ∙ ap headerAndRows (sym (claim .model-store));
+    }

@@ -1,0 +1,11 @@
+pub mod Parts
+pub mod Chunks
+pub mod Ticks
+pub mod Rows
+pub mod Places
+pub mod Used
+pub mod Right
+pub mod Read
+pub mod Calls
+pub mod Sheets
+pub mod Demand3

@@ -1,0 +1,121 @@
+-- A call on any slice of bytes is the model's call on the book that it holds, laid out again, where it is a right sheet, and else
+-- 20: one law for all calls, one for each report, one for a fresh sheet. Assumes nothing.
+use Prim.Native.Nat.{ℕ, _+_, _*_}
+use mathlib.Core.Bool.{Bool, true, false, cond}
+use mathlib.Core.List.{List, [], _∷_, _++_, append-assoc}
+use mathlib.Core.Path.{_≡_, refl, sym, ap, _∙_}
+use lib.Dec.{eqb}
+use lib.ListN.{length, replicate, replicate-append-replicate}
+use Rattle.refusals.specs.Judge.{verdict}
+use Rattle.model.specs.Book.{free, closed, Book, fresh}
+use Rattle.model.specs.Step.{Call, Enrol, Find, Open, Mark, Save, Drop, step}
+use Rattle.model.specs.WellFormed.{WellFormed, InRange}
+use Rattle.model.specs.Counts.{rowReport, firstGap}
+use Rattle.model.proofs.Outcome.{outcome}
+use Rattle.model.proofs.WellFormed.{well-formed}
+use Rattle.octets.proofs.Laws.{Bytes}
+use Rattle.sheet.specs.Sheet.{sheetSize, rowSize, rowCount, deskSize, deskCount, right}
+use Rattle.sheet.specs.Bytes.{Outcome, judged, headerBytes, freshSheet, freshCall, enrolCall, findCall, openCall, dropCall, markCall, saveCall, reportCall, gapCall}
+use Rattle.layout.specs.Layout.{placeBytes, deskBytes, countUsed, laid, layout, bookOf, call, report, laidOut, onSheet, freshOn}
+use Rattle.layout.proofs.Chunks.{laid-zeros}
+use Rattle.layout.proofs.Right.{reads-back, layout-right}
+use Rattle.layout.proofs.Read.{read-law, book-fine}
+use Rattle.layout.proofs.Calls.{not-right, enrol-call, find-call, open-call, mark-call, save-call, drop-call, report-call, gap-call}
+
+-- from a call on the layouts of well-formed books to one on any slice
+on-sheet : (s : List ℕ) → Bytes s → (f : List ℕ → Outcome) (g : Book → List ℕ × Book)
+    → ((b : Book) → WellFormed b → f (layout b) ≡ laidOut (g b)) → (right s ≡ false → f s ≡ (20 ∷ [], s)) → f s ≡ onSheet g s
+unfolding onSheet
+on-sheet s bytes f g h k = by (right s) refl
+  where
+    by : (t : Bool) → right s ≡ t → f s ≡ onSheet g s
+    by true e = rw e (ap f (sym (read-law s bytes e)) ∙ h (bookOf s) (book-fine s bytes e))
+    by false e = rw e (k e)
+
+-- ---- the calls
+
+-- What each call does to the bytes.
+abbrev pub sheetCall : Call → List ℕ → Outcome
+sheetCall (Enrol key first) s = enrolCall key first s
+sheetCall (Find key) s = findCall key s
+sheetCall (Open d r) s = openCall d r s
+sheetCall (Mark flag d n) s = markCall flag d n s
+sheetCall (Save d) s = saveCall d s
+sheetCall (Drop d) s = dropCall d s
+
+pub layout-law : (c : Call) (b : Book) → WellFormed b → sheetCall c (layout b) ≡ laidOut (call c b)
+layout-law (Enrol key first) b ok = enrol-call b ok key first
+layout-law (Find key) b ok = find-call b ok key
+layout-law (Open d r) b ok = open-call b ok d r
+layout-law (Mark flag d n) b ok = mark-call b ok flag d n
+layout-law (Save d) b ok = save-call b ok d
+layout-law (Drop d) b ok = drop-call b ok d
+
+refused-law : (c : Call) (s : List ℕ) → right s ≡ false → sheetCall c s ≡ (20 ∷ [], s)
+unfolding enrolCall findCall openCall markCall saveCall dropCall
+refused-law (Enrol key first) s e = not-right s _ _ e
+refused-law (Find key) s e = not-right s _ _ e
+refused-law (Open d r) s e = not-right s _ _ e
+refused-law (Mark flag d n) s e = not-right s _ _ e
+refused-law (Save d) s e = not-right s _ _ e
+refused-law (Drop d) s e = not-right s _ _ e
+
+pub call-law : (c : Call) (s : List ℕ) → Bytes s → sheetCall c s ≡ onSheet (call c) s
+call-law c s bytes = on-sheet s bytes (sheetCall c) (call c) (layout-law c) (refused-law c s)
+
+-- ---- the reports
+
+pub report-law : (r : ℕ) (s : List ℕ) → Bytes s → reportCall r s ≡ onSheet (report (λ b. rowReport b r)) s
+unfolding reportCall
+report-law r s bytes = on-sheet s bytes (reportCall r) _ (λ b ok. report-call b ok r) (not-right s _ _)
+
+pub gap-law : (s : List ℕ) → Bytes s → gapCall s ≡ onSheet (report firstGap) s
+unfolding gapCall
+gap-law s bytes = on-sheet s bytes gapCall (report firstGap) (λ b ok. gap-call b ok) (not-right s _ _)
+
+-- a report leaves the sheet as it was
+pub report-stays : (words : Book → List ℕ) (s : List ℕ) → Bytes s → onSheet (report words) s ≡ (cond (right s) (words (bookOf s)) (20 ∷ []), s)
+unfolding onSheet
+report-stays words s bytes = by (right s) refl
+  where
+    by : (t : Bool) → right s ≡ t → onSheet (report words) s ≡ (cond (right s) (words (bookOf s)) (20 ∷ []), s)
+    by true e = rw (e, read-law s bytes e)
+    by false e = rw e
+
+-- ---- a fresh sheet
+
+two-zeros : (h : List ℕ) {x y : List ℕ} (m n : ℕ) → x ≡ replicate m 0 → y ≡ replicate n 0 → h ++ x ++ y ≡ h ++ replicate (m + n) 0
+two-zeros h m n ex ey = rw (ex, ey, append-assoc, replicate-append-replicate)
+
+fresh-places : laid placeBytes (fresh .places) ≡ replicate (rowSize * rowCount) 0
+unfolding placeBytes
+fresh-places = laid-zeros rowSize placeBytes free refl rowCount
+
+fresh-desks : laid (deskBytes (fresh .places)) (fresh .desks) ≡ replicate (deskSize * deskCount) 0
+unfolding deskBytes
+fresh-desks = laid-zeros deskSize (deskBytes (fresh .places)) closed refl deskCount
+
+pub fresh-layout : freshSheet ≡ layout fresh
+unfolding freshSheet layout countUsed
+fresh-layout = sym (two-zeros (headerBytes 0) (rowSize * rowCount) (deskSize * deskCount) fresh-places fresh-desks)
+
+pub fresh-law : (s : List ℕ) → freshCall s ≡ freshOn s
+unfolding freshCall freshOn judged verdict
+fresh-law s = by (eqb (length s) sheetSize) refl
+  where
+    by : (t : Bool) → eqb (length s) sheetSize ≡ t → freshCall s ≡ freshOn s
+    by true e = rw (e, fresh-layout)
+    by false e = rw e
+
+-- ---- a layout, and a right sheet
+
+-- a call on the layout of a well-formed book
+pub on-layout : (f : Book → List ℕ × Book) (b : Book) → WellFormed b → onSheet f (layout b) ≡ laidOut (f b)
+unfolding onSheet
+on-layout f b ok = rw (layout-right b ok, reads-back b ok)
+
+-- a call leaves a right sheet right
+pub stays-right : (c : Call) (s : List ℕ) → Bytes s → InRange c → right s ≡ true → right (onSheet (call c) s .1) ≡ true
+unfolding onSheet
+stays-right c s bytes f e =
+    rw e (layout-right (step c (bookOf s) .book) (well-formed (bookOf s) (book-fine s bytes e) (outcome c (bookOf s)) f))

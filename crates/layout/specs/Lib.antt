@@ -1,0 +1,3 @@
+-- What the contracts of `ledger` cite.
+pub mod Layout
+pub mod Demand3

@@ -1,0 +1,91 @@
+-- The clauses of `right`: of a desk whose first byte is known, and what a right sheet tells. Assumes nothing.
+use Prim.Native.Nat.{ℕ, _+_, _≤_, _<_}
+use native.Mathlib.Omega.{arith}
+use mathlib.Core.Bool.{Bool, true, false, _&&_}
+use mathlib.Core.List.{List}
+use mathlib.Core.Path.{_≡_, refl}
+use lib.Dec.{eqb, ltb, leb}
+use lib.ListN.{length}
+use borrow.Author.Tests.{eq-eqb, ne-eqb, lt-leb, le-leb, eqb-true, leb-true, ltb-true}
+use Rattle.octets.specs.Octets.{all, zeroAt}
+use Rattle.octets.proofs.Laws.{and-split, all-at}
+use Rattle.sheet.specs.Sheet.{sheetSize, rowCount, rowsStart, deskSize, deskCount, deskZerosAt, deskZerosSize, openedAt, workedAt, desksStart, lengthAt, rowCountAt, rowsStartAt, deskCountAt, desksStartAt, deskAt, headerNumber, used, deskByte, deskRow, isClosed, carries, headerRight, validKeys, differentKeys, unusedZero, closedZero, deskMarked, openNames, deskRight, right, Sized}
+use Rattle.sheet.proofs.Ranges.{zero-within}
+
+module _ (s : List ℕ) (d : ℕ) where
+  -- a closed desk is right exactly when it is zero
+  pub closed-desk : deskByte s d ≡ 0 → zeroAt s (deskAt d) deskSize ≡ deskRight s d
+  unfolding deskRight closedZero deskMarked openNames
+  closed-desk e = by (zeroAt s (deskAt d) deskSize) refl
+    where
+      by : (b : Bool) → zeroAt s (deskAt d) deskSize ≡ b → zeroAt s (deskAt d) deskSize ≡ deskRight s d
+      by true z = rw (z, eq-eqb _ _ e, zero-within s (deskAt d) deskSize (deskAt d + deskZerosAt) deskZerosSize z (omega arith) (omega arith), le-leb (deskByte s d) 1 (omega arith))
+      by false z = rw (z, eq-eqb _ _ e)
+
+  -- an open one, when it has its zeros, names a used row, and its copies carry that row's key and first number
+  pub open-desk : deskByte s d ≡ 1 → (deskMarked s d && openNames s d) ≡ deskRight s d
+  unfolding deskRight closedZero
+  open-desk e = rw (ne-eqb (deskByte s d) 0 (λ z. omega arith))
+
+  pub open-parts : deskByte s d ≡ 1
+      → (zeroAt s (deskAt d + deskZerosAt) deskZerosSize && (ltb (deskRow s d) (used s) && carries s (deskAt d + openedAt) (deskRow s d) && carries s (deskAt d + workedAt) (deskRow s d)))
+      ≡ (deskMarked s d && openNames s d)
+  unfolding deskMarked openNames
+  open-parts e = rw (ne-eqb (deskByte s d) 0 (λ z. omega arith), le-leb (deskByte s d) 1 (omega arith))
+
+  -- any other is not right
+  pub odd-desk : (deskByte s d ≡ 0 → ⊥) → (deskByte s d ≡ 1 → ⊥) → false ≡ deskRight s d
+  unfolding deskRight closedZero deskMarked
+  odd-desk n m = rw (ne-eqb _ _ n, lt-leb (deskByte s d) 1 (omega arith))
+
+-- ---- what a right sheet tells
+
+-- the header counts no more rows than there are
+pub header-few : (s : List ℕ) → headerRight s ≡ true → used s ≤ rowCount
+unfolding headerRight
+header-few s h =
+    let size = eqb (headerNumber s lengthAt) sheetSize in
+    let few = leb (used s) rowCount in
+    let rows = eqb (headerNumber s rowCountAt) rowCount in
+    let start = eqb (headerNumber s rowsStartAt) rowsStart in
+    let desks = eqb (headerNumber s deskCountAt) deskCount in
+    let h4 = and-split (size && few && rows && start && desks) (eqb (headerNumber s desksStartAt) desksStart) h in
+    let h3 = and-split (size && few && rows && start) desks (h4 .0) in
+    let h2 = and-split (size && few && rows) start (h3 .0) in
+    let h1 = and-split (size && few) rows (h2 .0) in
+    leb-true _ _ (and-split size few (h1 .0) .1)
+
+-- its clauses
+pub record Right (s : List ℕ) : Type 0 where
+  pub long : length s ≡ sheetSize
+  pub header : headerRight s ≡ true
+  pub valid : validKeys s ≡ true
+  pub different : differentKeys s ≡ true
+  pub unused : unusedZero s ≡ true
+  pub desks : all deskCount (deskRight s) ≡ true
+
+pub right-parts : (s : List ℕ) → right s ≡ true → Right s
+unfolding right
+right-parts s h =
+    let long = eqb (length s) sheetSize in
+    let keys = validKeys s && differentKeys s in
+    let h4 = and-split (long && headerRight s && keys && unusedZero s) (all deskCount (deskRight s)) h in
+    let h3 = and-split (long && headerRight s && keys) (unusedZero s) (h4 .0) in
+    let h2 = and-split (long && headerRight s) keys (h3 .0) in
+    let h1 = and-split long (headerRight s) (h2 .0) in
+    let k = and-split (validKeys s) (differentKeys s) (h2 .1) in
+    record { long = eqb-true _ _ (h1 .0); header = h1 .1; valid = k .0; different = k .1; unused = h3 .1; desks = h4 .1 }
+
+-- its length and its count of rows: what the functions on a right sheet ask
+pub sized : (s : List ℕ) → right s ≡ true → Sized s
+sized s h = let r = right-parts s h in record { long = r .long; few = header-few s (r .header) }
+
+-- a desk that is not closed names one of the used rows
+pub open-row : (s : List ℕ) (d : ℕ) → right s ≡ true → d < deskCount → isClosed s d ≡ false → deskRow s d < used s
+unfolding deskRight openNames
+open-row s d h l o =
+    let names = and-split (closedZero s d && deskMarked s d) (openNames s d) (all-at deskCount d (deskRight s) (right-parts s h .desks) l) .1 in
+    let row = ltb (deskRow s d) (used s) in
+    let opened = carries s (deskAt d + openedAt) (deskRow s d) in
+    let h1 = and-split (row && opened) (carries s (deskAt d + workedAt) (deskRow s d)) (rw o at names) in
+    ltb-true _ _ (and-split row opened (h1 .0) .0)

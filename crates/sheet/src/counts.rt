@@ -1,0 +1,113 @@
+// Row report and first gap.
+use crate::GapAnswer;
+use crate::ROW;
+use crate::ROWS_AT;
+use crate::ReportAnswer;
+use crate::right::key_at;
+use crate::right::rows_used;
+use crate::rows::first_at;
+use crate::ticks::POSITIONS;
+use crate::ticks::is_ticked;
+ghost use mathlib.Core.Path.{_≡_};
+ghost use mathlib.Core.Bool.{not};
+ghost use Prim.Native.Nat.{_+_, _≤_, _<_};
+ghost use lib.ListN.{length};
+ghost use Rattle.model.specs.Positions.{rowLength, size};
+ghost use Rattle.sheet.specs.Sheet.{sheetSize, rowSize, rowCount, rowAt, used, Sized};
+ghost use Rattle.sheet.specs.Rows.{tickedAt, ticksOf};
+ghost use Rattle.sheet.specs.Bytes.{lowest, pastHighest, numberAtPosition, reportWords, gapFrom};
+ghost use Rattle.sheet.specs.Words.{reportAnswerWords, gapWords};
+
+// How many positions of the row at offset a are ticked.
+fn ticked_count(s: &[u8], a: usize) -> u32
+    requires { ⌜ a + rowSize ≤ length (now s) ⌝ }
+    ensures { λ r. ⌜ r ≡ size (ticksOf (now (s .entry)) a) ⌝ }
+{
+    let mut count: u32 = 0;
+    for i in 0..POSITIONS {
+        if is_ticked(s, a, i) {
+            count += 1;
+        }
+    }
+    count
+}
+
+// One past the highest ticked position of the row at offset a, or 0. What is unticked below it is missing.
+fn ticks_end(s: &[u8], a: usize) -> usize
+    requires { ⌜ a + rowSize ≤ length (now s) ⌝ }
+    ensures { λ r. ⌜ r ≡ pastHighest rowLength (tickedAt (now (s .entry)) a) ⌝ }
+{
+    let mut end = POSITIONS;
+    while 0 < end {
+        if is_ticked(s, a, end - 1) {
+            return end;
+        }
+        end -= 1;
+    }
+    0
+}
+
+// The lowest unticked position below end of the row at offset a, or end.
+fn lowest_unticked(s: &[u8], a: usize, end: usize) -> usize
+    requires { ⌜ (a + rowSize ≤ length (now s)) × (end ≤ rowLength) ⌝ }
+    ensures { λ r. ⌜ r ≡ lowest end (λ i. not (tickedAt (now (s .entry)) a i)) ⌝ }
+{
+    for i in 0..end {
+        if !is_ticked(s, a, i) {
+            return i;
+        }
+    }
+    end
+}
+
+// The number at position i of the row at offset a.
+fn number_in(s: &[u8], a: usize, i: usize) -> u32
+    requires { ⌜ (a + rowSize ≤ length (now s)) × (i < rowLength) ⌝ }
+    ensures { λ r. ⌜ r ≡ numberAtPosition (now (s .entry)) a i ⌝ }
+{
+    let key = key_at(s, a);
+    let first = first_at(s, a);
+    model::number_at(key, first, i as u32)
+}
+
+// Reports on a row.
+pub fn row_report(s: &[u8], row: usize) -> ReportAnswer
+    requires { ⌜ (length (now s) ≡ sheetSize) × (row < rowCount) ⌝ }
+    ensures { λ r. ⌜ reportAnswerWords r ≡ reportWords (now (s .entry)) (rowAt row) ⌝ }
+{
+    let a = ROWS_AT + ROW * row;
+    let ticked = ticked_count(s, a);
+    let end = ticks_end(s, a);
+    let at = lowest_unticked(s, a, end);
+    if at >= end {
+        return ReportAnswer::Whole { ticked };
+    }
+    ReportAnswer::Gaps {
+        ticked,
+        missing: end as u32 - ticked,
+        lowest: number_in(s, a, at),
+    }
+}
+
+// The first missing number and its row: rows in order, positions in order.
+pub fn first_gap(s: &[u8]) -> GapAnswer
+    requires { ⌜ Sized (now s) ⌝ }
+    ensures { λ r. ⌜ gapWords r ≡ gapFrom (now (s .entry)) 0 (used (now (s .entry))) ⌝ }
+{
+    let used = rows_used(s);
+    let mut gap = GapAnswer::Nothing;
+    'rows: for row in 0..used {
+        let a = ROWS_AT + ROW * row;
+        let end = ticks_end(s, a);
+        for i in 0..end {
+            if !is_ticked(s, a, i) {
+                gap = GapAnswer::Gap {
+                    number: number_in(s, a, i),
+                    row: row as u32,
+                };
+                break 'rows;
+            }
+        }
+    }
+    gap
+}

@@ -1,0 +1,102 @@
+// The bytes of the ledger sheet (document 01, "The ledger sheet"): whether a slice is a right sheet, and what each call
+// does to its bytes. Every size and offset has its name here, once.
+pub mod counts;
+pub mod desks;
+pub mod right;
+pub mod rows;
+pub mod ticks;
+
+use refusals::Refusal;
+
+// A row: key, first number, ticks. There are 32, and the first stands at 24.
+pub const KEY: usize = 8;
+
+pub const FIRST_AT: usize = KEY;
+
+pub const FIRST: usize = 4;
+
+pub const TICKS_AT: usize = FIRST_AT + FIRST;
+
+pub const TICKS: usize = 128;
+
+pub const ROW: usize = TICKS_AT + TICKS;
+
+pub const ROWS: usize = 32;
+
+pub const ROWS_AT: usize = 24;
+
+// A tick byte has eight positions.
+pub const BYTE_BITS: usize = 8;
+
+// A desk: 1 if open, row, two zeros, the row as opened, the row as worked on. There are eight, behind the rows.
+pub const DESK_ROW_AT: usize = 1;
+
+pub const DESK_ZEROS_AT: usize = 2;
+
+pub const DESK_ZEROS: usize = 2;
+
+pub const OPENED_AT: usize = DESK_ZEROS_AT + DESK_ZEROS;
+
+pub const WORKED_AT: usize = OPENED_AT + ROW;
+
+pub const DESK: usize = WORKED_AT + ROW;
+
+pub const DESKS: usize = 8;
+
+pub const DESKS_AT: usize = ROWS_AT + ROW * ROWS;
+
+pub const SHEET: usize = DESKS_AT + DESK * DESKS;
+
+// The header: six numbers of 4 bytes.
+pub const NUMBER: usize = 4;
+
+pub const LENGTH_AT: usize = 0;
+
+pub const USED_AT: usize = 4;
+
+pub const ROW_COUNT_AT: usize = 8;
+
+pub const ROWS_START_AT: usize = 12;
+
+pub const DESK_COUNT_AT: usize = 16;
+
+pub const DESKS_START_AT: usize = 20;
+
+// A row, or a desk's copy of one, as a value.
+pub struct Row {
+    pub key: u64,
+    pub first: u32,
+    pub ticks: [u8; TICKS],
+}
+
+// What a call answers that has nothing to tell.
+pub enum Answer {
+    Done,
+    Refused(Refusal),
+}
+
+// What enrol and find answer.
+pub enum RowAnswer {
+    Row(u32),
+    Refused(Refusal),
+}
+
+// What a row report answers: how many positions are ticked, how many are missing, and the number at the lowest of these.
+pub enum ReportAnswer {
+    Whole {
+        ticked: u32,
+    },
+    Gaps {
+        ticked: u32,
+        missing: u32,
+        lowest: u32,
+    },
+    Refused(Refusal),
+}
+
+// What first gap answers: the first missing number and its row.
+pub enum GapAnswer {
+    Nothing,
+    Gap { number: u32, row: u32 },
+    Refused(Refusal),
+}

@@ -1,0 +1,160 @@
+// Whether a slice is a right sheet. Every call judges the whole sheet, so bytes and keys are gathered with no early exit
+// and LLVM vectorizes the loops.
+use crate::DESK;
+use crate::DESK_COUNT_AT;
+use crate::DESK_ROW_AT;
+use crate::DESK_ZEROS;
+use crate::DESK_ZEROS_AT;
+use crate::DESKS;
+use crate::DESKS_AT;
+use crate::DESKS_START_AT;
+use crate::KEY;
+use crate::LENGTH_AT;
+use crate::NUMBER;
+use crate::OPENED_AT;
+use crate::ROW;
+use crate::ROW_COUNT_AT;
+use crate::ROWS;
+use crate::ROWS_AT;
+use crate::ROWS_START_AT;
+use crate::SHEET;
+use crate::TICKS_AT;
+use crate::USED_AT;
+use crate::WORKED_AT;
+use octets::is_same;
+use octets::is_zero;
+use octets::read_be;
+ghost use mathlib.Core.Path.{_≡_};
+ghost use mathlib.Core.Bool.{not, _&&_};
+ghost use Prim.Native.Nat.{_+_, _≤_, _<_};
+ghost use lib.Dec.{eqb};
+ghost use lib.ListN.{length, getD};
+ghost use Rattle.octets.specs.Octets.{all};
+ghost use Rattle.sheet.specs.Sheet.{sheetSize, rowSize, rowCount, deskCount, used, keyAt, deskByte, headerRight, validKeys, differentKeys, unusedZero, deskMarked, openNames, deskRight, right, Sized};
+
+// Whether a slice is a right sheet.
+pub fn is_sheet(s: &[u8]) -> bool
+    ensures { λ r. ⌜ r ≡ right (now (s .entry)) ⌝ }
+{
+    if s.len() != SHEET {
+        return false;
+    }
+    if !is_header(s) {
+        return false;
+    }
+    let keys = are_keys(s);
+    let unused = is_unused_zero(s);
+    let desks = are_desks(s);
+    keys & unused & desks
+}
+
+fn is_header(s: &[u8]) -> bool
+    requires { ⌜ length (now s) ≡ sheetSize ⌝ }
+    ensures { λ r. ⌜ r ≡ headerRight (now (s .entry)) ⌝ }
+{
+    let size = read_be(s, LENGTH_AT, NUMBER) == SHEET as u64;
+    let used = read_be(s, USED_AT, NUMBER) <= ROWS as u64;
+    let rows = read_be(s, ROW_COUNT_AT, NUMBER) == ROWS as u64;
+    let rows_start = read_be(s, ROWS_START_AT, NUMBER) == ROWS_AT as u64;
+    let desks = read_be(s, DESK_COUNT_AT, NUMBER) == DESKS as u64;
+    let desks_start = read_be(s, DESKS_START_AT, NUMBER) == DESKS_AT as u64;
+    size & used & rows & rows_start & desks & desks_start
+}
+
+// How many rows are used.
+pub fn rows_used(s: &[u8]) -> usize
+    requires { ⌜ length (now s) ≡ sheetSize ⌝ }
+    ensures { λ r. ⌜ r ≡ used (now (s .entry)) ⌝ }
+{
+    read_be(s, USED_AT, NUMBER) as usize
+}
+
+// The key of the row or the copy at offset a.
+pub fn key_at(s: &[u8], a: usize) -> u64
+    requires { ⌜ a + rowSize ≤ length (now s) ⌝ }
+    ensures { λ r. ⌜ r ≡ keyAt (now (s .entry)) a ⌝ }
+{
+    read_be(s, a, KEY)
+}
+
+// Whether the used rows have valid, different keys. Each key is read once.
+fn are_keys(s: &[u8]) -> bool
+    requires { ⌜ Sized (now s) ⌝ }
+    ensures { λ r. ⌜ r ≡ (validKeys (now (s .entry)) && differentKeys (now (s .entry))) ⌝ }
+{
+    let used = rows_used(s);
+    let mut keys = [0u64; ROWS];
+    let mut valid = true;
+    let mut different = true;
+    for i in 0..used {
+        let key = key_at(s, ROWS_AT + ROW * i);
+        valid &= keys::valid(key);
+        different &= is_new(&keys, i, key);
+        keys[i] = key;
+    }
+    valid & different
+}
+
+// Whether none of the first n keys is the key given.
+fn is_new(keys: &[u64; ROWS], n: usize, key: u64) -> bool
+    requires { ⌜ n ≤ rowCount ⌝ }
+    ensures { λ r. ⌜ r ≡ all n (λ j. not (eqb (getD (now (keys .entry)) j 0) key)) ⌝ }
+{
+    let mut new = true;
+    for j in 0..n {
+        new &= keys[j] != key;
+    }
+    new
+}
+
+// Whether the unused rows, which stand together, are zero.
+fn is_unused_zero(s: &[u8]) -> bool
+    requires { ⌜ Sized (now s) ⌝ }
+    ensures { λ r. ⌜ r ≡ unusedZero (now (s .entry)) ⌝ }
+{
+    let used = rows_used(s);
+    is_zero(s, ROWS_AT + ROW * used, ROW * (ROWS - used))
+}
+
+fn are_desks(s: &[u8]) -> bool
+    requires { ⌜ Sized (now s) ⌝ }
+    ensures { λ r. ⌜ r ≡ all deskCount (deskRight (now (s .entry))) ⌝ }
+{
+    let mut right = true;
+    for d in 0..DESKS {
+        right &= is_desk(s, d);
+    }
+    right
+}
+
+fn is_desk(s: &[u8], d: usize) -> bool
+    requires { ⌜ Sized (now s) ⌝ }
+    requires { ⌜ d < deskCount ⌝ }
+    ensures { λ r. ⌜ r ≡ deskRight (now (s .entry)) d ⌝ }
+{
+    let open = s[DESKS_AT + DESK * d];
+    if open == 0 {
+        return is_zero(s, DESKS_AT + DESK * d, DESK);
+    }
+    if open == 1 {
+        return is_open_desk(s, d);
+    }
+    false
+}
+
+// Whether an open desk has its two zeros, names a used row, and both its copies carry that row's key and first number.
+fn is_open_desk(s: &[u8], d: usize) -> bool
+    requires { ⌜ Sized (now s) ⌝ }
+    requires { ⌜ (d < deskCount) × (deskByte (now s) d ≡ 1) ⌝ }
+    ensures { λ r. ⌜ r ≡ (deskMarked (now (s .entry)) d && openNames (now (s .entry)) d) ⌝ }
+{
+    let a = DESKS_AT + DESK * d;
+    let row = s[a + DESK_ROW_AT] as usize;
+    if row >= rows_used(s) {
+        return false;
+    }
+    let zeros = is_zero(s, a + DESK_ZEROS_AT, DESK_ZEROS);
+    let opened = is_same(s, ROWS_AT + ROW * row, s, a + OPENED_AT, TICKS_AT);
+    let worked = is_same(s, ROWS_AT + ROW * row, s, a + WORKED_AT, TICKS_AT);
+    zeros & opened & worked
+}
