@@ -6,3 +6,4 @@ pub mod Stable
 pub mod Streams
 pub mod Draining
 pub mod Pieces
+pub mod Promised
