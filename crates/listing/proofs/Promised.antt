@@ -50,10 +50,10 @@ kept (lists {read} {ended} {written} {s} {held} {text} run going piece w out w�
       says = λ more on.
           let rest = unless (r .done) (linesFrom (r .place) (take (r .have) w′ ++ more)) in
           let before : linesFrom (s .place) (held ++ (piece ++ more)) ≡ listed .t ++ rest =
-              ap (linesFrom (s .place)) (sym (append-assoc held piece more) ∙ ap (λ (x : List ℕ). x ++ more) (sym behind)) ∙ listed .says more on in
+          ap (linesFrom (s .place)) (sym (append-assoc held piece more) ∙ ap (λ (x : List ℕ). x ++ more) (sym behind)) ∙ listed .says more on in
           let laid′ : text ++ (listed .t ++ rest) ≡ take (r .text) out′ ++ rest =
-              sym (append-assoc text (listed .t) rest)
-              ∙ ap (λ (x : List ℕ). x ++ rest) (ap (λ (x : List ℕ). x ++ listed .t) (sym laid) ∙ sym (grown out out′ (s .text) (r .text) (listed .t) (listed .puts))) in
+          sym (append-assoc text (listed .t) rest)
+          ∙ ap (λ (x : List ℕ). x ++ rest) (ap (λ (x : List ℕ). x ++ listed .t) (sym laid) ∙ sym (grown out out′ (s .text) (r .text) (listed .t) (listed .puts))) in
           ap listing (append-assoc read piece more)
           ∙ k .says (piece ++ more) (λ e. never ended e (k .going going))
           ∙ ap (λ (x : List ℕ). written ++ (text ++ x)) (ap (λ (b : Bool). unless b (linesFrom (s .place) (held ++ (piece ++ more)))) going ∙ before)

@@ -2,12 +2,11 @@
 ghost use mathlib.Core.Path.{_≡_};
 ghost use Prim.Native.Nat.{_+_, _≤_, _<_};
 ghost use lib.ListN.{length};
-ghost use mathlib.Core.Bool.{false};
 ghost use mathlib.Core.List.{[], _∷_};
-ghost use Rattle.octets.specs.Octets.{put};
 ghost use Rattle.listing.specs.Listing.{bufferSize};
 ghost use Rattle.listing.specs.Text.{space, letter, word, heading, line, lastLine};
 ghost use Rattle.listing.specs.Window.{Puts};
+ghost use Rattle.listing.specs.Run.{begun};
 use crate::State;
 use sfdu::Kind;
 
@@ -18,7 +17,7 @@ const LINE_END: u8 = b'\n';
 // The state of a listing of which nothing has been read; the first line is laid out.
 pub fn begin(out: &mut [u8]) -> State
     requires { ⌜ length heading ≤ length (now out) ⌝ }
-    ensures { λ r. ⌜ (now (out .exit) ≡ put (now (out .entry)) 0 heading) × (r ≡ record { place = 0; have = 0; text = length heading; done = false }) ⌝ }
+    ensures { λ r. ⌜ (r ≡ begun) × Puts (now (out .entry)) (now (out .exit)) 0 (r .text) heading ⌝ }
 {
     let end = copy_at(b"place length kind number\n", out, 0);
     State {

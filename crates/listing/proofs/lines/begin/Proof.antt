@@ -28,7 +28,7 @@ returns : tie.Need-returns
 unfolding heading
 returns c =
     let p = c .before .before .copy-at .ensures in
-    (p .bytes, ap (λ (n : ℕ). record { place = 0; have = 0; text = n; done = false }) (p .end))
+    (ap (λ (n : ℕ). record { place = 0; have = 0; text = n; done = false }) (p .end), p)
 
 pub begin-spec : {M : Type 1} → statement M
 begin-spec = tie.close (tie.spec slice-aggregate-copy-at copy-at-requires same-length returns)
