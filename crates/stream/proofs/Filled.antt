@@ -1,11 +1,11 @@
 -- A list that is filled from its start: its first elements are xs, and the rest is as it was. For elements of any type, so for
 -- a table of entries and for a list of numbers. Assumes nothing.
-use Prim.Native.Nat.{ℕ, _≤_, _<_}
+use Prim.Native.Nat.{_≤_, _<_}
 use native.Mathlib.Numerals.{add-one}
 use native.Mathlib.Omega.{arith}
 use mathlib.Core.List.{List, [], _∷_, _++_, append-assoc}
 use mathlib.Core.Path.{_≡_}
-use lib.ListN.{length, set, drop, length-append, length-drop}
+use lib.ListN.{length, set, length-append, length-drop}
 use lib.Seq.{drop-cons, set-append-seam}
 use Rattle.stream.specs.Listing.{fills}
 

@@ -1,23 +1,23 @@
 -- The laws of `specs/Laws.antt`. Assumes nothing.
-use Prim.Native.Nat.{ℕ, zero, suc, _+_, _≤_, _<_, min}
+use Prim.Native.Nat.{ℕ, zero, suc, _+_, _≤_}
 use native.Mathlib.Nat.{min-eq-left, le-refl}
 use native.Mathlib.Omega.{arith}
-use mathlib.Core.Bool.{Bool, true, false, cond}
-use mathlib.Core.List.{List, [], _∷_, _++_, map, map-append}
+use mathlib.Core.Bool.{Bool, true, false}
+use mathlib.Core.List.{List, [], _∷_, map, map-append}
 use mathlib.Core.Logic.{_⊎_, inl, inr}
 use mathlib.Core.Path.{_≡_, refl, sym, ap, _∙_}
 use lib.Dec.{eqb, leb}
 use lib.ListN.{length, drop, length-map}
-use borrow.Author.Tests.{eqb-true, leb-true, leb-false}
+use borrow.Author.Tests.{leb-true, leb-false}
 use Rattle.refusals.specs.Judge.{Row, _when_, verdict}
-use Rattle.sfdu.specs.Read.{readRows, accepts, readOne, kindOf, recordWords}
+use Rattle.sfdu.specs.Read.{readRows, accepts, readOne}
 use Rattle.sfdu.proofs.Accepted.{words-refused}
 use Rattle.stream.specs.declared.Entry.{Entry}
 use Rattle.stream.specs.Walk.{whole, past, refusal}
-use Rattle.stream.specs.Listing.{Listing, entryAt, stopped, prepend, listing, walkFrom, answer, fills, Columns, shortest, fillsColumns, listNumbers, listEntries}
-use Rattle.stream.specs.Laws.{BackToBack, StopsAtEnd, StopsRefused, WalkRight, Full, ListRight, EveryWalk, EveryList, columnsOf, SameInBothLayouts}
+use Rattle.stream.specs.Listing.{Listing, entryAt, stopped, prepend, listing, walkFrom, walked, answer, fills, shortest, fillsColumns, listNumbers, listEntries}
+use Rattle.stream.specs.Laws.{BackToBack, StopsAtEnd, StopsRefused, Full, EveryWalk, EmptyWalk, EveryList, columnsOf, SameInBothLayouts}
 use Rattle.stream.proofs.Places.{whole-record, none-at-end, refused-by}
-use Rattle.stream.proofs.Listings.{lists, lists-none, lists-full}
+use Rattle.stream.proofs.Listings.{lists, lists-none, lists-full, stops as walk-stops}
 
 -- ---- a number that no row has is never given
 
@@ -149,6 +149,10 @@ walk-right s =
     by b (inl x) = inl x
     by b (inr (inl x)) = inr x
     by b (inr (inr x)) = let w = whole-record s (l .stop) (x .0 .0) in absurd (omega (arith, taken s 0 (l .entries) (l .stop) b, x .0 .1))
+
+pub empty-walk : EmptyWalk
+unfolding walked refusal
+empty-walk = ap answer (walk-stops [] 0 (none-at-end [] 0 (omega arith)))
 
 -- ---- both layouts
 

@@ -1,13 +1,12 @@
 -- Laws of listings. Assumes nothing.
-use Prim.Native.Nat.{ℕ, zero, suc, _+_, _≤_, _<_}
+use Prim.Native.Nat.{ℕ, zero, suc, _+_, _≤_}
 use native.Mathlib.Omega.{arith}
-use mathlib.Core.Bool.{Bool, true, false, cond}
-use mathlib.Core.List.{List, [], _∷_, _++_}
+use mathlib.Core.Bool.{Bool, true, false}
+use mathlib.Core.List.{List, [], _∷_}
 use mathlib.Core.Path.{_≡_, refl, sym, ap, _∙_}
 use lib.ListN.{length}
-use Rattle.stream.specs.declared.Entry.{Entry}
 use Rattle.stream.specs.Walk.{whole, past, refusal}
-use Rattle.stream.specs.Listing.{Listing, entryAt, stopped, prepend, listing, answer, walkFrom, walked}
+use Rattle.stream.specs.Listing.{entryAt, stopped, prepend, listing, walkFrom}
 use Rattle.stream.proofs.Places.{whole-record, none-at-end}
 
 -- ---- one place

@@ -1,9 +1,9 @@
 -- A walk under way: what holds each time its loop comes round. Assumes nothing.
-use Prim.Native.Nat.{ℕ, _+_, _≤_, _<_}
+use Prim.Native.Nat.{ℕ, _+_, _≤_}
 use native.Mathlib.Omega.{arith}
 use mathlib.Core.Bool.{true, false}
 use mathlib.Core.List.{List, [], _∷_}
-use mathlib.Core.Path.{_≡_, refl, sym, ap, _∙_}
+use mathlib.Core.Path.{_≡_, sym, ap, _∙_}
 use lib.ListN.{length}
 use Rattle.stream.specs.Walk.{whole, past, refusal}
 use Rattle.stream.specs.Listing.{Listing, stopped, walkFrom, walked}

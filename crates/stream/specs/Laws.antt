@@ -8,7 +8,7 @@ use lib.ListN.{length, drop}
 use Rattle.sfdu.specs.Read.{readOne}
 use Rattle.stream.specs.declared.Entry.{Entry}
 use Rattle.stream.specs.Walk.{whole, past}
-use Rattle.stream.specs.Listing.{entryAt, Listing, listing, walkFrom, Columns, listNumbers, listEntries}
+use Rattle.stream.specs.Listing.{entryAt, Listing, listing, walkFrom, walked, Columns, listNumbers, listEntries}
 
 -- "Records back to back" from one place to another: each is whole, and has its entry.
 abbrev pub BackToBack : List ℕ → (from : ℕ) → List Entry → (to : ℕ) → Type 0
@@ -41,6 +41,10 @@ pub record ListRight (s : List ℕ) (size : ℕ) (l : Listing) : Type 0 where
 
 abbrev pub EveryWalk : Type 0
 EveryWalk = (s : List ℕ) → WalkRight s (walkFrom s 0)
+
+-- "An empty stream gives 0, 0, 0."
+abbrev pub EmptyWalk : Type 0
+EmptyWalk = walked [] ≡ 0 ∷ 0 ∷ 0 ∷ []
 
 abbrev pub EveryList : Type 0
 EveryList = (size : ℕ) (s : List ℕ) → ListRight s size (listing size s 0)

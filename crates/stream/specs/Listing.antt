@@ -1,7 +1,7 @@
 -- Document 01, "Calls on records": what a walk passes and what a list holds ("packing list"), and where they stop. One
 -- definition for the walk, the number lists and the table of entries. Assumes nothing.
 use Prim.Native.Nat.{ℕ, zero, suc, min}
-use mathlib.Core.Bool.{Bool, cond}
+use mathlib.Core.Bool.{cond}
 use mathlib.Core.List.{List, [], _∷_, _++_, map}
 use lib.ListN.{length, drop}
 use Rattle.sfdu.specs.Nesting.{kindNumber}

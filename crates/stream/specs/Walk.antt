@@ -1,5 +1,5 @@
--- Document 01, "Calls on records": the cursor's step and the walk over a stream s. Assumes nothing.
-use Prim.Native.Nat.{ℕ, zero, suc, _+_}
+-- Document 01, "Calls on records": what the answers say, a place in a stream s, and the step there. Assumes nothing.
+use Prim.Native.Nat.{ℕ, _+_}
 use mathlib.Core.Bool.{Bool, cond}
 use mathlib.Core.List.{List, [], _∷_}
 use lib.ListN.{length, drop}
@@ -7,8 +7,7 @@ use lib.Dec.{leb}
 use Rattle.refusals.specs.Judge.{verdict}
 use Rattle.refusals.specs.Table.{numberOf}
 use Rattle.sfdu.specs.Nesting.{kindNumber}
-use Rattle.sfdu.specs.Read.{primaryWords, kindOf, recordLength, readRows, accepts, readOne}
-use Rattle.stream.specs.declared.Cursor.{Cursor}
+use Rattle.sfdu.specs.Read.{primaryWords, recordLength, readRows, accepts, readOne}
 use Rattle.stream.specs.declared.Step.{Step}
 use Rattle.stream.specs.declared.Step.the-variants.{Found, Done, Refused}
 use Rattle.stream.specs.declared.Stop.{Stop}
