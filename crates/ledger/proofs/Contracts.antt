@@ -1,10 +1,10 @@
 -- The equations of `MadeFresh` and `Promised` are those of the functions' contracts: each is had from what the check says that a caller
 -- learns of the call (`Learnt`, made from its `ensures`). `a` is the arguments, of which the first is the sheet; `e` the same
 -- at exit; r the answer. Assumes nothing.
-use Prim.Native.Nat.{ℕ, _<_, _^_}
+use Prim.Native.Nat.{_<_, _^_}
 use native.Mathlib.Omega.{arith}
 use mathlib.Core.List.{List}
-use mathlib.Core.Path.{_≡_, ap, sym, _∙_}
+use mathlib.Core.Path.{_≡_}
 use contract.Lifetimes.{Lfts}
 use denote.Triple.Clauses.{AtExit}
 use borrow.Fn.Kinds.{PK, RK, Out, Dens, GoodsP, resT, endedOf}

@@ -6,7 +6,7 @@ use mathlib.Core.Path.{_≡_, refl, sym, ap, _∙_}
 use lib.Dec.{eqb}
 use lib.ListN.{length}
 use Rattle.model.specs.Book.{fresh}
-use Rattle.model.specs.Step.{Call, Enrol, Find, Open, Tick, Untick, Save, Drop, Answer, Entry, callOf}
+use Rattle.model.specs.Step.{Call, Answer, Entry, callOf}
 use Rattle.model.specs.WellFormed.{InRange, AllInRange}
 use Rattle.model.specs.Chain.{Chain, stop, next}
 use Rattle.model.specs.Claim.{bookAfter}

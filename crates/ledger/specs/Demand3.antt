@@ -7,7 +7,6 @@ use mathlib.Core.List.{List, map}
 use Rattle.model.specs.Book as Model
 use Rattle.model.specs.Step.{Call, Enrol, Find, Open, Tick, Untick, Save, Drop, Answer, Entry, callOf}
 use Rattle.model.specs.History.{serial}
-use Rattle.model.specs.Counts.{rowReport, firstGap}
 use Rattle.model.specs.Chain.{Chain}
 use Rattle.model.specs.Claim.{bookAfter, Claim}
 use Rattle.sheet.specs.Words.{answerWords, rowWords}

@@ -1,4 +1,5 @@
 -- `drop` meets its contract. Assumes nothing.
+use native.Mathlib.Omega.{arith}
 use mathlib.Core.Path.{ap, _∙_}
 use Rattle.sheet.specs.Bytes.{done}
 use Rattle.model.specs.Step.{Drop}
@@ -33,7 +34,7 @@ clear-desk-requires c κs =
     let judged = c .before .before .before in
     let g = judged .before .before .before .args in
     let fine = desk-fine (g .s .now) (g .desk) (judged .desk-verdict .ensures) (c .before .enum-told .given .1) in
-    (fine .0, fine .1)
+    (fine .0, omega (arith, fine .1))
 
 same-length-2 : tie.Need-same-length-2
 same-length-2 c = search needs

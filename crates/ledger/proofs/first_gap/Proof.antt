@@ -1,7 +1,5 @@
 -- `first_gap` meets its contract. Assumes nothing.
-use mathlib.Core.List.{[]}
 use mathlib.Core.Path.{ap, _∙_}
-use native.Mathlib.Omega.{arith}
 use Rattle.octets.proofs.Laws.{failed, passed}
 use Rattle.sheet.proofs.Clauses.{sized}
 use Rattle.ledger.proofs.Calls.{gap-not-right, gap-right}

@@ -1,9 +1,8 @@
 -- `fresh` meets its contract. Assumes nothing.
 use native.Mathlib.Omega.{arith}
-use mathlib.Core.List.{[]}
-use mathlib.Core.Path.{ap, _∙_}
+use lib.ListN.{length}
 use borrow.Author.Tests.{eq-eqb, ne-eqb}
-use Rattle.sheet.specs.Bytes.{done}
+use Rattle.sheet.specs.Sheet.{sheetSize}
 use Rattle.layout.specs.Layout.{freshOn}
 use Rattle.layout.proofs.Sheets.{fresh-layout}
 use borrow.Author.Needs.{needs}
@@ -12,7 +11,7 @@ use Rattle.ledger.proofs.fresh.Tie as tie
 
 returns : tie.Need-returns
 unfolding freshOn
-returns c = rw (ne-eqb _ _ (c .if1 .taken))
+returns c = rw (ne-eqb (length (c .before .before .args .s .now)) sheetSize (λ z. omega arith))
 
 make-fresh-requires : tie.Need-make-fresh-requires
 make-fresh-requires c κs = search needs

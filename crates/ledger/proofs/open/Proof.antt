@@ -1,4 +1,5 @@
 -- `open` meets its contract. Assumes nothing.
+use native.Mathlib.Omega.{arith}
 use mathlib.Core.Path.{ap, _∙_}
 use Rattle.sheet.specs.Bytes.{done}
 use Rattle.model.specs.Step.{Open}
@@ -32,7 +33,8 @@ open-desk-requires : tie.Need-open-desk-requires
 open-desk-requires c κs =
     let judged = c .before .before .before in
     let g = judged .before .before .before .args in
-    open-fine (g .s .now) (g .desk) (g .row) (judged .open-verdict .ensures) (c .before .enum-told .given .1)
+    let fine = open-fine (g .s .now) (g .desk) (g .row) (judged .open-verdict .ensures) (c .before .enum-told .given .1) in
+    (fine .0, fine .1, omega (arith, fine .2))
 
 same-length-2 : tie.Need-same-length-2
 same-length-2 c = search needs

@@ -1,4 +1,5 @@
 -- `row_report` meets its contract. Assumes nothing.
+use native.Mathlib.Omega.{arith}
 use mathlib.Core.Path.{ap, _∙_}
 use Rattle.ledger.proofs.Judged.{refused-is, accepted-is, report-fine}
 use Rattle.ledger.proofs.Calls.{report-by-rows}
@@ -27,7 +28,8 @@ row-report-requires : tie.Need-row-report-requires
 row-report-requires c κs =
     let judged = c .before .before in
     let g = judged .before .before .args in
-    report-fine (g .s .now) (g .row) (judged .report-verdict .ensures) (c .enum-told .given .1)
+    let fine = report-fine (g .s .now) (g .row) (judged .report-verdict .ensures) (c .enum-told .given .1) in
+    (fine .0, omega (arith, fine .1))
 
 returns-2 : tie.Need-returns-2
 returns-2 c =

@@ -1,4 +1,5 @@
 -- `verdicts::open_verdict` meets its contract. Assumes nothing.
+use native.Mathlib.Omega.{arith}
 use borrow.Author.Tests.{lt-ltb, le-ltb}
 use Rattle.octets.proofs.Laws.{failed, passed}
 use Rattle.refusals.specs.Judge.{verdict}
@@ -27,7 +28,7 @@ unfolding verdictWords verdict
 returns-3 c = rw (passed (c .before .before .before .before .is-sheet .ensures) (c .before .before .before .if1 .left), lt-ltb _ _ (c .before .before .if2 .left), ← c .before .rows-used .ensures, le-ltb _ _ (c .if3 .taken))
 
 is-closed-requires : tie.Need-is-closed-requires
-is-closed-requires c κs = (sized _ (passed (c .before .before .before .before .is-sheet .ensures) (c .before .before .before .if1 .left)) .long, c .before .before .if2 .left)
+is-closed-requires c κs = (sized _ (passed (c .before .before .before .before .is-sheet .ensures) (c .before .before .before .if1 .left)) .long, omega (arith, c .before .before .if2 .left))
 
 returns-4 : tie.Need-returns-4
 unfolding verdictWords verdict
