@@ -1,6 +1,7 @@
 -- `sfdu_list::list_stream` meets its contract. The loop's invariant is `Round`: a run stands at the state, and the place stays low. The
 -- measure is the number of turns that are left. Assumes nothing.
 use borrow.Author.Needs.{needs}
+use lib.Dec.{lit≤}
 use Rattle.listing.specs.Text.{heading}
 use Rattle.sfdu_list.proofs.Onward.{Round, round-begins, round-going, round-goes, round-ends, round-gives-up}
 use Rattle.sfdu_list.proofs.list_stream.Statement.{statement}
@@ -17,7 +18,7 @@ unfolding heading
 begin-requires c κs = search needs
 
 loop-holds : tie.Need-loop-holds Inv-loop μ-loop
-loop-holds c = round-begins _ _ _ _ (search needs) (search needs) (c .before .before .begin .ensures .0) (c .before .before .begin .ensures .1)
+loop-holds c = round-begins _ _ _ _ _ (search needs) (search needs) (c .before .before .begin .ensures .0) (c .before .before .begin .ensures .1) (lit≤ tt)
 
 take-turn-requires : tie.Need-take-turn-requires Inv-loop μ-loop
 take-turn-requires c κs = let k = c .before .before .before .loop in round-going (k .w) (k .out) (k .s) (k .turns) (k .inv) (c .before .before .loop-test .taken)

@@ -1,6 +1,7 @@
 -- `sfdu_list::take_turn` meets its contract, from what its calls ensure. Assumes nothing.
 use Rattle.sfdu_list.proofs.Onward.{turn-fails, turn-lists, turn-writes}
 use borrow.Author.Needs.{needs}
+use lib.Dec.{lit≤}
 use Rattle.sfdu_list.proofs.take_turn.Statement.{statement}
 use Rattle.sfdu_list.proofs.take_turn.Tie as tie
 
@@ -26,7 +27,7 @@ same-length-3 : tie.Need-same-length-3
 same-length-3 c = search needs
 
 returns-2 : tie.Need-returns-2
-returns-2 c = turn-lists _ _ _ _ _ (c .before .before .before .before .before .before .before .before .before .before .before .before .before .before .before .before .before .pre) (c .before .before .before .before .before .before .before .before .before .before .before .before .read-piece .ensures) (search needs) _ _ _ (c .before .before .before .before .before .before .list-piece .ensures) (c .if2 .taken)
+returns-2 c = turn-lists _ _ _ _ _ (c .before .before .before .before .before .before .before .before .before .before .before .before .before .before .before .before .before .pre) (c .before .before .before .before .before .before .before .before .before .before .before .before .read-piece .ensures) (search needs) _ _ _ (c .before .before .before .before .before .before .list-piece .ensures) _ (c .if2 .taken) (lit≤ tt)
 
 flush-requires : tie.Need-flush-requires
 flush-requires c κs = search needs
