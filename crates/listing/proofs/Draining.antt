@@ -3,14 +3,14 @@ use Prim.Native.Nat.{ℕ, _+_, _-_, _*_, _≤_, _<_, _^_}
 use native.Mathlib.Omega.{arith}
 use mathlib.Core.Bool.{Bool, true, false}
 use mathlib.Core.List.{List, [], _∷_, _++_}
-use mathlib.Core.Path.{_≡_, refl, sym, ap, _∙_}
+use mathlib.Core.Path.{_≡_, refl, ap, _∙_}
 use lib.ListN.{length, take, drop, length-drop}
 use lib.Seq.{take-length}
 use Rattle.sfdu.specs.declared.Kind.{Kind}
 use Rattle.sfdu.specs.Nesting.{kindNumber}
 use Rattle.listing.specs.Text.{line, lastLine}
 use Rattle.listing.specs.Listing.{bufferSize}
-use Rattle.listing.specs.Window.{Puts, Lines, Drains, foundIn, cutShort, mostText}
+use Rattle.listing.specs.Window.{Puts, Drains, foundIn, cutShort, mostText}
 use Rattle.listing.proofs.Judging.{whole-record, FoundRecord, FoundStop, found-record, found-stop, found-more, stop-below}
 use Rattle.listing.proofs.Laid.{nothing, then}
 use Rattle.listing.proofs.Streams.{Underway, begins, goes, stops}

@@ -2,15 +2,15 @@
 -- read one's answer says of it, where s is no longer than the window. Assumes nothing.
 use Prim.Native.Nat.{ℕ, _+_, _≤_, _<_}
 use native.Mathlib.Omega.{arith}
-use mathlib.Core.Bool.{Bool, true, false, not, cond, _&&_, _||_, false≢true}
+use mathlib.Core.Bool.{Bool, true, false, not, cond, _&&_, _||_}
 use mathlib.Core.List.{List, [], _∷_, _++_}
 use mathlib.Core.Logic.{_≢_, _⊎_, inl, inr, ⊎-elim}
-use mathlib.Core.Path.{_≡_, refl, sym, ap, _∙_}
+use mathlib.Core.Path.{_≡_, refl, sym, _∙_}
 use borrow.Author.Tests.{ltb-true, ltb-false, lt-ltb, le-ltb, eqb-true, eqb-false, eq-eqb, ne-eqb, not-false}
 use lib.Dec.{eqb, ltb, lit<}
 use lib.ListN.{length}
 use Rattle.refusals.specs.Judge.{Row, _when_, verdict}
-use Rattle.refusals.proofs.Judged.{NoneHolds, Numbered, verdict-none}
+use Rattle.refusals.proofs.Judged.{Numbered, none-verdict, verdict-none}
 use Rattle.sfdu.specs.declared.Kind.{Kind}
 use Rattle.octets.specs.Octets.{numberAt}
 use Rattle.sfdu.specs.Nesting.{kindNumber, labelSize, lengthAt, lengthSize, dataValueAt}
@@ -36,6 +36,10 @@ labelled s h = by (ltb (length s) labelSize) refl
 numbered : (s : List ℕ) → Numbered (listRows s)
 numbered s =
     (lit< tt, (lit< tt, (lit< tt, (lit< tt, (lit< tt, (lit< tt, (lit< tt, (lit< tt, (lit< tt, (lit< tt, (lit< tt, (lit< tt, (lit< tt, tt)))))))))))))
+
+read-numbered : (s : List ℕ) → Numbered (readRows s)
+read-numbered s =
+    (lit< tt, (lit< tt, (lit< tt, (lit< tt, (lit< tt, (lit< tt, (lit< tt, (lit< tt, (lit< tt, (lit< tt, (lit< tt, (lit< tt, tt))))))))))))
 
 pub stop-below : (s : List ℕ) → stopNumber s < 100
 unfolding stopNumber refusal
@@ -157,6 +161,20 @@ over-label s n e = by (ltb 65516 n) refl
     by true q = sym (lt-ltb bufferSize (recordLength s) (omega (arith, ltb-true 65516 n q, record-length s n e)))
     by false q = sym (le-ltb bufferSize (recordLength s) (omega (arith, ltb-false 65516 n q, record-length s n e)))
 
+-- The whole records are those that read one accepts, but for those over the window.
+pub whole-accepted : (s : List ℕ) → whole s ≡ true → accepts s ≡ true
+unfolding whole refusal accepts
+whole-accepted s e =
+    let h = verdict-none (listRows s) (numbered s) (eqb-true _ _ e) in
+    eq-eqb _ _ (none-verdict (readRows s) (h .0, (h .1 .0, (h .1 .1 .0, (h .1 .1 .1 .0, (h .1 .1 .1 .1 .0, h .1 .1 .1 .1 .1 .1))))))
+
+pub accepted-whole : (s : List ℕ) → accepts s ≡ true → recordLength s ≤ bufferSize → whole s ≡ true
+unfolding whole refusal accepts
+accepted-whole s a fits =
+    let h = verdict-none (readRows s) (read-numbered s) (eqb-true _ _ a) in
+    let o : ltb bufferSize (recordLength s) ≡ false = le-ltb bufferSize (recordLength s) fits in
+    eq-eqb _ _ (none-verdict (listRows s) (h .0, (h .1 .0, (h .1 .1 .0, (h .1 .1 .1 .0, (h .1 .1 .1 .1 .0, (o, h .1 .1 .1 .1 .1)))))))
+
 -- ---- what the window says
 
 module _ (s : List ℕ) (n : ℕ) (e : refusal s ≡ n) where
@@ -181,12 +199,6 @@ module _ (s : List ℕ) (n : ℕ) (e : refusal s ≡ n) where
 pub at-end : (s : List ℕ) (last : Bool) → last ≡ true → length s ≡ 0 → 0 ∷ [] ≡ foundIn s last
 unfolding foundIn foundAt cutShort whole stopNumber refusal verdict
 at-end s last t e = let l : ltb (length s) labelSize ≡ true = lt-ltb (length s) labelSize (omega arith) in rw (t, l, eq-eqb (length s) 0 e)
-
-pub accepted-whole : (s : List ℕ) → length s ≤ bufferSize → accepts s ≡ true → whole s ≡ true
-unfolding accepts whole
-accepted-whole s fits a =
-    let z : verdict (readRows s) ≡ 0 = eqb-true _ _ a in
-    rw (refusal-same s fits (λ q. omega arith)) a
 
 pub records : (s : List ℕ) (last : Bool) (k : Kind) (n m : ℕ) → whole s ≡ true → k ≡ kindOf s → n ≡ recordLength s → m ≡ recordNumber k s
     → 0 ∷ kindNumber k ∷ n ∷ m ∷ [] ≡ foundIn s last

@@ -5,7 +5,6 @@ use native.Mathlib.Omega.{arith}
 use mathlib.Core.List.{List, [], _∷_, _++_}
 use mathlib.Core.Path.{_≡_, refl, sym, ap, _∙_}
 use lib.ListN.{length, set, length-append}
-use Rattle.octets.specs.Octets.{put}
 use Rattle.octets.proofs.Laws.{put-none, length-put}
 use Rattle.octets.proofs.Puts.{put-next, set-put, sets-put}
 use Rattle.listing.specs.Window.{Puts}

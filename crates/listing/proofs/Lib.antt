@@ -7,3 +7,4 @@ pub mod Streams
 pub mod Draining
 pub mod Pieces
 pub mod Promised
+pub mod Example

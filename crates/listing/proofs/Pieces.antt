@@ -1,9 +1,8 @@
 -- A piece of the stream listed: from what `drain` and the move of the rest ensure. Assumes nothing.
 use Prim.Native.Nat.{ℕ, _+_, _-_, _≤_, _<_}
 use native.Mathlib.Omega.{arith}
-use mathlib.Core.Bool.{Bool, false}
-use mathlib.Core.List.{List, _++_}
-use mathlib.Core.Path.{_≡_, refl, sym, ap, _∙_}
+use mathlib.Core.List.{List}
+use mathlib.Core.Path.{_≡_, ap, _∙_}
 use borrow.Author.Tests.{eqb-false}
 use lib.Dec.{eqb}
 use lib.ListN.{length, take, drop, length-drop}
@@ -13,8 +12,7 @@ use Rattle.octets.proofs.Laws.{length-part}
 use Rattle.octets.proofs.Puts.{put-start}
 use Rattle.listing.specs.declared.Drained.{Drained}
 use Rattle.listing.specs.declared.State.{State}
-use Rattle.listing.specs.Listing.{bufferSize, linesFrom}
-use Rattle.listing.specs.Window.{unless, Drains, Ready, Lists}
+use Rattle.listing.specs.Window.{Drains, Ready, Lists}
 use Rattle.listing.proofs.Judging.{cut-room}
 
 -- the rest of the first bytes

@@ -1,18 +1,17 @@
 -- The promise of a run. Assumes nothing.
-use Prim.Native.Nat.{ℕ, _+_, _≤_, _<_}
+use Prim.Native.Nat.{ℕ, _+_, _≤_}
 use native.Mathlib.Omega.{arith}
-use mathlib.Core.Bool.{Bool, true, false, cond}
-use mathlib.Core.List.{List, [], _∷_, _++_, append-assoc, append-nil}
+use mathlib.Core.Bool.{Bool, true, false}
+use mathlib.Core.List.{List, [], _++_, append-assoc, append-nil}
 use mathlib.Core.Path.{_≡_, refl, sym, ap, _∙_}
 use borrow.Author.Tests.{ne-eqb, leb-true, leb-false}
-use lib.Dec.{eqb, leb}
+use lib.Dec.{leb}
 use lib.ListN.{length, take, drop, length-append, drop-of-length-le}
 use lib.Seq.{take-at, take-all, length-take-le}
 use Rattle.octets.specs.Octets.{put}
 use Rattle.listing.specs.declared.State.{State}
-use Rattle.listing.specs.Text.{heading}
 use Rattle.listing.specs.Listing.{linesFrom, listing}
-use Rattle.listing.specs.Window.{Puts, unless, GoesOn, Lists}
+use Rattle.listing.specs.Window.{Puts, unless, GoesOn}
 use Rattle.listing.specs.Run.{Run, begins, lists, writes, Promise}
 
 -- What holds wherever a run stands.

@@ -4,14 +4,14 @@ use Prim.Native.Nat.{ℕ, zero, suc, _+_, _-_, _≤_, _<_}
 use native.Mathlib.Nat.{le-refl}
 use native.Mathlib.Omega.{arith}
 use mathlib.Core.Bool.{Bool, true, false, _||_, false≢true}
-use mathlib.Core.List.{List, [], _∷_, _++_}
+use mathlib.Core.List.{List, _++_}
 use mathlib.Core.Logic.{_≢_}
 use mathlib.Core.Path.{_≡_, refl, sym, ap, _∙_}
 use borrow.Author.Tests.{le-ltb, ltb-false, eqb-false, eqb-true, ne-eqb, not-false}
 use lib.Dec.{eqb, ltb}
 use lib.ListN.{length, length-append, List·getD-append}
 use Rattle.refusals.specs.Judge.{Row, verdict}
-use Rattle.octets.specs.Octets.{numberAt, all, sameAt}
+use Rattle.octets.specs.Octets.{all, sameAt}
 use Rattle.octets.proofs.Parts.{number-first}
 use Rattle.sfdu.specs.declared.Kind.{Kind}
 use Rattle.sfdu.specs.declared.Kind.the-variants.{Telemetry, Rsr}
@@ -20,10 +20,10 @@ use Rattle.sfdu.specs.Nesting.{authority, control, authorityAt, controlAt, kind
 use Rattle.sfdu.specs.Read.{hasKind, kindOf, labelLength, recordLength, lengthInRange, blockType, blockLength, blockEnd, isBlock, nests, headerRows, dataRows}
 use Rattle.sfdu.proofs.Placed.{placed}
 use Rattle.headers.specs.Fields.{recordNumber}
-use Rattle.listing.specs.Listing.{bufferSize, refusal, whole, stopNumber, recordLine}
+use Rattle.listing.specs.Listing.{refusal, whole, stopNumber, recordLine}
 use Rattle.listing.specs.Window.{cutShort}
 use Rattle.listing.proofs.Rows.{behind, agree}
-use Rattle.listing.proofs.Judging.{labelled, headers-within, front, back, refusal-rows, Whole, whole-record}
+use Rattle.listing.proofs.Judging.{labelled, headers-within, front, back, refusal-rows, whole-record}
 
 -- ---- bytes of the first of two lists
 

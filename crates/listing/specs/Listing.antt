@@ -5,6 +5,7 @@ use mathlib.Core.List.{List, [], _∷_, _++_}
 use lib.ListN.{length, drop}
 use lib.Dec.{eqb, ltb}
 use Rattle.refusals.specs.Judge.{Row, _when_, verdict}
+use Rattle.sfdu.specs.declared.Kind.{Kind}
 use Rattle.sfdu.specs.Read.{kindOf, recordLength, lengthInRange, labelRows, headerRows, dataRows}
 use Rattle.headers.specs.Fields.{recordNumber}
 use Rattle.listing.specs.Text.{heading, line, lastLine}
@@ -15,13 +16,16 @@ bufferSize = 65536
 
 -- ---- the record at the start of s, the rest of a stream
 
--- Read one's refusals, with 17 "judged straight after 5: N over 65,536".
+-- Read one's refusals from 5 to 6, with 17 between them: "judged straight after 5: N over 65,536, its buffer".
+abbrev pub sizeRows : Kind → List ℕ → List Row
+sizeRows k s =
+    (5 when not (lengthInRange k s))
+    ∷ (17 when ltb bufferSize (recordLength s))
+    ∷ (6 when ltb (length s) (recordLength s))
+    ∷ []
+
 abbrev pub listRows : List ℕ → List Row
-listRows s =
-    labelRows s
-    ++ ((5 when not (lengthInRange (kindOf s) s)) ∷ (17 when ltb bufferSize (recordLength s)) ∷ (6 when ltb (length s) (recordLength s)) ∷ [])
-    ++ headerRows (kindOf s) s
-    ++ dataRows (kindOf s) s
+listRows s = labelRows s ++ sizeRows (kindOf s) s ++ headerRows (kindOf s) s ++ dataRows (kindOf s) s
 
 unfoldable pub refusal : List ℕ → ℕ
 refusal s = verdict (listRows s)

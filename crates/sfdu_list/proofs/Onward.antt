@@ -81,8 +81,8 @@ module _ (w w₁ out : List ℕ) (s : State) (p : Piece) (going : Going w out s)
     far : r .place ≤ s .place + bufferSize
     far = omega (arith, listed .count, behind .within, same, going .window)
 
-    pub turn-lists : r .text ≤ 32768 → Turns w out s w′ out′ (record { state = r; failed = false })
-    turn-lists few = record {
+    pub turn-lists : (enough : ℕ) → r .text ≤ enough → enough + mostText ≤ bufferSize → Turns w out s w′ out′ (record { state = r; failed = false })
+    turn-lists enough few free = record {
       stands = lists-on w w₁ out w′ out′ s r p (going .on) behind listed;
       text = listed .within;
       next = λ _ on. (listed .room on .1, omega arith);
@@ -116,13 +116,13 @@ begins-stands w old out p =
     let laid : take (begun .text) out ≡ heading = grown old out 0 (begun .text) heading p in
     record { read = []; ended = false; written = []; run = subst (λ (t : List ℕ). Run [] false [] begun [] t) (sym laid) begins }
 
-pub round-begins : (w old out : List ℕ) (s : State) → length w ≡ bufferSize → length out ≡ bufferSize → s ≡ begun
-    → Puts old out 0 (s .text) heading → Round w out s 140737488355328
+pub round-begins : (w old out : List ℕ) (s : State) (turns : ℕ) → length w ≡ bufferSize → length out ≡ bufferSize → s ≡ begun
+    → Puts old out 0 (s .text) heading → bufferSize * turns ≤ 2 ^ 63 → Round w out s turns
 unfolding heading
-round-begins w old out s wide long e p =
+round-begins w old out s turns wide long e p few =
     let q = subst (λ (r : State). Puts old out 0 (r .text) heading) e p in
     subst
-    (λ (r : State). Round w out r 140737488355328)
+    (λ (r : State). Round w out r turns)
     (sym e)
     (record {
       stands = begins-stands w old out q;
@@ -130,7 +130,7 @@ round-begins w old out s wide long e p =
       buffer = long;
       room = lit< tt;
       text = lit≤ tt;
-      low = lit≤ tt;
+      low = omega (arith, few);
       on = refl;
     })
 

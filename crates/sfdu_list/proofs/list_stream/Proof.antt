@@ -1,13 +1,11 @@
+-- `sfdu_list::list_stream` meets its contract. The loop's invariant is `Round`: a run stands at the state, and the place stays low. The
+-- measure is the number of turns that are left. Assumes nothing.
 use borrow.Author.Needs.{needs}
+use lib.Dec.{lit≤}
 use Rattle.listing.specs.Text.{heading}
 use Rattle.sfdu_list.proofs.Onward.{Round, round-begins, round-going, round-goes, round-ends, round-gives-up}
 use Rattle.sfdu_list.proofs.list_stream.Statement.{statement}
 use Rattle.sfdu_list.proofs.list_stream.Tie as tie
-use Rattle.sfdu_list.proofs.list_stream.Reads as reads
-use Rattle.sfdu_list.proofs.list_stream.Lts as lts
-use Rattle.listing.proofs.begin.Reads as begin-reads
-use Rattle.sfdu_list.proofs.give_up.Reads as give-up-reads
-use Rattle.sfdu_list.proofs.take_turn.Reads as take-turn-reads
 
 abbrev Inv-loop : tie.InvT-loop
 Inv-loop fd name w₀ out₀ s₀ turns₀ w out s turns = Round w out s turns
@@ -15,56 +13,43 @@ Inv-loop fd name w₀ out₀ s₀ turns₀ w out s turns = Round w out s turns
 abbrev μ-loop : tie.MeasureT-loop
 μ-loop fd name w₀ out₀ s₀ turns₀ w out s turns = turns
 
--- src/main.rt:96:9
 begin-requires : tie.Need-begin-requires Inv-loop μ-loop
 unfolding heading
 begin-requires c κs = search needs
 
--- src/main.rt:98:5
 loop-holds : tie.Need-loop-holds Inv-loop μ-loop
-loop-holds c = round-begins _ _ _ _ (search needs) (search needs) (c .before .before .begin .ensures .0) (c .before .before .begin .ensures .1)
+loop-holds c = round-begins _ _ _ _ _ (search needs) (search needs) (c .before .before .begin .ensures .0) (c .before .before .begin .ensures .1) (lit≤ tt)
 
--- src/main.rt:99:13
 take-turn-requires : tie.Need-take-turn-requires Inv-loop μ-loop
 take-turn-requires c κs = let k = c .before .before .before .loop in round-going (k .w) (k .out) (k .s) (k .turns) (k .inv) (c .before .before .loop-test .taken)
 
--- src/main.rt:102:13
 same-length : tie.Need-same-length Inv-loop μ-loop
 same-length c = search needs
 
--- src/main.rt:102:13
 same-length-2 : tie.Need-same-length-2 Inv-loop μ-loop
 same-length-2 c = search needs
 
--- src/main.rt:102:13
 returns : tie.Need-returns Inv-loop μ-loop
 returns c = let k = c .before .before .before .before .before .before .before .before .before .before .before .before .loop in round-ends (k .w) (k .out) (k .s) (k .turns) (k .inv) _ _ _ (c .before .before .before .before .before .before .before .before .take-turn .ensures) (c .if1 .taken)
 
--- src/main.rt:104:9
 sub-turns : tie.Need-sub-turns Inv-loop μ-loop
 sub-turns c = search needs
 
--- src/main.rt:98:5
 loop-less : tie.Need-loop-less Inv-loop μ-loop
 loop-less c = search needs
 
--- src/main.rt:98:5
 loop-again : tie.Need-loop-again Inv-loop μ-loop
 loop-again c = let k = c .before .before .before .before .before .before .before .before .before .before .before .before .loop in round-goes (k .w) (k .out) (k .s) (k .turns) (k .inv) _ _ _ (c .before .before .before .before .before .before .before .before .before .before .before .loop-test .taken) (search needs) (search needs) (c .before .before .before .before .before .before .before .before .take-turn .ensures) (c .if1 .left) _ (search needs)
 
--- src/main.rt:106:5
 give-up-requires : tie.Need-give-up-requires Inv-loop μ-loop
 give-up-requires c κs = search needs
 
--- src/main.rt:92:1
 same-length-3 : tie.Need-same-length-3 Inv-loop μ-loop
 same-length-3 c = search needs
 
--- src/main.rt:92:1
 same-length-4 : tie.Need-same-length-4 Inv-loop μ-loop
 same-length-4 c = search needs
 
--- src/main.rt:92:1
 returns-2 : tie.Need-returns-2 Inv-loop μ-loop
 returns-2 c = let k = c .before .before .loop in round-gives-up (k .w) (k .out) (k .s) (k .turns) (k .inv)
 

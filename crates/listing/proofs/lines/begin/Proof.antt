@@ -1,29 +1,22 @@
+-- `listing::lines::begin` meets its contract: the first line is `heading`. Assumes nothing.
 use Prim.Native.Nat.{ℕ}
 use mathlib.Core.Bool.{false}
 use mathlib.Core.Path.{ap}
-use Rattle.listing.specs.declared.State.{State}
 use Rattle.listing.specs.Text.{heading}
 use borrow.Author.Needs.{needs}
 use Rattle.listing.proofs.lines.begin.Statement.{statement}
 use Rattle.listing.proofs.lines.begin.Tie as tie
-use Rattle.listing.proofs.lines.begin.Reads as reads
-use Rattle.listing.proofs.lines.begin.Lts as lts
-use Rattle.listing.proofs.lines.copy_at.Reads as copy-at-reads
 
--- src/lines.rt:23:23
 slice-aggregate-copy-at : tie.Need-slice-aggregate-copy-at
 slice-aggregate-copy-at c = search needs
 
--- src/lines.rt:23:9
 copy-at-requires : tie.Need-copy-at-requires
 unfolding heading
 copy-at-requires c κs = search needs
 
--- src/lines.rt:19:1
 same-length : tie.Need-same-length
 same-length c = search needs
 
--- src/lines.rt:19:1
 returns : tie.Need-returns
 unfolding heading
 returns c =

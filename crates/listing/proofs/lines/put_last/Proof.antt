@@ -1,3 +1,4 @@
+-- `listing::lines::put_last` meets its contract: two texts, one behind the other. Assumes nothing.
 use native.Mathlib.Omega.{arith}
 use lib.Dec.{lit<}
 use Rattle.listing.specs.Text.{space, lineEnd, lastLine}
@@ -6,18 +7,13 @@ use Rattle.listing.proofs.Laid.{then}
 use borrow.Author.Needs.{needs}
 use Rattle.listing.proofs.lines.put_last.Statement.{statement}
 use Rattle.listing.proofs.lines.put_last.Tie as tie
-use Rattle.listing.proofs.lines.put_last.Reads as reads
-use Rattle.listing.proofs.lines.put_last.Lts as lts
-use Rattle.listing.proofs.lines.put_word.Reads as put-word-reads
 
--- src/lines.rt:93:9
 put-word-requires : tie.Need-put-word-requires
 put-word-requires c κs =
     let k = c .before .before in
     let p = word-short 20 (k .args .place) space (lit< tt) (omega (arith, k .fits .place .fits)) in
     omega arith
 
--- src/lines.rt:94:5
 put-word-requires-2 : tie.Need-put-word-requires-2
 put-word-requires-2 c κs =
     let k = c .before .before .before .before .before .before in
@@ -25,11 +21,9 @@ put-word-requires-2 c κs =
     let n = word-short 2 (k .args .number) lineEnd (lit< tt) (omega arith) in
     omega (arith, c .before .before .before .put-word .ensures .end)
 
--- src/lines.rt:89:1
 same-length : tie.Need-same-length
 same-length c = search needs
 
--- src/lines.rt:89:1
 returns : tie.Need-returns
 unfolding lastLine
 returns c =

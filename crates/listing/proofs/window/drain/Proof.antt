@@ -1,3 +1,5 @@
+-- `listing::window::drain` meets its contract. The loop's invariant is `Round`: the text so far is that of the window before `at`, however
+-- the stream goes on. The measure is what is left of the window. Assumes nothing.
 use borrow.Author.Needs.{needs}
 use native.Mathlib.Omega.{arith}
 use Prim.Native.Nat.{_-_}
@@ -7,11 +9,6 @@ use Rattle.listing.specs.Window.{wordsOf}
 use Rattle.listing.proofs.Draining.{part-fits, record-there, stop-there, record-bounds, stop-small, Round, round-begins, line-room, last-room, round-goes, round-waits, round-stops}
 use Rattle.listing.proofs.window.drain.Statement.{statement}
 use Rattle.listing.proofs.window.drain.Tie as tie
-use Rattle.listing.proofs.window.drain.Reads as reads
-use Rattle.listing.proofs.window.drain.Lts as lts
-use Rattle.listing.proofs.lines.put_last.Reads as put-last-reads
-use Rattle.listing.proofs.lines.put_line.Reads as put-line-reads
-use Rattle.listing.proofs.window.judge.Reads as judge-reads
 
 abbrev Inv-loop : tie.InvT-loop
 Inv-loop w place last out₀ start at₀ end₀ out at end = Round w place last out₀ start out at end
@@ -19,31 +16,24 @@ Inv-loop w place last out₀ start at₀ end₀ out at end = Round w place last 
 abbrev μ-loop : tie.MeasureT-loop
 μ-loop w place last out₀ start at₀ end₀ out at end = length w - at
 
--- src/window.rt:96:5
 loop-holds : tie.Need-loop-holds Inv-loop μ-loop
 loop-holds c = let h = c .before .before .pre in round-begins _ _ _ _ _ (h .0) (h .1) (h .2)
 
--- src/window.rt:97:27
 sub-judge : tie.Need-sub-judge Inv-loop μ-loop
 sub-judge c = search needs
 
--- src/window.rt:97:27
 part-judge-start : tie.Need-part-judge-start Inv-loop μ-loop
 part-judge-start c = search needs
 
--- src/window.rt:97:27
 part-judge-end : tie.Need-part-judge-end Inv-loop μ-loop
 part-judge-end c = search needs
 
--- src/window.rt:97:13
 judge-requires : tie.Need-judge-requires Inv-loop μ-loop
 judge-requires c κs = part-fits (c .before .before .before .before .args .w .now) (c .before .loop .at) (c .before .loop .inv .fits)
 
--- src/window.rt:100:17
 enum-known-found : tie.Need-enum-known-found Inv-loop μ-loop
 enum-known-found c = search needs
 
--- src/window.rt:104:42
 add-put-line : tie.Need-add-put-line Inv-loop μ-loop
 add-put-line c =
     let k = c .before .before .before .before .before .before .loop in
@@ -53,7 +43,6 @@ add-put-line c =
     let b = record-bounds (a .w .now) (k .at) (a .last) _ _ _ f in
     omega (arith, k .inv .top, k .inv .fits)
 
--- src/window.rt:104:17
 put-line-requires : tie.Need-put-line-requires Inv-loop μ-loop
 put-line-requires c κs =
     let k = c .before .before .before .before .before .before .loop in
@@ -63,7 +52,6 @@ put-line-requires c κs =
     let b = record-bounds (a .w .now) (k .at) (a .last) _ _ _ f in
     (line-room (a .w .now) (a .place) (a .last) (a .out .now) (a .start) (k .out) (k .at) (k .end) (k .inv) _ _ _ f, b .1)
 
--- src/window.rt:105:22
 add-at : tie.Need-add-at Inv-loop μ-loop
 add-at c =
     let k = c .before .before .before .before .before .before .before .before .before .loop in
@@ -73,7 +61,6 @@ add-at c =
     let b = record-bounds (a .w .now) (k .at) (a .last) _ _ _ f in
     omega (arith, k .inv .fits)
 
--- src/window.rt:96:5
 loop-less : tie.Need-loop-less Inv-loop μ-loop
 loop-less c =
     let k = c .before .before .before .before .before .before .before .before .before .loop in
@@ -83,7 +70,6 @@ loop-less c =
     let b = record-bounds (a .w .now) (k .at) (a .last) _ _ _ f in
     omega arith
 
--- src/window.rt:96:5
 loop-again : tie.Need-loop-again Inv-loop μ-loop
 loop-again c =
     let k = c .before .before .before .before .before .before .before .before .before .loop in
@@ -94,30 +80,24 @@ loop-again c =
     let p = c .before .before .put-line .ensures in
     round-goes (a .w .now) (a .place) (a .last) (a .out .now) (a .start) (k .out) (k .at) (k .end) (k .inv) _ _ _ _ _ f (p .0) (p .1) (search needs)
 
--- src/window.rt:108:17
 enum-told : tie.Need-enum-told Inv-loop μ-loop
 enum-told c = search needs
 
--- src/window.rt:108:17
 same-length : tie.Need-same-length Inv-loop μ-loop
 same-length c = c .before .before .before .before .loop .inv .same
 
--- src/window.rt:108:17
 returns : tie.Need-returns Inv-loop μ-loop
 returns c =
     let k = c .before .before .before .before .loop in
     let a = c .before .before .before .before .before .before .before .args in
     round-waits (a .w .now) (a .place) (a .last) (a .out .now) (a .start) (k .out) (k .at) (k .end) (k .inv) (sym (ap wordsOf (c .enum-told .given .1)) ∙ c .before .before .judge .ensures)
 
--- src/window.rt:114:25
 enum-known-found-2 : tie.Need-enum-known-found-2 Inv-loop μ-loop
 enum-known-found-2 c = search needs
 
--- src/window.rt:115:42
 add-put-last : tie.Need-add-put-last Inv-loop μ-loop
 add-put-last c = let k = c .before .before .before .before .before .before .loop .inv in omega (arith, k .top, k .fits, k .under .within)
 
--- src/window.rt:115:17
 put-last-requires : tie.Need-put-last-requires Inv-loop μ-loop
 put-last-requires c κs =
     let k = c .before .before .before .before .before .before .loop in
@@ -126,11 +106,9 @@ put-last-requires c κs =
     let f = stop-there (a .w .now) (k .at) (a .last) (g .0 .0) (sym (ap wordsOf (g .1)) ∙ c .before .before .before .before .judge .ensures) in
     (last-room (a .w .now) (a .place) (a .last) (a .out .now) (a .start) (k .out) (k .at) (k .end) (k .inv), stop-small (a .w .now) (k .at) (a .last) _ f)
 
--- src/window.rt:116:17
 same-length-2 : tie.Need-same-length-2 Inv-loop μ-loop
 same-length-2 c = search needs
 
--- src/window.rt:116:17
 returns-2 : tie.Need-returns-2 Inv-loop μ-loop
 returns-2 c =
     let k = c .before .before .before .before .before .before .before .before .before .loop in

@@ -1,3 +1,4 @@
+-- `listing::window::judge` meets its contract, from what read one answers. Assumes nothing.
 use native.Mathlib.Omega.{arith}
 use mathlib.Core.Path.{ap, sym, _∙_}
 use Rattle.refusals.specs.Table.{numberOf}
@@ -9,21 +10,13 @@ use Rattle.listing.proofs.Judging.{read-refused, accepted-whole, record
 use borrow.Author.Needs.{needs}
 use Rattle.listing.proofs.window.judge.Statement.{statement}
 use Rattle.listing.proofs.window.judge.Tie as tie
-use Rattle.listing.proofs.window.judge.Reads as reads
-use Rattle.listing.proofs.window.judge.Lts as lts
-use Rattle.listing.proofs.window.stop.Reads as stop-reads
-use Rattle.refusals.proofs.number.Reads as number-reads
-use Rattle.sfdu.proofs.read_one.Reads as read-one-reads
 
--- src/window.rt:45:9
 read-one-requires : tie.Need-read-one-requires
 read-one-requires c κs = search needs
 
--- src/window.rt:48:13
 enum-known-read : tie.Need-enum-known-read
 enum-known-read c = search needs
 
--- src/window.rt:54:21
 record-number-requires : tie.Need-record-number-requires
 record-number-requires c κs =
     let s = c .before .before .before .before .before .args .s .now in
@@ -32,15 +25,12 @@ record-number-requires c κs =
     let r = room s _ _ _ f in
     omega arith
 
--- src/window.rt:56:23
 enum-known-read-2 : tie.Need-enum-known-read-2
 enum-known-read-2 c = search needs
 
--- src/window.rt:56:43
 number-requires : tie.Need-number-requires
 number-requires c κs = search needs
 
--- src/window.rt:56:29
 stop-requires : tie.Need-stop-requires
 stop-requires c κs =
     let k = c .before .before .before .before .before .before in
@@ -49,16 +39,14 @@ stop-requires c κs =
     let v = read-refused (k .args .s .now) (numberOf (g .0 .0)) (sym (ap wordsOf (g .1)) ∙ c .before .before .before .before .read-one .ensures) in
     (k .pre, n ∙ v, λ z. number-positive (g .0 .0) (sym n ∙ z))
 
--- src/window.rt:41:1
 returns : tie.Need-returns
 returns c =
     let k = c .before .before .before .before .before .before in
     let s = k .args .s .now in
     let g = c .before .before .read .given in
     let f = found s (g .0 .0) (g .0 .1 .0) (primaryWords (g .0 .1 .1 .0)) (sym (ap wordsOf (g .1)) ∙ c .before .before .before .before .read-one .ensures) in
-    records s (k .args .last) (g .0 .0) (g .0 .1 .0) (c .record-number .result) (accepted-whole s (k .pre) (f .accepted)) (f .kind) (f .size) (c .record-number .ensures)
+    records s (k .args .last) (g .0 .0) (g .0 .1 .0) (c .record-number .result) (accepted-whole s (f .accepted) (omega (arith, f .size, room s _ _ _ f, k .pre))) (f .kind) (f .size) (c .record-number .ensures)
 
--- src/window.rt:41:1
 returns-2 : tie.Need-returns-2
 returns-2 c = search needs
 

@@ -1,3 +1,4 @@
+-- `listing::window::stop` meets its contract: the tests that led to a return say which refusal applies. Assumes nothing.
 use native.Mathlib.Omega.{arith}
 use mathlib.Core.Bool.{true, false}
 use mathlib.Core.Path.{refl, sym, _∙_}
@@ -5,22 +6,16 @@ use borrow.Author.Tests.{eqb-false, not-true, not-false}
 use Rattle.listing.proofs.Judging.{read-labelled, refusal-cut, refusal-same, stops, ends, waits, at-end}
 use Rattle.listing.proofs.window.stop.Statement.{statement}
 use Rattle.listing.proofs.window.stop.Tie as tie
-use Rattle.listing.proofs.window.stop.Reads as reads
-use Rattle.listing.proofs.window.stop.Lts as lts
-use Rattle.listing.proofs.window.is_over.Reads as is-over-reads
 
--- src/window.rt:66:12
 is-over-requires : tie.Need-is-over-requires
 is-over-requires c κs = read-labelled (c .before .before .args .s .now) (λ q. omega (arith, q, c .before .before .pre .1, c .if1 .taken))
 
--- src/window.rt:67:13
 returns : tie.Need-returns
 returns c =
     let k = c .before .before .before .before in
     let e = refusal-cut (k .args .s .now) (k .pre .0) (sym (k .pre .1) ∙ c .before .before .if1 .taken) true (sym (c .before .is-over .ensures) ∙ c .if2 .taken) in
     stops _ 17 e _ (eqb-false _ _ refl) (eqb-false _ _ refl) (eqb-false _ _ refl)
 
--- src/window.rt:69:9
 returns-2 : tie.Need-returns-2
 returns-2 c =
     let k = c .before .before .before .before .before in
@@ -29,7 +24,6 @@ returns-2 c =
     let l = read-labelled (k .args .s .now) (λ q. omega (arith, q, v)) in
     ends _ 6 e _ (c .if3 .taken) (eqb-false _ _ refl) (λ q. omega arith)
 
--- src/window.rt:69:9
 returns-3 : tie.Need-returns-3
 returns-3 c =
     let k = c .before .before .before .before .before in
@@ -37,7 +31,6 @@ returns-3 c =
     let e = refusal-cut (k .args .s .now) (k .pre .0) v false (sym (c .before .before .is-over .ensures) ∙ c .before .if2 .left) in
     waits _ 6 e _ (c .if3 .left) refl
 
--- src/window.rt:73:13
 returns-4 : tie.Need-returns-4
 returns-4 c =
     let k = c .before .before .before .before in
@@ -45,11 +38,9 @@ returns-4 c =
     let e = refusal-same (k .args .s .now) (k .pre .0) (λ q. omega (arith, q, v)) in
     waits _ 1 (e ∙ v) _ (not-true _ (c .if5 .taken)) refl
 
--- src/window.rt:75:9
 returns-5 : tie.Need-returns-5
 returns-5 c = at-end _ _ (not-false _ (c .before .if5 .left)) (c .if6 .taken)
 
--- src/window.rt:75:9
 returns-6 : tie.Need-returns-6
 returns-6 c =
     let k = c .before .before .before .before .before in
@@ -57,7 +48,6 @@ returns-6 c =
     let e = refusal-same (k .args .s .now) (k .pre .0) (λ q. omega (arith, q, v)) in
     ends _ 1 (e ∙ v) _ (not-false _ (c .before .if5 .left)) (eqb-false _ _ refl) (c .if6 .left)
 
--- src/window.rt:61:1
 returns-7 : tie.Need-returns-7
 returns-7 c =
     let k = c .before .before .before in
