@@ -1,0 +1,87 @@
+-- Demand 3 of every list of the ledger's calls on a fresh sheet. Assumes nothing.
+use Prim.Native.Nat.{ℕ}
+use mathlib.Core.Bool.{Bool, true, false}
+use mathlib.Core.List.{List, [], _∷_, map}
+use mathlib.Core.Path.{_≡_, refl, sym, ap, _∙_}
+use lib.Dec.{eqb}
+use lib.ListN.{length}
+use Rattle.model.specs.Book.{fresh}
+use Rattle.model.specs.Step.{Call, Answer, Entry, callOf}
+use Rattle.model.specs.WellFormed.{InRange, AllInRange}
+use Rattle.model.specs.Chain.{Chain, stop, next}
+use Rattle.model.specs.Claim.{bookAfter}
+use Rattle.model.proofs.WellFormed.{run-well-formed}
+use Rattle.sheet.specs.Sheet.{sheetSize}
+use Rattle.sheet.specs.Bytes.{Outcome, freshSheet}
+use Rattle.layout.specs.Layout.{layout, report, freshOn}
+use Rattle.layout.specs.Demand3 as Layout
+use Rattle.layout.proofs.Demand3.{answer-meets, row-answer-meets, demand3}
+use Rattle.layout.proofs.Sheets.{fresh-layout, on-layout}
+use Rattle.ledger.specs.Demand3.{MadeFresh, Promised, enrolled, found, opened, ticked, unticked, saved, dropped, Demand3}
+
+-- each contract's equation is the promise that the claim asks for
+pub meets : {c : Call} {s t : List ℕ} {a : Answer} → Promised c s a t → Layout.Meets c s a t
+meets (enrolled r f e) = row-answer-meets _ _ r _ e
+meets (found r e) = row-answer-meets _ _ r _ e
+meets (opened r e) = answer-meets _ _ r _ e
+meets (ticked r e) = answer-meets _ _ r _ e
+meets (unticked r e) = answer-meets _ _ r _ e
+meets (saved r e) = answer-meets _ _ r _ e
+meets (dropped r e) = answer-meets _ _ r _ e
+
+in-range : {c : Call} {s t : List ℕ} {a : Answer} → Promised c s a t → InRange c
+in-range (enrolled r f e) = f
+in-range (found r e) = tt
+in-range (opened r e) = tt
+in-range (ticked r e) = tt
+in-range (unticked r e) = tt
+in-range (saved r e) = tt
+in-range (dropped r e) = tt
+
+chain-meets : {s t : List ℕ} {log : List Entry} → Chain Promised s log t → Chain Layout.Meets s log t
+chain-meets stop = stop
+chain-meets (next p ps) = next (meets p) (chain-meets ps)
+
+all-in-range : {s t : List ℕ} {log : List Entry} → Chain Promised s log t → AllInRange (map callOf log)
+unfolding AllInRange
+all-in-range stop = tt
+all-in-range (next p ps) = (in-range p, all-in-range ps)
+
+-- ---- the start
+
+made-fresh : (s start : List ℕ) → MadeFresh s start → start ≡ freshSheet
+unfolding freshOn
+made-fresh s start e = by (eqb (length s) sheetSize) refl
+  where
+    by : (b : Bool) → eqb (length s) sheetSize ≡ b → start ≡ freshSheet
+    by true t = let d : _≡_ {A = Outcome} (0 ∷ [], start) (0 ∷ [], layout fresh) = rw t at e in ap (λ r. r .1) d ∙ sym fresh-layout
+    by false t = let d : _≡_ {A = Outcome} (0 ∷ [], start) (20 ∷ [], s) = rw t at e in
+        let f : _≡_ {A = List ℕ} (0 ∷ []) (20 ∷ []) = ap (λ r. r .0) d in
+        cc
+
+-- ---- the theorem
+
+pub demand-3 : (s : List ℕ) {start last : List ℕ} {log : List Entry} → MadeFresh s start → Chain Promised start log last → Demand3 start log last
+demand-3 s {start} {last} {log} made chain =
+    let ready = made-fresh s start made in
+    let range = all-in-range chain in
+    let promised = chain-meets chain in
+    let whole = demand3 (rw ready at promised) range in
+    let model = whole .claim in
+    record {
+      claim = record {
+        model-answers = model .model-answers;
+        model-store = model .model-store;
+        serial-entries = model .serial-entries;
+        serial-order = model .serial-order;
+        serial-run = model .serial-run;
+        serial-store = λ again end other e. model .serial-store again end (chain-meets other) e;
+        stale-exactly = model .stale-exactly;
+        stale-cause = model .stale-cause;
+      };
+      serial-rows = λ again end other e.
+          let repeated = chain-meets other in
+          whole .serial-rows again end (rw (ready, fresh-layout) at repeated) e;
+      reports = λ words.
+          rw (model .model-store) (on-layout (report words) (bookAfter log) (run-well-formed (map callOf log) range));
+    }

@@ -1,0 +1,89 @@
+-- What a verdict tells. Refused: the call answers the refusal and leaves the sheet as it was. Not refused: no row's condition
+-- holds, so what the functions on a right sheet ask is so. Assumes nothing.
+use Prim.Native.Nat.{ℕ, _<_}
+use native.Mathlib.Omega.{arith}
+use mathlib.Core.List.{List, [], _∷_}
+use mathlib.Core.Path.{_≡_, sym, ap, _∙_}
+use lib.ListN.{length}
+use borrow.Author.Tests.{not-false, ne-eqb, eqb-false, ltb-true}
+use Rattle.refusals.specs.declared.Refusal.{Refusal}
+use Rattle.refusals.specs.Table.{numberOf}
+use Rattle.refusals.specs.Judge.{Row, verdict}
+use Rattle.refusals.proofs.Laws.{number-positive}
+use Rattle.refusals.proofs.Judged.{NoneHolds, Numbered, verdict-none}
+use Rattle.sheet.specs.Sheet.{sheetSize, rowCount, deskCount, used, deskRow, right, Sized}
+use Rattle.sheet.specs.Bytes.{Outcome, judged, rowWith}
+use Rattle.sheet.specs.Words.{answerWords}
+use Rattle.sheet.specs.declared.Answer.{Answer}
+use Rattle.sheet.specs.declared.Answer.the-variants as A
+use Rattle.sheet.proofs.Clauses.{sized, open-row}
+use Rattle.ledger.specs.Verdicts.{enrolRows, findRows, openRows, deskRows, reportRows, verdictWords}
+
+-- the number that a verdict gives, or 0
+module _ (rows : List Row) {v : Answer} (e : answerWords v ≡ verdictWords rows) where
+  number-is : (q : Refusal) → v ≡ A.Refused q → numberOf q ≡ verdict rows
+  unfolding verdictWords
+  number-is q g = let w : numberOf q ∷ [] ≡ verdict rows ∷ [] = sym (ap answerWords g) ∙ e in cc
+
+  none-is : v ≡ A.Done → verdict rows ≡ 0
+  unfolding verdictWords
+  none-is g = let w : 0 ∷ [] ≡ verdict rows ∷ [] = sym (ap answerWords g) ∙ e in cc
+
+  none-holds : Numbered rows → v ≡ A.Done → NoneHolds rows
+  none-holds n g = verdict-none rows n (none-is g)
+
+-- ---- the call that these rows judge
+
+-- What is judged by the rows on the sheet s, and does o where none applies, is t.
+pub record Law (rows : List Row) (o : Outcome) (s : List ℕ) (t : Outcome) : Type 0 where
+  pub same : judged rows o s ≡ t
+
+module _ {rows : List Row} {o t : Outcome} {s : List ℕ} (law : Law rows o s t) {v : Answer} (e : answerWords v ≡ verdictWords rows) where
+  pub refused-is : (q : Refusal) → v ≡ A.Refused q → (numberOf q ∷ [], s) ≡ t
+  unfolding judged
+  refused-is q g =
+      let first : (numberOf q ∷ [], s) ≡ judged rows o s = rw (← number-is rows e q g, ne-eqb (numberOf q) 0 (number-positive q)) in
+      first ∙ law .same
+
+  pub accepted-is : v ≡ A.Done → o ≡ t
+  unfolding judged
+  accepted-is g =
+      let first : o ≡ judged rows o s = rw (none-is rows e g) in
+      first ∙ law .same
+
+-- ---- what an accepted call has of its sheet
+
+module _ (s : List ℕ) {v : Answer} where
+  pub enrol-fine : (key : ℕ) → answerWords v ≡ verdictWords (enrolRows key s) → v ≡ A.Done → (length s ≡ sheetSize) × (used s < rowCount)
+  enrol-fine key e g =
+      let h = none-holds (enrolRows key s) e (omega arith, (omega arith, (omega arith, (omega arith, tt)))) g in
+      let z = sized s (not-false (right s) (h .0)) in
+      (z .long, omega (arith, z .few, eqb-false (used s) rowCount (h .1 .1 .1 .0)))
+
+  pub find-fine : (key : ℕ) → answerWords v ≡ verdictWords (findRows key s) → v ≡ A.Done → Sized s × (rowWith s key < rowCount)
+  find-fine key e g =
+      let h = none-holds (findRows key s) e (omega arith, (omega arith, (omega arith, tt))) g in
+      let z = sized s (not-false (right s) (h .0)) in
+      (z, omega (arith, z .few, ltb-true (rowWith s key) (used s) (not-false _ (h .1 .1 .0))))
+
+  pub open-fine : (desk row : ℕ) → answerWords v ≡ verdictWords (openRows desk row s) → v ≡ A.Done
+      → (length s ≡ sheetSize) × (desk < deskCount) × (row < rowCount)
+  open-fine desk row e g =
+      let h = none-holds (openRows desk row s) e (omega arith, (omega arith, (omega arith, (omega arith, tt)))) g in
+      let z = sized s (not-false (right s) (h .0)) in
+      (z .long, ltb-true _ _ (not-false _ (h .1 .0)), omega (arith, z .few, ltb-true row (used s) (not-false _ (h .1 .1 .0))))
+
+  pub desk-fine : (desk : ℕ) → answerWords v ≡ verdictWords (deskRows desk s) → v ≡ A.Done
+      → (length s ≡ sheetSize) × (desk < deskCount) × (deskRow s desk < rowCount)
+  desk-fine desk e g =
+      let h = none-holds (deskRows desk s) e (omega arith, (omega arith, (omega arith, tt))) g in
+      let r = not-false (right s) (h .0) in
+      let z = sized s r in
+      let d = ltb-true _ _ (not-false _ (h .1 .0)) in
+      (z .long, d, omega (arith, z .few, open-row s desk r d (h .1 .1 .0)))
+
+  pub report-fine : (row : ℕ) → answerWords v ≡ verdictWords (reportRows row s) → v ≡ A.Done → (length s ≡ sheetSize) × (row < rowCount)
+  report-fine row e g =
+      let h = none-holds (reportRows row s) e (omega arith, (omega arith, tt)) g in
+      let z = sized s (not-false (right s) (h .0)) in
+      (z .long, omega (arith, z .few, ltb-true row (used s) (not-false _ (h .1 .0))))

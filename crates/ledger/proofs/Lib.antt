@@ -1,0 +1,5 @@
+pub mod Judged
+pub mod Calls
+pub mod ReadBack
+pub mod Demand3
+pub mod Contracts

@@ -1,0 +1,45 @@
+-- "a row starts from a blank map of 128 zero bytes": the row that `enrol` answers reads back, by its contract, as the value with the
+-- key, the first number and no ticks. Assumes nothing.
+use Prim.Native.Nat.{ℕ, _<_, _^_}
+use mathlib.Core.Bool.{Bool, true, false}
+use mathlib.Core.List.{List, [], _∷_}
+use mathlib.Core.Path.{_≡_, refl, sym, ap, _∙_}
+use lib.Dec.{eqb}
+use borrow.Author.Tests.{eqb-true}
+use Rattle.refusals.specs.Judge.{Row, verdict}
+use Rattle.model.specs.Step.{Enrol}
+use Rattle.octets.proofs.Laws.{Bytes}
+use Rattle.sheet.specs.Sheet.{keySize, firstSize, rowAt, used}
+use Rattle.sheet.specs.Rows.{rowValueAt, blankRow}
+use Rattle.sheet.specs.Bytes.{Outcome, judged, enrolAt}
+use Rattle.sheet.specs.Words.{rowWords}
+use Rattle.sheet.specs.declared.Answer.the-variants as A
+use Rattle.sheet.specs.declared.RowAnswer.the-variants as R
+use Rattle.sheet.proofs.ReadBack.{enrolled-blank}
+use Rattle.layout.specs.Layout.{call, onSheet}
+use Rattle.ledger.specs.Verdicts.{enrolRows, verdictWords}
+use Rattle.ledger.proofs.Judged.{enrol-fine}
+use Rattle.ledger.proofs.Calls.{by-rows}
+
+pub enrol-reads-back : (s t : List ℕ) (key first row : ℕ) → Bytes s → key < 256 ^ keySize → first < 256 ^ firstSize
+    → (rowWords (R.Row row), t) ≡ onSheet (call (Enrol key first)) s → rowValueAt t (rowAt row) ≡ blankRow key first
+unfolding judged verdictWords
+enrol-reads-back s t key first row bytes k f e = by (eqb (verdict rows) 0) refl
+  where
+    rows : List Row
+    rows = enrolRows key s
+
+    done : _≡_ {A = Outcome} (0 ∷ row ∷ [], t) (judged rows (0 ∷ used s ∷ [], enrolAt (used s) key first s) s)
+    done = e ∙ sym (by-rows (Enrol key first) s bytes .same)
+
+    by : (b : Bool) → eqb (verdict rows) 0 ≡ b → rowValueAt t (rowAt row) ≡ blankRow key first
+    by true z =
+        let both : _≡_ {A = Outcome} (0 ∷ row ∷ [], t) (0 ∷ used s ∷ [], enrolAt (used s) key first s) = rw z at done in
+        let words : _≡_ {A = List ℕ} (0 ∷ row ∷ []) (0 ∷ used s ∷ []) = ap (λ o. o .0) both in
+        let same : row ≡ used s = cc in
+        let fine = enrol-fine s {v = A.Done} key (ap (λ n. n ∷ []) (sym (eqb-true (verdict rows) 0 z))) refl in
+        rw (same, ap (λ o. o .1) both) (enrolled-blank s (used s) key first (fine .0) (fine .1) k f)
+    by false z =
+        let both : _≡_ {A = Outcome} (0 ∷ row ∷ [], t) (verdict rows ∷ [], s) = rw z at done in
+        let words : _≡_ {A = List ℕ} (0 ∷ row ∷ []) (verdict rows ∷ []) = ap (λ o. o .0) both in
+        cc

@@ -1,0 +1,29 @@
+-- `first_gap` meets its contract. Assumes nothing.
+use mathlib.Core.Path.{ap, _∙_}
+use Rattle.octets.proofs.Laws.{failed, passed}
+use Rattle.sheet.proofs.Clauses.{sized}
+use Rattle.ledger.proofs.Calls.{gap-not-right, gap-right}
+use borrow.Author.Needs.{needs}
+use Rattle.ledger.proofs.first_gap.Statement.{statement}
+use Rattle.ledger.proofs.first_gap.Tie as tie
+
+is-sheet-requires : tie.Need-is-sheet-requires
+is-sheet-requires c κs = search needs
+
+returns : tie.Need-returns
+returns c =
+    let judged = c .before in
+    gap-not-right (judged .before .before .args .s .now) (judged .before .shared-slice-known .given) (failed (judged .is-sheet .ensures) (c .if1 .taken))
+
+first-gap-requires : tie.Need-first-gap-requires
+first-gap-requires c κs = sized _ (passed (c .before .is-sheet .ensures) (c .if1 .left))
+
+returns-2 : tie.Need-returns-2
+returns-2 c =
+    let judged = c .before .before in
+    let s = judged .before .before .args .s .now in
+    ap (λ w. (w, s)) (c .first-gap .ensures)
+    ∙ gap-right s (judged .before .shared-slice-known .given) (passed (judged .is-sheet .ensures) (c .before .if1 .left))
+
+pub first-gap-spec : {M : Type 1} → statement M
+first-gap-spec = tie.close (tie.spec is-sheet-requires returns first-gap-requires returns-2)

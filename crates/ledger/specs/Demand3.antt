@@ -1,0 +1,48 @@
+-- Demand 3 of the ledger's calls, in full: one claim about any list of calls, made one after the other on the sheet that `fresh` made,
+-- the next one handed the sheet as the one before left it. It speaks of what the calls' contracts promise, and of nothing else.
+-- Assumes nothing.
+use Prim.Native.Nat.{ℕ, _<_, _^_}
+use mathlib.Core.Path.{_≡_}
+use mathlib.Core.List.{List, map}
+use Rattle.model.specs.Book as Model
+use Rattle.model.specs.Step.{Call, Enrol, Find, Open, Tick, Untick, Save, Drop, Answer, Entry, callOf}
+use Rattle.model.specs.History.{serial}
+use Rattle.model.specs.Chain.{Chain}
+use Rattle.model.specs.Claim.{bookAfter, Claim}
+use Rattle.sheet.specs.Words.{answerWords, rowWords}
+use Rattle.sheet.specs.declared.Answer as Sheet
+use Rattle.sheet.specs.declared.Answer.the-variants as A
+use Rattle.sheet.specs.declared.RowAnswer.{RowAnswer}
+use Rattle.layout.specs.Layout.{layout, call, report, onSheet, freshOn}
+use Rattle.layout.specs.Demand3.{answerOf, rowAnswerOf, headerAndRows}
+
+-- What `fresh` promises where it answers done: called on the slice s it left the sheet `start`.
+abbrev pub MadeFresh : (s start : List ℕ) → Type 0
+MadeFresh s start = (answerWords A.Done, start) ≡ freshOn s
+
+-- What each call's contract promises: called on the sheet s it answered r, and left t. One line a call, with the equation of its
+-- `ensures`. A first number is below 2^32, as its parameter is.
+pub data Promised : Call → List ℕ → Answer → List ℕ → Type 0 where
+  enrolled : {s t : List ℕ} {key first : ℕ} (r : RowAnswer) → first < 2 ^ 32 → (rowWords r, t) ≡ onSheet (call (Enrol key first)) s
+      → Promised (Enrol key first) s (rowAnswerOf r) t
+  found : {s : List ℕ} {key : ℕ} (r : RowAnswer) → (rowWords r, s) ≡ onSheet (call (Find key)) s → Promised (Find key) s (rowAnswerOf r) s
+  opened : {s t : List ℕ} {desk row : ℕ} (r : Sheet.Answer) → (answerWords r, t) ≡ onSheet (call (Open desk row)) s
+      → Promised (Open desk row) s (answerOf r) t
+  ticked : {s t : List ℕ} {desk number : ℕ} (r : Sheet.Answer) → (answerWords r, t) ≡ onSheet (call (Tick desk number)) s
+      → Promised (Tick desk number) s (answerOf r) t
+  unticked : {s t : List ℕ} {desk number : ℕ} (r : Sheet.Answer) → (answerWords r, t) ≡ onSheet (call (Untick desk number)) s
+      → Promised (Untick desk number) s (answerOf r) t
+  saved : {s t : List ℕ} {desk : ℕ} (r : Sheet.Answer) → (answerWords r, t) ≡ onSheet (call (Save desk)) s → Promised (Save desk) s (answerOf r) t
+  dropped : {s t : List ℕ} {desk : ℕ} (r : Sheet.Answer) → (answerWords r, t) ≡ onSheet (call (Drop desk)) s → Promised (Drop desk) s (answerOf r) t
+
+-- `log` is the calls with what they answered, from the sheet `start` that `fresh` made to the sheet `last`.
+pub record Demand3 (start : List ℕ) (log : List Entry) (last : List ℕ) : Type 0 where
+  -- All answers are the model's, and the sheet at the end is the model's book laid out, byte for byte. The serial history is made of
+  -- entries of the log; its calls, made on a fresh sheet, get the answers that they had in the log. A save by a desk with a row
+  -- open is 31 exactly when the row's set is not the opened one, and then another desk's accepted save of that row stands between.
+  pub claim : Claim Promised layout log last
+  -- The rows, and their count, are those of the serial history made on a fresh sheet, byte for byte.
+  pub serial-rows : (again : List Entry) (end : List ℕ) → Chain Promised start again end → map callOf again ≡ map callOf (serial log)
+      → headerAndRows end ≡ headerAndRows last
+  -- The row report and the first gap on the sheet at the end are the model's on its book.
+  pub reports : (words : Model.Book → List ℕ) → onSheet (report words) last ≡ (words (bookAfter log), last)

@@ -1,0 +1,3 @@
+-- What the contracts of `ledger` cite, and what demand 3 says of its calls.
+pub mod Verdicts
+pub mod Demand3

@@ -1,0 +1,144 @@
+// The receipt ledger: the public calls on a lent sheet (document 01, "The ledger sheet"). Each contract has one shape: the words
+// of the answer, and the sheet as it is left, are the model's call on the book that the sheet holds, laid out again. What is
+// not a right sheet is refused with 20 and left as it was.
+mod verdicts;
+
+use refusals::Refusal;
+use sheet::Answer;
+use sheet::GapAnswer;
+use sheet::ReportAnswer;
+use sheet::RowAnswer;
+use sheet::SHEET;
+use sheet::desks::clear_desk;
+use sheet::desks::make_fresh;
+use sheet::desks::open_desk;
+use sheet::desks::save_desk;
+use sheet::right::is_sheet;
+use sheet::rows::enrol_row;
+use sheet::rows::find_row;
+use sheet::ticks::mark_desk;
+use verdicts::desk_verdict;
+use verdicts::enrol_verdict;
+use verdicts::find_verdict;
+use verdicts::open_verdict;
+use verdicts::report_verdict;
+ghost use mathlib.Core.Path.{_≡_};
+ghost use mathlib.Core.Bool.{true, false};
+ghost use Rattle.model.specs.Step.{Enrol, Find, Open, Mark, Tick, Untick, Save, Drop};
+ghost use Rattle.model.specs.Counts.{rowReport, firstGap};
+ghost use Rattle.sheet.specs.Words.{answerWords, rowWords, reportAnswerWords, gapWords};
+ghost use Rattle.layout.specs.Layout.{call, report, onSheet, freshOn};
+
+// Makes the slice a fresh sheet. Only its length is judged.
+pub fn fresh(s: &mut [u8]) -> Answer
+    ensures { λ r. ⌜ (answerWords r, now (s .exit)) ≡ freshOn (now (s .entry)) ⌝ }
+{
+    if s.len() != SHEET {
+        return Answer::Refused(Refusal::NotSheet);
+    }
+    make_fresh(s);
+    Answer::Done
+}
+
+// Enrols a stream in the next row, with no ticks; answers the row.
+pub fn enrol(s: &mut [u8], key: u64, first: u32) -> RowAnswer
+    ensures { λ r. ⌜ (rowWords r, now (s .exit)) ≡ onSheet (call (Enrol key first)) (now (s .entry)) ⌝ }
+{
+    let verdict = enrol_verdict(s, key);
+    if let Answer::Refused(why) = verdict {
+        return RowAnswer::Refused(why);
+    }
+    RowAnswer::Row(enrol_row(s, key, first))
+}
+
+// Finds a stream; answers its row.
+pub fn find(s: &[u8], key: u64) -> RowAnswer
+    ensures { λ r. ⌜ (rowWords r, now (s .entry)) ≡ onSheet (call (Find key)) (now (s .entry)) ⌝ }
+{
+    let verdict = find_verdict(s, key);
+    if let Answer::Refused(why) = verdict {
+        return RowAnswer::Refused(why);
+    }
+    RowAnswer::Row(find_row(s, key) as u32)
+}
+
+// Opens a row at a desk (the paper's "open").
+pub fn open(s: &mut [u8], desk: u32, row: u32) -> Answer
+    ensures { λ r. ⌜ (answerWords r, now (s .exit)) ≡ onSheet (call (Open desk row)) (now (s .entry)) ⌝ }
+{
+    let verdict = open_verdict(s, desk, row);
+    if let Answer::Refused(why) = verdict {
+        return Answer::Refused(why);
+    }
+    open_desk(s, desk as usize, row as usize);
+    Answer::Done
+}
+
+// Ticks a number in the desk's worked copy.
+pub fn tick(s: &mut [u8], desk: u32, number: u32) -> Answer
+    ensures { λ r. ⌜ (answerWords r, now (s .exit)) ≡ onSheet (call (Tick desk number)) (now (s .entry)) ⌝ }
+{
+    mark(s, desk, number, true)
+}
+
+// Unticks a number in the desk's worked copy.
+pub fn untick(s: &mut [u8], desk: u32, number: u32) -> Answer
+    ensures { λ r. ⌜ (answerWords r, now (s .exit)) ≡ onSheet (call (Untick desk number)) (now (s .entry)) ⌝ }
+{
+    mark(s, desk, number, false)
+}
+
+// Ticks a number, where `on`, or unticks it.
+fn mark(s: &mut [u8], desk: u32, number: u32, on: bool) -> Answer
+    ensures { λ r. ⌜ (answerWords r, now (s .exit)) ≡ onSheet (call (Mark on desk number)) (now (s .entry)) ⌝ }
+{
+    let verdict = desk_verdict(s, desk);
+    if let Answer::Refused(why) = verdict {
+        return Answer::Refused(why);
+    }
+    mark_desk(s, desk as usize, number, on)
+}
+
+// Drops what the desk has open.
+pub fn drop(s: &mut [u8], desk: u32) -> Answer
+    ensures { λ r. ⌜ (answerWords r, now (s .exit)) ≡ onSheet (call (Drop desk)) (now (s .entry)) ⌝ }
+{
+    let verdict = desk_verdict(s, desk);
+    if let Answer::Refused(why) = verdict {
+        return Answer::Refused(why);
+    }
+    clear_desk(s, desk as usize);
+    Answer::Done
+}
+
+// Saves what the desk has worked on, where its row is still as it was opened.
+pub fn save(s: &mut [u8], desk: u32) -> Answer
+    ensures { λ r. ⌜ (answerWords r, now (s .exit)) ≡ onSheet (call (Save desk)) (now (s .entry)) ⌝ }
+{
+    let verdict = desk_verdict(s, desk);
+    if let Answer::Refused(why) = verdict {
+        return Answer::Refused(why);
+    }
+    save_desk(s, desk as usize)
+}
+
+// Reports on a row: how many numbers are ticked, how many are missing, and the lowest missing one.
+pub fn row_report(s: &[u8], row: u32) -> ReportAnswer
+    ensures { λ r. ⌜ (reportAnswerWords r, now (s .entry)) ≡ onSheet (report (λ b. rowReport b row)) (now (s .entry)) ⌝ }
+{
+    let verdict = report_verdict(s, row);
+    if let Answer::Refused(why) = verdict {
+        return ReportAnswer::Refused(why);
+    }
+    sheet::counts::row_report(s, row as usize)
+}
+
+// Finds the first missing number and its row.
+pub fn first_gap(s: &[u8]) -> GapAnswer
+    ensures { λ r. ⌜ (gapWords r, now (s .entry)) ≡ onSheet (report firstGap) (now (s .entry)) ⌝ }
+{
+    if !is_sheet(s) {
+        return GapAnswer::Refused(Refusal::NotSheet);
+    }
+    sheet::counts::first_gap(s)
+}

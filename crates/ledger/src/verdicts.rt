@@ -1,0 +1,91 @@
+// Whether a call is refused, judged in the order of the refusal table. Nothing is changed.
+use refusals::Refusal;
+use sheet::Answer;
+use sheet::DESKS;
+use sheet::ROWS;
+use sheet::desks::is_closed;
+use sheet::right::is_sheet;
+use sheet::right::rows_used;
+use sheet::rows::has_key;
+ghost use mathlib.Core.Path.{_≡_};
+ghost use Rattle.sheet.specs.Words.{answerWords};
+ghost use Rattle.ledger.specs.Verdicts.{enrolRows, findRows, openRows, deskRows, reportRows, verdictWords};
+
+pub fn enrol_verdict(s: &[u8], key: u64) -> Answer
+    ensures { λ r. ⌜ answerWords r ≡ verdictWords (enrolRows key (now (s .entry))) ⌝ }
+{
+    if !is_sheet(s) {
+        return Answer::Refused(Refusal::NotSheet);
+    }
+    if !keys::valid(key) {
+        return Answer::Refused(Refusal::BadKey);
+    }
+    if has_key(s, key) {
+        return Answer::Refused(Refusal::AlreadyEnrolled);
+    }
+    if rows_used(s) == ROWS {
+        return Answer::Refused(Refusal::LedgerFull);
+    }
+    Answer::Done
+}
+
+pub fn find_verdict(s: &[u8], key: u64) -> Answer
+    ensures { λ r. ⌜ answerWords r ≡ verdictWords (findRows key (now (s .entry))) ⌝ }
+{
+    if !is_sheet(s) {
+        return Answer::Refused(Refusal::NotSheet);
+    }
+    if !keys::valid(key) {
+        return Answer::Refused(Refusal::BadKey);
+    }
+    if !has_key(s, key) {
+        return Answer::Refused(Refusal::NoRow);
+    }
+    Answer::Done
+}
+
+pub fn open_verdict(s: &[u8], desk: u32, row: u32) -> Answer
+    ensures { λ r. ⌜ answerWords r ≡ verdictWords (openRows desk row (now (s .entry))) ⌝ }
+{
+    if !is_sheet(s) {
+        return Answer::Refused(Refusal::NotSheet);
+    }
+    if desk as usize >= DESKS {
+        return Answer::Refused(Refusal::NoDesk);
+    }
+    if row as usize >= rows_used(s) {
+        return Answer::Refused(Refusal::NoRow);
+    }
+    if !is_closed(s, desk as usize) {
+        return Answer::Refused(Refusal::DeskOpen);
+    }
+    Answer::Done
+}
+
+// Of a call by a desk that must have a row open.
+pub fn desk_verdict(s: &[u8], desk: u32) -> Answer
+    ensures { λ r. ⌜ answerWords r ≡ verdictWords (deskRows desk (now (s .entry))) ⌝ }
+{
+    if !is_sheet(s) {
+        return Answer::Refused(Refusal::NotSheet);
+    }
+    if desk as usize >= DESKS {
+        return Answer::Refused(Refusal::NoDesk);
+    }
+    if is_closed(s, desk as usize) {
+        return Answer::Refused(Refusal::DeskClosed);
+    }
+    Answer::Done
+}
+
+pub fn report_verdict(s: &[u8], row: u32) -> Answer
+    ensures { λ r. ⌜ answerWords r ≡ verdictWords (reportRows row (now (s .entry))) ⌝ }
+{
+    if !is_sheet(s) {
+        return Answer::Refused(Refusal::NotSheet);
+    }
+    if row as usize >= rows_used(s) {
+        return Answer::Refused(Refusal::NoRow);
+    }
+    Answer::Done
+}
