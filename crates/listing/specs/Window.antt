@@ -67,8 +67,8 @@ pub record Drains (w : List ℕ) (place : ℕ) (last : Bool) (old new : List ℕ
 
 -- ---- a piece of the stream listed
 
--- The most bytes of text for one window: a third of it, since a record has 120 bytes at least and its line 40 at most; and a last
--- line of 24.
+-- The most bytes of text for one window: a third of it, since a record has 120 bytes at least and its line 40 at most; and the
+-- last line.
 abbrev pub mostText : ℕ
 mostText = 21870
 
