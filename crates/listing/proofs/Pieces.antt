@@ -39,14 +39,17 @@ module _ (w out new : List ℕ) (s : State) (got : ℕ) (d : Drained) (ready : R
   listed w′ e =
       let left = s .have + got - d .used in
       let sum : d .used + left ≡ s .have + got = omega (arith, used-held) in
+      let back : d .used ≡ s .have + got - left = omega (arith, used-held) in
       let m : take left w′ ≡ drop (d .used) (take (s .have + got) w) =
       ap (take left) e ∙ moved w (d .used) left (s .have + got) sum (ready .held) in
       record {
         t = drained .t;
         puts = drained .puts;
         says = λ more on. drained .lines .says more on ∙ rw m;
+        rest = e ∙ ap (λ (n : ℕ). put w 0 (part w n left)) back;
         count = omega (arith, used-held);
         within = drained .within;
+        wants = λ f. rw m (drained .lines .wants f .1);
         room = λ f.
             let wants = drained .lines .wants f in
             let short = cut-room _ (wants .1) in

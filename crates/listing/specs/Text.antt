@@ -40,6 +40,14 @@ heading = 112 ∷ 108 ∷ 97 ∷ 99 ∷ 101 ∷ space ∷ 108 ∷ 101 ∷ 110 �
 unfoldable pub line : (place size : ℕ) → Kind → (number : ℕ) → List ℕ
 line place size kind number = word place space ++ word size space ++ (letter kind ∷ space ∷ []) ++ word number lineEnd
 
+-- Its most bytes: the place has 20 digits at most, the length 5, and the record number 10.
+abbrev pub mostLine : ℕ
+mostLine = 40
+
 -- 120 0
 unfoldable pub lastLine : (place number : ℕ) → List ℕ
 lastLine place number = word place space ++ word number lineEnd
+
+-- Its most bytes: the stop place has 20 digits at most, and the stop number 2.
+abbrev pub mostLast : ℕ
+mostLast = 24

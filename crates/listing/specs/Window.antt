@@ -1,12 +1,12 @@
 -- What the program's buffer, a window onto the stream, gives: what the whole stream would give, however it goes on. Assumes
 -- nothing.
-use Prim.Native.Nat.{ℕ, _+_, _≤_, _<_, _^_}
+use Prim.Native.Nat.{ℕ, _+_, _-_, _≤_, _<_, _^_}
 use mathlib.Core.Bool.{Bool, true, false, not, cond, _&&_, _||_}
 use mathlib.Core.List.{List, [], _∷_, _++_}
 use mathlib.Core.Path.{_≡_}
 use lib.ListN.{length, take, drop}
 use lib.Dec.{eqb}
-use Rattle.octets.specs.Octets.{put}
+use Rattle.octets.specs.Octets.{part, put}
 use Rattle.sfdu.specs.Nesting.{kindNumber}
 use Rattle.sfdu.specs.Read.{kindOf, recordLength}
 use Rattle.headers.specs.Fields.{recordNumber}
@@ -67,8 +67,8 @@ pub record Drains (w : List ℕ) (place : ℕ) (last : Bool) (old new : List ℕ
 
 -- ---- a piece of the stream listed
 
--- The most bytes of text for one window: a third of it, since a record has 120 bytes at least and its line 40 at most; and a last
--- line of 24.
+-- The most bytes of text for one window: a third of it, since a record has 120 bytes at least and its line 40 at most; and the
+-- last line.
 abbrev pub mostText : ℕ
 mostText = 21870
 
@@ -86,8 +86,10 @@ pub record Lists (w out : List ℕ) (s : State) (got : ℕ) (w′ out′ : List 
   pub puts : Puts out out′ (s .text) (r .text) t
   pub says : (more : List ℕ) → GoesOn (eqb got 0) more
       → linesFrom (s .place) (take (s .have + got) w ++ more) ≡ t ++ unless (r .done) (linesFrom (r .place) (take (r .have) w′ ++ more))
-  -- no byte is lost
+  -- what is left is moved to the window's start, and no byte is lost
+  pub rest : w′ ≡ put w 0 (part w (s .have + got - r .have) (r .have))
   pub count : r .place + r .have ≡ s .place + s .have + got
   pub within : r .text ≤ length out′
-  -- where it goes on, the stream has not ended, and the window has room
+  -- where it goes on, nothing is left that could be listed, the stream has not ended, and the window has room
+  pub wants : r .done ≡ false → cutShort (take (r .have) w′) ≡ true
   pub room : r .done ≡ false → (0 < got) × (r .have < bufferSize)

@@ -4,7 +4,7 @@ ghost use Prim.Native.Nat.{_+_, _≤_, _<_};
 ghost use lib.ListN.{length};
 ghost use mathlib.Core.List.{[], _∷_};
 ghost use Rattle.listing.specs.Listing.{bufferSize};
-ghost use Rattle.listing.specs.Text.{space, letter, word, heading, line, lastLine};
+ghost use Rattle.listing.specs.Text.{space, letter, word, heading, line, lastLine, mostLine, mostLast};
 ghost use Rattle.listing.specs.Window.{Puts};
 ghost use Rattle.listing.specs.Run.{begun};
 use crate::State;
@@ -66,7 +66,7 @@ fn letter_of(kind: Kind) -> u8
     }
 }
 
-// The line of a record: at most 40 bytes, of which 20 are its place's, 5 its length's and 10 its number's.
+// The line of a record that the window holds.
 pub fn put_line(
     out: &mut [u8],
     at: usize,
@@ -75,9 +75,9 @@ pub fn put_line(
     kind: Kind,
     number: u32,
 ) -> usize
-    requires { ⌜ (at + 40 ≤ length (now out)) × (size ≤ bufferSize) ⌝ }
+    requires { ⌜ (at + mostLine ≤ length (now out)) × (size ≤ bufferSize) ⌝ }
     ensures { λ r. ⌜ Puts (now (out .entry)) (now (out .exit)) at r (line place size kind number) ⌝ }
-    ensures { λ r. ⌜ r ≤ at + 40 ⌝ }
+    ensures { λ r. ⌜ r ≤ at + mostLine ⌝ }
 {
     let a = put_word(out, at, place, SPACE);
     let b = put_word(out, a, size as u64, SPACE);
@@ -87,9 +87,9 @@ pub fn put_line(
 
 // The last line: the stop place and the stop number.
 pub fn put_last(out: &mut [u8], at: usize, place: u64, number: u32) -> usize
-    requires { ⌜ (at + 24 ≤ length (now out)) × (number < 100) ⌝ }
+    requires { ⌜ (at + mostLast ≤ length (now out)) × (number < 100) ⌝ }
     ensures { λ r. ⌜ Puts (now (out .entry)) (now (out .exit)) at r (lastLine place number) ⌝ }
-    ensures { λ r. ⌜ r ≤ at + 24 ⌝ }
+    ensures { λ r. ⌜ r ≤ at + mostLast ⌝ }
 {
     let a = put_word(out, at, place, SPACE);
     put_word(out, a, number as u64, LINE_END)
