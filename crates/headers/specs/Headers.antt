@@ -75,7 +75,7 @@ sourceWords f =
 
 abbrev pub signalWords : RsrSignal → List Word
 signalWords f =
-    number (f .uplink) ∷ number (f .downlink) ∷ number (f .mode) ∷ number (f .uplink_station) ∷ signed (f .expected) ∷ number (f .bandwidth)
+    number (f .uplink) ∷ number (f .downlink) ∷ number (f .mode) ∷ number (f .«uplink_station») ∷ signed (f .expected) ∷ number (f .bandwidth)
     ∷ number (f .overridden)
     ∷ number (f .attenuation)
     ∷ number (f .rms)

@@ -41,7 +41,7 @@ inRange Bands b = isRsrBand b
 
 -- The judged bytes of an RSR record, from the lowest: the primary's major class, minor class and format; then uplink and
 -- downlink band, mode, bandwidth, attenuation, RMS and peak.
-abbrev pub judgedBytes : List Judged
+unfoldable pub judgedBytes : List Judged
 judgedBytes =
     record { at = primaryValueAt; allowed = Between 21 21 }
     ∷ record { at = primaryValueAt + 1; allowed = Between 4 4 }
@@ -57,10 +57,13 @@ judgedBytes =
 
 -- What stands past the table's end.
 abbrev pub noField : Judged
-noField = record { at = 0; allowed = Bands }
+noField = record { at = 0; allowed = Between 0 0 }
 
 abbrev pub byteRow : List ℕ → Judged → Row
 byteRow s f = (f .at) when not (inRange (f .allowed) (getD s (f .at) 0))
+
+abbrev pub byteRows : List ℕ → List Row
+byteRows s = map (byteRow s) judgedBytes
 
 abbrev pub dateRows : List ℕ → List Row
 dateRows s = ((secondaryAt + 28) when not (isYear (year s))) ∷ ((secondaryAt + 30) when not (isDay (year s) (day s))) ∷ []
@@ -68,7 +71,7 @@ dateRows s = ((secondaryAt + 28) when not (isYear (year s))) ∷ ((secondaryAt +
 -- Each judged field, from the lowest: its offset, given when it is out of range.
 abbrev pub fieldRows : Kind → List ℕ → List Row
 fieldRows Telemetry s = ((secondaryAt + uplinkAt) when (hasBand s && not (isBand (uplink s)))) ∷ []
-fieldRows Rsr s = map (byteRow s) judgedBytes ++ dateRows s
+fieldRows Rsr s = byteRows s ++ dateRows s
 
 -- The offset of the lowest field out of range, or 0 where none is.
 unfoldable pub fault : Kind → List ℕ → ℕ

@@ -1,5 +1,4 @@
 // The fields of an RSR record.
-ghost use mathlib.Core.List.{map};
 ghost use mathlib.Core.Path.{_≡_};
 ghost use Prim.Native.Nat.{_≤_, _<_};
 ghost use lib.ListN.{length, getD};
@@ -10,7 +9,7 @@ ghost use Rattle.sfdu.specs.Read.{primaryWords, primaryOf, recordLength};
 ghost use Rattle.headers.specs.Date.{isYear, isDay};
 ghost use Rattle.headers.specs.Fields.{recordNumber, signedByte};
 ghost use Rattle.headers.specs.Headers.{wordsOf, acceptedFields, judgedFields, sourceWords, sourceOf, signalWords, signalOf, timeWords, timeOf};
-ghost use Rattle.headers.specs.Ranges.{fault, inRange, isRsrBand, judgedBytes, noField, byteRow, dateRows};
+ghost use Rattle.headers.specs.Ranges.{fault, inRange, isRsrBand, judgedBytes, noField, byteRows, dateRows};
 use crate::Allowed;
 use crate::Headers;
 use crate::Judged;
@@ -167,11 +166,13 @@ fn field_fault(s: &[u8]) -> usize
 
 fn byte_fault(s: &[u8]) -> usize
     requires { ⌜ dataValueAt Rsr ≤ length (now s) ⌝ }
-    ensures { λ r. ⌜ r ≡ verdict (map (byteRow (now (s .entry))) judgedBytes) ⌝ }
+    ensures { λ r. ⌜ r ≡ verdict (byteRows (now (s .entry))) ⌝ }
 {
     for i in 0..JUDGED.len() {
-        let at = judged(i).at;
-        if !in_range(judged(i).allowed, s[at]) {
+        let field = judged(i);
+        let at = field.at;
+        let allowed = field.allowed;
+        if !in_range(allowed, s[at]) {
             return at;
         }
     }
@@ -179,7 +180,7 @@ fn byte_fault(s: &[u8]) -> usize
 }
 
 fn judged(i: usize) -> Judged
-    requires { ⌜ i < length judgedBytes ⌝ }
+    requires { ⌜ i < 10 ⌝ }
     ensures { λ r. ⌜ r ≡ getD judgedBytes i noField ⌝ }
 {
     JUDGED[i]

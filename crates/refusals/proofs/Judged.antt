@@ -2,7 +2,7 @@
 use Prim.Native.Nat.{ℕ, _<_}
 use native.Mathlib.Omega.{arith}
 use mathlib.Core.Bool.{Bool, true, false}
-use mathlib.Core.List.{List, [], _∷_}
+use mathlib.Core.List.{List, [], _∷_, _++_}
 use mathlib.Core.Path.{_≡_, refl}
 use lib.Dec.{eqb}
 use borrow.Author.Tests.{eqb-true}
@@ -36,3 +36,15 @@ answered-none rows words rest e = by (eqb (verdict rows) 0) refl
     by : (b : Bool) → eqb (verdict rows) 0 ≡ b → verdict rows ≡ 0
     by true t = eqb-true _ _ t
     by false t = let f : verdict rows ∷ [] ≡ 0 ∷ rest = rw t at e in cc
+
+-- Two lists of rows, one after the other.
+pub verdict-first : (xs ys : List Row) → (verdict xs ≡ 0 → ⊥) → verdict (xs ++ ys) ≡ verdict xs
+unfolding verdict
+verdict-first [] ys h = absurd (h refl)
+verdict-first ((n when true) ∷ xs) ys h = refl
+verdict-first ((n when false) ∷ xs) ys h = verdict-first xs ys h
+
+pub verdict-append : (xs ys : List Row) → NoneHolds xs → verdict (xs ++ ys) ≡ verdict ys
+unfolding verdict
+verdict-append [] ys h = refl
+verdict-append ((n when c) ∷ xs) ys h = rw (h .0) (verdict-append xs ys (h .1))

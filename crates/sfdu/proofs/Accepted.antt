@@ -1,11 +1,11 @@
 -- What is known of a slice that read one accepts. Assumes nothing.
 use Prim.Native.Nat.{ℕ, _+_, _-_, _≤_}
 use native.Mathlib.Omega.{arith}
-use mathlib.Core.Bool.{Bool, true, false, not, _||_, false≢true}
+use mathlib.Core.Bool.{Bool, true, false, not, _&&_, _||_}
 use mathlib.Core.List.{List, [], _∷_}
 use mathlib.Core.Path.{_≡_, refl, sym, ap, _∙_}
 use borrow.Author.Tests.{leb-true, ltb-false, eqb-true, eq-eqb, not-false}
-use lib.Dec.{lit<}
+use lib.Dec.{leb, lit<}
 use lib.ListN.{length}
 use Rattle.refusals.specs.Judge.{verdict}
 use Rattle.refusals.proofs.Judged.{NoneHolds, Numbered, none-verdict, verdict-none, answered-none}
@@ -36,12 +36,18 @@ use Rattle.sfdu.specs.Nesting.{
   leastLabelLength,
   mostLabelLength,
 }
-use Rattle.sfdu.specs.Read.{hasKind, kindOf, labelLength, recordLength, blockType, blockLength, lengthInRange, isBlock, readRows, accepts, recordWords, readOne}
+use Rattle.sfdu.specs.Read.{hasKind, kindOf, labelLength, recordLength, blockType, blockLength, lengthInRange, isBlock, primaryOf, readRows, accepts, recordWords, readOne}
 
 pub in-range : (k : Kind) (s : List ℕ) → lengthInRange k s ≡ true
     → (leastLabelLength k ≤ labelLength s) × (labelLength s ≤ mostLabelLength k)
 unfolding lengthInRange
 in-range k s e = let p = and-split _ _ e in (leb-true _ _ (p .0), leb-true _ _ (p .1))
+
+-- What a test of the length that was read says.
+pub say-range : (k : Kind) (s : List ℕ) (n : ℕ) {r : Bool} → n ≡ labelLength s → r ≡ (leb (leastLabelLength k) n && leb n (mostLabelLength k))
+    → r ≡ lengthInRange k s
+unfolding lengthInRange
+say-range k s n e h = h ∙ rw e
 
 pub record-length : (s : List ℕ) (n : ℕ) → n ≡ labelLength s → labelSize + n ≡ recordLength s
 unfolding recordLength
@@ -57,7 +63,7 @@ numbered : (s : List ℕ) → Numbered (readRows s)
 numbered s =
     (lit< tt, (lit< tt, (lit< tt, (lit< tt, (lit< tt, (lit< tt, (lit< tt, (lit< tt, (lit< tt, (lit< tt, (lit< tt, (lit< tt, tt))))))))))))
 
-none-holds : (s : List ℕ) → accepts s ≡ true → NoneHolds (readRows s)
+pub none-holds : (s : List ℕ) → accepts s ≡ true → NoneHolds (readRows s)
 unfolding accepts
 none-holds s e = verdict-none (readRows s) (numbered s) (eqb-true _ _ e)
 
@@ -98,6 +104,9 @@ found s k n rest e =
     let same : kindNumber k ≡ kindNumber (kindOf s) = cc in
     let size : n ≡ recordLength s = cc in
     record { accepted = a; kind = same-kind k (kindOf s) same; size = size; words = w }
+
+pub primary-found : {s : List ℕ} {k : Kind} {n : ℕ} {rest : List ℕ} → Found s k n rest → rest ≡ primaryOf s
+primary-found f = let w = f .words in cc
 
 pub record Accepted (s : List ℕ) : Type 0 where
   pub label : labelSize ≤ length s

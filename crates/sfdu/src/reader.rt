@@ -1,14 +1,16 @@
 // Read one: the checks in the order of document 01's refusal table, and the two parts.
 ghost use denote.Ref.{ptr};
+ghost use mathlib.Core.Bool.{_&&_, _||_};
 ghost use mathlib.Core.List.{_++_};
 ghost use mathlib.Core.Path.{_≡_};
 ghost use Prim.Native.Nat.{_+_, _-_, _≤_, _<_};
 ghost use lib.ListN.{length};
-ghost use lib.Dec.{eqb};
+ghost use lib.Dec.{eqb, leb};
 ghost use Rattle.refusals.specs.Judge.{answered};
 ghost use Rattle.octets.specs.Octets.{sameAt};
-ghost use Rattle.sfdu.specs.Nesting.{authority, control, authorityAt, controlAt, tagSize, labelSize, blockLabelSize, aggregationAt, primaryAt, secondaryAt, dataAt, dataValueAt, aggregationType, primaryType, secondaryType, dataType, aggregationLength, primaryLength, secondaryLength};
-ghost use Rattle.sfdu.specs.Read.{wordsOf, readOne, lengthRows, headerRows, dataRows, recordWords, hasKind, labelLength, lengthInRange, recordLength, blockType, blockLength, blockEnd, isBlock, nests, secondaryPart, secondaryStart, dataPart, dataStart};
+ghost use Rattle.sfdu.specs.Nesting.{authority, control, authorityAt, controlAt, tagSize, labelSize, blockLabelSize, aggregationAt, primaryAt, secondaryAt, dataAt, dataValueAt, aggregationType, primaryType, secondaryType, dataType, aggregationLength, primaryLength, secondaryLength, leastLabelLength, mostLabelLength};
+ghost use Rattle.sfdu.specs.declared.Kind.the-variants.{Telemetry, Rsr};
+ghost use Rattle.sfdu.specs.Read.{wordsOf, readOne, lengthRows, headerRows, dataRows, recordWords, hasKind, kindOf, labelLength, recordLength, blockType, blockLength, blockEnd, isBlock, nests, secondaryPart, secondaryStart, dataPart, dataStart};
 use crate::Kind;
 use crate::Primary;
 use crate::Read;
@@ -58,13 +60,10 @@ pub fn read_one(s: &[u8]) -> Read
     if !has_control(s) {
         return Read::Refused(Refusal::LabelControl);
     }
-    if has_kind(s, Kind::Telemetry) {
-        return read_length(s, Kind::Telemetry);
+    if !is_known(s) {
+        return Read::Refused(Refusal::UnknownKind);
     }
-    if has_kind(s, Kind::Rsr) {
-        return read_length(s, Kind::Rsr);
-    }
-    Read::Refused(Refusal::UnknownKind)
+    read_length(s, kind_of(s))
 }
 
 fn has_authority(s: &[u8]) -> bool
@@ -91,15 +90,34 @@ fn has_kind(s: &[u8], kind: Kind) -> bool
     }
 }
 
+// Whether the kind is one of the two.
+fn is_known(s: &[u8]) -> bool
+    requires { ⌜ labelSize ≤ length (now s) ⌝ }
+    ensures { λ r. ⌜ r ≡ (hasKind Telemetry (now (s .entry)) || hasKind Rsr (now (s .entry))) ⌝ }
+{
+    has_kind(s, Kind::Telemetry) | has_kind(s, Kind::Rsr)
+}
+
+fn kind_of(s: &[u8]) -> Kind
+    requires { ⌜ labelSize ≤ length (now s) ⌝ }
+    ensures { λ r. ⌜ r ≡ kindOf (now (s .entry)) ⌝ }
+{
+    if has_kind(s, Kind::Telemetry) {
+        return Kind::Telemetry;
+    }
+    Kind::Rsr
+}
+
 // The refusals from the label's length on.
 fn read_length(s: &[u8], kind: Kind) -> Read
     requires { ⌜ labelSize ≤ length (now s) ⌝ }
     ensures { λ r. ⌜ wordsOf r ≡ answered (lengthRows kind (now (s .entry)) ++ headerRows kind (now (s .entry)) ++ dataRows kind (now (s .entry))) (recordWords kind (now (s .entry))) ⌝ }
 {
-    if !length_in_range(s, kind) {
+    let after = label_length(s);
+    if !length_in_range(after, kind) {
         return Read::Refused(Refusal::LabelLength);
     }
-    let size = LABEL + label_length(s) as usize;
+    let size = LABEL + after as usize;
     if s.len() < size {
         return Read::Refused(Refusal::Truncated);
     }
@@ -114,11 +132,9 @@ fn label_length(s: &[u8]) -> u64
     read_be(s, LENGTH_AT, LENGTH)
 }
 
-fn length_in_range(s: &[u8], kind: Kind) -> bool
-    requires { ⌜ labelSize ≤ length (now s) ⌝ }
-    ensures { λ r. ⌜ r ≡ lengthInRange kind (now (s .entry)) ⌝ }
+fn length_in_range(after: u64, kind: Kind) -> bool
+    ensures { λ r. ⌜ r ≡ (leb (leastLabelLength kind) after && leb after (mostLabelLength kind)) ⌝ }
 {
-    let after = label_length(s);
     let least = least_label_length(kind);
     let most = least + MOST_DATA as u64;
     (least <= after) & (after <= most)

@@ -32,6 +32,15 @@ unfolding lowest
 lowest-none zero p h = refl
 lowest-none (suc n) p h = rw (h 0 (zero-lt-suc n)) (ap suc (lowest-none n (λ j. p (suc j)) (λ j q. h (suc j) (omega arith))))
 
+pub lowest-within : (n : ℕ) (p : ℕ → Bool) → lowest n p ≤ n
+unfolding lowest
+lowest-within zero p = omega arith
+lowest-within (suc n) p = by (p 0) (lowest-within n (λ i. p (suc i)))
+  where
+    by : (b : Bool) → lowest n (λ i. p (suc i)) ≤ n → cond b 0 (suc (lowest n (λ i. p (suc i)))) ≤ suc n
+    by true h = omega arith
+    by false h = omega arith
+
 -- where the lowest is below n, the test holds there; below it the test fails
 pub lowest-holds : (n : ℕ) (p : ℕ → Bool) → lowest n p < n → p (lowest n p) ≡ true
 unfolding lowest

@@ -1,3 +1,7 @@
+-- `headers::rsr::in_range` meets its contract. Assumes nothing.
+use mathlib.Core.Path.{ap, sym, _∙_}
+use Rattle.headers.specs.declared.Allowed.{Allowed}
+use Rattle.headers.specs.Ranges.{inRange}
 use borrow.Author.Needs.{needs}
 use Rattle.headers.proofs.rsr.in_range.Statement.{statement}
 use Rattle.headers.proofs.rsr.in_range.Tie as tie
@@ -5,25 +9,22 @@ use Rattle.headers.proofs.rsr.in_range.Reads as reads
 use Rattle.headers.proofs.rsr.in_range.Lts as lts
 use Rattle.headers.proofs.rsr.is_band.Reads as is-band-reads
 
--- src/rsr.rt:162:26
 enum-known-allowed : tie.Need-enum-known-allowed
 enum-known-allowed c = search needs
 
--- src/rsr.rt:163:27
 enum-told : tie.Need-enum-told
 enum-told c = search needs
 
--- src/rsr.rt:163:27
 is-band-requires : tie.Need-is-band-requires
 is-band-requires c κs = search needs
 
--- src/rsr.rt:158:1
 returns : tie.Need-returns
-returns c = ?
+unfolding inRange
+returns c = rw (c .before .allowed .given .1)
 
--- src/rsr.rt:158:1
 returns-2 : tie.Need-returns-2
-returns-2 c = ?
+unfolding inRange
+returns-2 c = c .is-band .ensures ∙ ap (λ (x : Allowed). inRange x (c .before .before .before .args .b)) (sym (c .before .enum-told .given .1))
 
 pub in-range-spec : {M : Type 1} → statement M
 in-range-spec =

@@ -1,3 +1,4 @@
+-- `headers::rsr::read_source` meets its contract. Assumes nothing.
 use borrow.Author.Needs.{needs}
 use Rattle.headers.proofs.rsr.read_source.Statement.{statement}
 use Rattle.headers.proofs.rsr.read_source.Tie as tie
@@ -6,41 +7,32 @@ use Rattle.headers.proofs.rsr.read_source.Lts as lts
 use Rattle.headers.proofs.rsr.number.Reads as number-reads
 use Rattle.octets.proofs.read_u16.Reads as read-u16-reads
 
--- src/rsr.rt:206:19
 read-u16-requires : tie.Need-read-u16-requires
 read-u16-requires c κs = search needs
 
--- src/rsr.rt:207:17
 number-requires : tie.Need-number-requires
 number-requires c κs = search needs
 
--- src/rsr.rt:208:18
 shared-slice-read-t5 : tie.Need-shared-slice-read-t5
 shared-slice-read-t5 c = search needs
 
--- src/rsr.rt:209:18
 shared-slice-read-t7 : tie.Need-shared-slice-read-t7
 shared-slice-read-t7 c = search needs
 
--- src/rsr.rt:210:19
 shared-slice-read-t9 : tie.Need-shared-slice-read-t9
 shared-slice-read-t9 c = search needs
 
--- src/rsr.rt:211:21
 shared-slice-read-t11 : tie.Need-shared-slice-read-t11
 shared-slice-read-t11 c = search needs
 
--- src/rsr.rt:212:21
 shared-slice-read-t13 : tie.Need-shared-slice-read-t13
 shared-slice-read-t13 c = search needs
 
--- src/rsr.rt:213:15
 read-u16-requires-2 : tie.Need-read-u16-requires-2
 read-u16-requires-2 c κs = search needs
 
--- src/rsr.rt:201:1
 returns : tie.Need-returns
-returns c = ?
+returns c = rw (c .before .before .before .before .before .before .before .read-u16 .ensures, c .before .before .before .before .before .before .number .ensures, c .read-u162 .ensures)
 
 pub read-source-spec : {M : Type 1} → statement M
 read-source-spec =

@@ -1,3 +1,8 @@
+-- `headers::telemetry::band_fault` meets its contract. Assumes nothing.
+use mathlib.Core.Path.{sym, _∙_}
+use Rattle.refusals.specs.Judge.{verdict}
+use Rattle.octets.proofs.Laws.{failed, passed}
+use Rattle.headers.specs.Ranges.{fault}
 use borrow.Author.Needs.{needs}
 use Rattle.headers.proofs.telemetry.band_fault.Statement.{statement}
 use Rattle.headers.proofs.telemetry.band_fault.Tie as tie
@@ -6,29 +11,26 @@ use Rattle.headers.proofs.telemetry.band_fault.Lts as lts
 use Rattle.headers.proofs.telemetry.has_band.Reads as has-band-reads
 use Rattle.headers.proofs.telemetry.is_band.Reads as is-band-reads
 
--- src/telemetry.rt:70:9
 has-band-requires : tie.Need-has-band-requires
 has-band-requires c κs = search needs
 
--- src/telemetry.rt:71:9
 returns : tie.Need-returns
-returns c = ?
+unfolding fault verdict
+returns c = rw (failed (c .before .has-band .ensures) (c .if1 .taken))
 
--- src/telemetry.rt:73:16
 shared-slice-read-is-band : tie.Need-shared-slice-read-is-band
 shared-slice-read-is-band c = search needs
 
--- src/telemetry.rt:73:8
 is-band-requires : tie.Need-is-band-requires
 is-band-requires c κs = search needs
 
--- src/telemetry.rt:74:9
 returns-2 : tie.Need-returns-2
-returns-2 c = ?
+unfolding fault verdict
+returns-2 c = rw (passed (c .before .before .before .before .has-band .ensures) (c .before .before .before .if1 .left), sym (c .before .is-band .ensures) ∙ c .if2 .taken)
 
--- src/telemetry.rt:66:1
 returns-3 : tie.Need-returns-3
-returns-3 c = ?
+unfolding fault verdict
+returns-3 c = rw (passed (c .before .before .before .before .has-band .ensures) (c .before .before .before .if1 .left), sym (c .before .is-band .ensures) ∙ c .if2 .left)
 
 pub band-fault-spec : {M : Type 1} → statement M
 band-fault-spec =

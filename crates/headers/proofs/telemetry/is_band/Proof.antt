@@ -1,3 +1,5 @@
+-- `headers::telemetry::is_band` meets its contract. Assumes nothing.
+use Rattle.headers.specs.Ranges.{isBand}
 use borrow.Author.Needs.{needs}
 use Rattle.headers.proofs.telemetry.is_band.Statement.{statement}
 use Rattle.headers.proofs.telemetry.is_band.Tie as tie
@@ -5,13 +7,12 @@ use Rattle.headers.proofs.telemetry.is_band.Reads as reads
 use Rattle.headers.proofs.telemetry.is_band.Lts as lts
 use Rattle.headers.proofs.rsr.is_band.Reads as is-band-reads
 
--- src/telemetry.rt:89:19
 is-band-requires : tie.Need-is-band-requires
 is-band-requires c κs = search needs
 
--- src/telemetry.rt:86:1
 returns : tie.Need-returns
-returns c = ?
+unfolding isBand
+returns c = rw (c .is-band .ensures)
 
 pub is-band-spec : {M : Type 1} → statement M
 is-band-spec = tie.close (tie.spec is-band-requires returns)

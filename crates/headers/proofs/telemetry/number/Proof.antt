@@ -1,3 +1,5 @@
+-- `headers::telemetry::number` meets its contract. Assumes nothing.
+use Rattle.headers.specs.Fields.{recordNumber}
 use borrow.Author.Needs.{needs}
 use Rattle.headers.proofs.telemetry.number.Statement.{statement}
 use Rattle.headers.proofs.telemetry.number.Tie as tie
@@ -5,13 +7,12 @@ use Rattle.headers.proofs.telemetry.number.Reads as reads
 use Rattle.headers.proofs.telemetry.number.Lts as lts
 use Rattle.octets.proofs.read_u32.Reads as read-u32-reads
 
--- src/telemetry.rt:131:5
 read-u32-requires : tie.Need-read-u32-requires
 read-u32-requires c κs = search needs
 
--- src/telemetry.rt:127:1
 returns : tie.Need-returns
-returns c = ?
+unfolding recordNumber
+returns c = c .read-u32 .ensures
 
 pub number-spec : {M : Type 1} → statement M
 number-spec = tie.close (tie.spec read-u32-requires returns)

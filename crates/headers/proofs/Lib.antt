@@ -1,0 +1,4 @@
+pub mod Table
+pub mod Accept
+pub mod Reading
+pub mod Words

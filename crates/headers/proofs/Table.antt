@@ -1,0 +1,54 @@
+-- The table of judged bytes, entry by entry. Assumes nothing.
+use Prim.Native.Nat.{ℕ, suc, _+_, _<_}
+use native.Mathlib.Numerals.{add-one}
+use mathlib.Core.Bool.{Bool, true, false}
+use mathlib.Core.List.{List, [], map}
+use mathlib.Core.Path.{_≡_, refl}
+use borrow.Author.Tests.{ltb-true}
+use lib.Dec.{ltb, lit<}
+use lib.ListN.{length, getD, drop}
+use lib.Seq.{drop-cons}
+use Rattle.refusals.specs.Judge.{verdict}
+use Rattle.refusals.proofs.Judged.{Numbered}
+use Rattle.octets.specs.Octets.{all}
+use Rattle.octets.proofs.Laws.{all-at}
+use Rattle.headers.specs.Ranges.{inRange, judgedBytes, noField, byteRow, byteRows}
+
+abbrev pub entries : ℕ
+entries = 10
+
+-- What is left to judge from entry i on.
+unfoldable pub faultFrom : List ℕ → ℕ → ℕ
+faultFrom s i = verdict (map (byteRow s) (drop i judgedBytes))
+
+pub from-start : (s : List ℕ) → verdict (byteRows s) ≡ faultFrom s 0
+unfolding faultFrom
+from-start s = refl
+
+pub from-end : (s : List ℕ) → faultFrom s entries ≡ 0
+unfolding faultFrom judgedBytes verdict
+from-end s = refl
+
+pub length-judged : length judgedBytes ≡ entries
+unfolding judgedBytes
+length-judged = refl
+
+module _ (s : List ℕ) (i : ℕ) (h : i < entries) where
+  pub fault-here : inRange (getD judgedBytes i noField .allowed) (getD s (getD judgedBytes i noField .at) 0) ≡ false
+      → faultFrom s i ≡ getD judgedBytes i noField .at
+  unfolding faultFrom verdict
+  fault-here e = let l : i < length judgedBytes = rw length-judged h in rw (drop-cons judgedBytes i noField, e)
+
+  pub fault-past : inRange (getD judgedBytes i noField .allowed) (getD s (getD judgedBytes i noField .at) 0) ≡ true
+      → faultFrom s i ≡ faultFrom s (i + 1)
+  unfolding faultFrom verdict
+  fault-past e = let l : i < length judgedBytes = rw length-judged h in rw (add-one, drop-cons judgedBytes i noField, e)
+
+-- Every entry lies before the year, and none at 0.
+pub at-low : (i : ℕ) → i < entries → getD judgedBytes i noField .at < 60
+unfolding judgedBytes all
+at-low i h = ltb-true _ _ (all-at entries i (λ k. ltb (getD judgedBytes k noField .at) 60) refl h)
+
+pub numbered : (s : List ℕ) → Numbered (byteRows s)
+unfolding judgedBytes
+numbered s = (lit< tt, (lit< tt, (lit< tt, (lit< tt, (lit< tt, (lit< tt, (lit< tt, (lit< tt, (lit< tt, (lit< tt, tt))))))))))

@@ -1,0 +1,129 @@
+-- Different answers have different words. Assumes nothing.
+use Prim.Native.Nat.{ℕ}
+use native.Mathlib.Omega.{arith}
+use mathlib.Core.List.{List, _∷_, [], map}
+use mathlib.Core.Path.{_≡_, ap}
+use Rattle.refusals.specs.Table.{numberOf}
+use Rattle.refusals.proofs.Laws.{number-injective}
+use lib.ListN.{take, drop}
+use Rattle.sfdu.specs.declared.Primary.{Primary}
+use Rattle.sfdu.specs.Read.{primaryWords}
+use Rattle.sfdu.proofs.Words.{same-primary}
+use Rattle.headers.specs.declared.Band.{Band}
+use Rattle.headers.specs.declared.Band.the-variants.{Letter, Unused}
+use Rattle.headers.specs.declared.TelemetryFields.{TelemetryFields}
+use Rattle.headers.specs.declared.RsrSource.{RsrSource}
+use Rattle.headers.specs.declared.RsrSignal.{RsrSignal}
+use Rattle.headers.specs.declared.RsrTime.{RsrTime}
+use Rattle.headers.specs.declared.Headers.{Headers}
+use Rattle.headers.specs.declared.Headers.the-variants.{Telemetry, Rsr, OutOfRange, Refused}
+use Rattle.headers.specs.Words.{Word, number, signed, none}
+use Rattle.headers.specs.Headers.{bandWord, telemetryFieldWords, sourceWords, signalWords, timeWords, wordsOf}
+
+same-band : (a b : Band) → bandWord a ≡ bandWord b → a ≡ b
+same-band (Letter x) (Letter y) e = cc
+same-band (Letter x) Unused e = cc
+same-band Unused (Letter y) e = cc
+same-band Unused Unused e = cc
+
+same-fields : (f g : TelemetryFields) → telemetryFieldWords f ≡ telemetryFieldWords g → f ≡ g
+same-fields f g e =
+    let a : f .spacecraft ≡ g .spacecraft = cc in
+    let b : f .source ≡ g .source = cc in
+    let c : f .received ≡ g .received = cc in
+    let d : f .number ≡ g .number = cc in
+    let band : bandWord (f .uplink) ≡ bandWord (g .uplink) = cc in
+    let u = same-band (f .uplink) (g .uplink) band in
+    let m : f .mode ≡ g .mode = cc in
+    let s : f .stream ≡ g .stream = cc in
+    let q : f .equipment ≡ g .equipment = cc in
+    λ i. record { spacecraft = a i; source = b i; received = c i; number = d i; uplink = u i; mode = m i; stream = s i; equipment = q i }
+
+same-source : (f g : RsrSource) → sourceWords f ≡ sourceWords g → f ≡ g
+same-source f g e =
+    let a : f .software ≡ g .software = cc in
+    let b : f .number ≡ g .number = cc in
+    let c : f .complex ≡ g .complex = cc in
+    let d : f .station ≡ g .station = cc in
+    let r : f .receiver ≡ g .receiver = cc in
+    let s : f .subchannel ≡ g .subchannel = cc in
+    let x : f .spacecraft ≡ g .spacecraft = cc in
+    let p : f .pass ≡ g .pass = cc in
+    λ i. record { software = a i; number = b i; complex = c i; station = d i; receiver = r i; subchannel = s i; spacecraft = x i; pass = p i }
+
+same-signal : (f g : RsrSignal) → signalWords f ≡ signalWords g → f ≡ g
+same-signal f g e =
+    let a : f .uplink ≡ g .uplink = cc in
+    let b : f .downlink ≡ g .downlink = cc in
+    let c : f .mode ≡ g .mode = cc in
+    let d : f .«uplink_station» ≡ g .«uplink_station» = cc in
+    let x : f .expected ≡ g .expected = cc in
+    let w : f .bandwidth ≡ g .bandwidth = cc in
+    let o : f .overridden ≡ g .overridden = cc in
+    let t : f .attenuation ≡ g .attenuation = cc in
+    let r : f .rms ≡ g .rms = cc in
+    let p : f .peak ≡ g .peak = cc in
+    λ i. record {
+      uplink = a i;
+      downlink = b i;
+      mode = c i;
+      «uplink_station» = d i;
+      expected = x i;
+      bandwidth = w i;
+      overridden = o i;
+      attenuation = t i;
+      rms = r i;
+      peak = p i;
+    }
+
+same-time : (f g : RsrTime) → timeWords f ≡ timeWords g → f ≡ g
+same-time f g e =
+    let a : f .year ≡ g .year = cc in
+    let b : f .day ≡ g .day = cc in
+    let c : f .frequency ≡ g .frequency = cc in
+    λ i. record { year = a i; day = b i; frequency = c i }
+
+-- The words from a place on.
+abbrev part : (at count : ℕ) → List Word → List Word
+part at count words = take count (drop at words)
+
+same-number : (x y : ℕ) → number x ∷ [] ≡ number y ∷ [] → x ≡ y
+same-number x y e = cc
+
+same-primary-words : (p q : Primary) → map number (primaryWords p) ≡ map number (primaryWords q) → p ≡ q
+same-primary-words p q e =
+    let a : p .major ≡ q .major = cc in
+    let b : p .minor ≡ q .minor = cc in
+    let c : p .mission ≡ q .mission = cc in
+    let d : p .format ≡ q .format = cc in
+    same-primary p q (rw (a, b, c, d))
+
+pub same-headers : (a b : Headers) → wordsOf a ≡ wordsOf b → a ≡ b
+same-headers (Telemetry n p f key) (Telemetry m q g l) e =
+    let size : n ≡ m = same-number n m (ap (part 2 1) e) in
+    let primary = same-primary-words p q (ap (part 3 4) e) in
+    let fields = same-fields f g (ap (part 7 8) e) in
+    let k : key ≡ l = same-number key l (ap (part 15 1) e) in
+    λ i. Telemetry (size i) (primary i) (fields i) (k i)
+same-headers (Rsr n p f s t key) (Rsr m q g u v l) e =
+    let size : n ≡ m = same-number n m (ap (part 2 1) e) in
+    let primary = same-primary-words p q (ap (part 3 4) e) in
+    let source = same-source f g (ap (part 7 8) e) in
+    let signal = same-signal s u (ap (part 15 10) e) in
+    let time = same-time t v (ap (part 25 3) e) in
+    let k : key ≡ l = same-number key l (ap (part 28 1) e) in
+    λ i. Rsr (size i) (primary i) (source i) (signal i) (time i) (k i)
+same-headers (OutOfRange x) (OutOfRange y) e = cc
+same-headers (Refused r) (Refused s) e = let n : numberOf r ≡ numberOf s = cc in ap Refused (number-injective r s n)
+same-headers (Telemetry n p f key) (Rsr m q g u v l) e = let z : _≡_ {A = ℕ} 1 2 = cc in absurd (omega arith)
+same-headers (Rsr m q g u v l) (Telemetry n p f key) e = let z : _≡_ {A = ℕ} 2 1 = cc in absurd (omega arith)
+same-headers (Telemetry n p f key) (OutOfRange y) e = let z : _≡_ {A = ℕ} 0 12 = cc in absurd (omega arith)
+same-headers (OutOfRange y) (Telemetry n p f key) e = let z : _≡_ {A = ℕ} 12 0 = cc in absurd (omega arith)
+same-headers (Rsr m q g u v l) (OutOfRange y) e = let z : _≡_ {A = ℕ} 0 12 = cc in absurd (omega arith)
+same-headers (OutOfRange y) (Rsr m q g u v l) e = let z : _≡_ {A = ℕ} 12 0 = cc in absurd (omega arith)
+same-headers (Telemetry n p f key) (Refused s) e = let z : _≡_ {A = ℕ} 0 1 = cc in absurd (omega arith)
+same-headers (Refused s) (Telemetry n p f key) e = let z : _≡_ {A = ℕ} 0 1 = cc in absurd (omega arith)
+same-headers (Rsr m q g u v l) (Refused s) e = let z : _≡_ {A = ℕ} 0 1 = cc in absurd (omega arith)
+same-headers (Refused s) (Rsr m q g u v l) e = let z : _≡_ {A = ℕ} 0 1 = cc in absurd (omega arith)
+same-headers (OutOfRange y) (Refused s) e = let z : _≡_ {A = ℕ} 0 1 = cc in absurd (omega arith)
+same-headers (Refused s) (OutOfRange y) e = let z : _≡_ {A = ℕ} 0 1 = cc in absurd (omega arith)

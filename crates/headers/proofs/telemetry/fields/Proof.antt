@@ -1,0 +1,61 @@
+-- `headers::telemetry::fields` meets its contract. Assumes nothing.
+use borrow.Author.Tests.{eq-eqb, ne-eqb}
+use Rattle.sfdu.specs.declared.Kind.the-variants.{Telemetry}
+use Rattle.sfdu.specs.Read.{primaryWords}
+use Rattle.headers.specs.Headers.{telemetryFieldWords}
+use Rattle.headers.proofs.Accept.{same-accepted, telemetry-key}
+use borrow.Author.Needs.{needs}
+use Rattle.headers.proofs.telemetry.fields.Statement.{statement}
+use Rattle.headers.proofs.telemetry.fields.Tie as tie
+use Rattle.headers.proofs.telemetry.fields.Reads as reads
+use Rattle.headers.proofs.telemetry.fields.Lts as lts
+use Rattle.headers.proofs.telemetry.band_fault.Reads as band-fault-reads
+use Rattle.headers.proofs.telemetry.read_fields.Reads as read-fields-reads
+use Rattle.keys.proofs.telemetry_key_of.Reads as telemetry-key-of-reads
+
+band-fault-requires : tie.Need-band-fault-requires
+band-fault-requires c κs = search needs
+
+returns : tie.Need-returns
+returns c = rw (← c .before .band-fault .ensures, ne-eqb _ _ (c .if1 .taken))
+
+read-fields-requires : tie.Need-read-fields-requires
+read-fields-requires c κs = search needs
+
+cast-telemetry-key-of : tie.Need-cast-telemetry-key-of
+cast-telemetry-key-of c = search needs
+
+cast-telemetry-key-of-2 : tie.Need-cast-telemetry-key-of-2
+cast-telemetry-key-of-2 c = search needs
+
+cast-telemetry-key-of-3 : tie.Need-cast-telemetry-key-of-3
+cast-telemetry-key-of-3 c = search needs
+
+cast-telemetry-key-of-4 : tie.Need-cast-telemetry-key-of-4
+cast-telemetry-key-of-4 c = search needs
+
+telemetry-key-of-requires : tie.Need-telemetry-key-of-requires
+telemetry-key-of-requires c κs = search needs
+
+returns-2 : tie.Need-returns-2
+returns-2 c =
+    let g = c .before .before .before .before .before .before .before .before .before .args in
+    let s = g .s .now in
+    let f = c .before .before .before .before .before .read-fields .result in
+    rw (← c .before .before .before .before .before .before .before .band-fault .ensures, eq-eqb _ _ (c .before .before .before .before .before .before .if1 .left))
+    (same-accepted Telemetry _ _ (primaryWords (g .primary)) _ (telemetryFieldWords f) _ _ _ (c .before .before .before .before .before .before .before .before .before .pre .0) (c .before .before .before .before .before .before .before .before .before .pre .1) (c .before .before .before .before .before .read-fields .ensures .0)
+    (telemetry-key s f _ (c .before .before .before .before .before .read-fields .ensures .0) (c .telemetry-key-of .ensures)))
+
+pub fields-spec : {M : Type 1} → statement M
+fields-spec =
+    tie.close
+    (tie.spec
+    band-fault-requires
+    returns
+    read-fields-requires
+    cast-telemetry-key-of
+    cast-telemetry-key-of-2
+    cast-telemetry-key-of-3
+    cast-telemetry-key-of-4
+    telemetry-key-of-requires
+    returns-2)

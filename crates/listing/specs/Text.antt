@@ -1,0 +1,45 @@
+-- The lines of a listing. Document 01, "The program, given one telemetry record .., writes exactly". Bytes are ASCII. Assumes
+-- nothing.
+use Prim.Native.Nat.{ℕ, zero, suc, _/_}
+use mathlib.Core.Bool.{cond}
+use mathlib.Core.List.{List, [], _∷_, _++_}
+use lib.Dec.{ltb}
+use Rattle.io.specs.Digits.{digits}
+use Rattle.sfdu.specs.declared.Kind.{Kind}
+use Rattle.sfdu.specs.declared.Kind.the-variants.{Telemetry, Rsr}
+
+-- The fewest decimal digits that hold n, but one at least. `most` bounds the search; n itself is enough.
+unfoldable pub placesIn : (most : ℕ) → ℕ → ℕ
+placesIn zero n = 1
+placesIn (suc most) n = cond (ltb n 10) 1 (suc (placesIn most (n / 10)))
+
+-- A number in decimal, with no zeros in front.
+unfoldable pub decimal : ℕ → List ℕ
+decimal n = digits 10 (placesIn n n) n
+
+abbrev pub space : ℕ
+space = 32
+
+abbrev pub lineEnd : ℕ
+lineEnd = 10
+
+-- "RSR is R": T and R.
+abbrev pub letter : Kind → ℕ
+letter Telemetry = 84
+letter Rsr = 82
+
+-- A number and the byte that ends it.
+unfoldable pub word : ℕ → (after : ℕ) → List ℕ
+word n after = decimal n ++ (after ∷ [])
+
+-- place length kind number
+unfoldable pub heading : List ℕ
+heading = 112 ∷ 108 ∷ 97 ∷ 99 ∷ 101 ∷ space ∷ 108 ∷ 101 ∷ 110 ∷ 103 ∷ 116 ∷ 104 ∷ space ∷ 107 ∷ 105 ∷ 110 ∷ 100 ∷ space ∷ 110 ∷ 117 ∷ 109 ∷ 98 ∷ 101 ∷ 114 ∷ lineEnd ∷ []
+
+-- 0 120 T 7
+unfoldable pub line : (place size : ℕ) → Kind → (number : ℕ) → List ℕ
+line place size kind number = word place space ++ word size space ++ (letter kind ∷ space ∷ []) ++ word number lineEnd
+
+-- 120 0
+unfoldable pub lastLine : (place number : ℕ) → List ℕ
+lastLine place number = word place space ++ word number lineEnd

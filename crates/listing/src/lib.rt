@@ -1,0 +1,36 @@
+// The listing program's work, on lent slices: a window onto a stream is gone over record by record, and a line of text is laid
+// out for each.
+mod lines;
+mod window;
+
+pub use lines::begin;
+pub use window::list_piece;
+
+// What stands at a place of the window.
+pub enum Found {
+    Record {
+        kind: sfdu::Kind,
+        size: usize,
+        number: u32,
+    },
+    // The window ends too early to say, and more of the stream may come.
+    More,
+    // The end of the stream (0), or the refusal of the record there.
+    Stop(u32),
+}
+
+// How far a window was gone over: bytes of it used, where the text ends, and whether the last line is there.
+pub struct Drained {
+    pub used: usize,
+    pub end: usize,
+    pub done: bool,
+}
+
+// Where a listing stands: the place in the stream of the window's first byte, how many bytes the window holds, how many bytes of
+// text are laid out, and whether the last line is among them.
+pub struct State {
+    pub place: u64,
+    pub have: usize,
+    pub text: usize,
+    pub done: bool,
+}

@@ -1,0 +1,159 @@
+// Lists streams of records: the files that its arguments name, one after the other, or standard input where there is none. The
+// work is in `listing`, on slices; here are the calls of the system.
+ghost use mathlib.Core.Path.{_≡_};
+ghost use Prim.Native.Nat.{_≤_, _<_};
+ghost use lib.ListN.{length};
+ghost use Rattle.listing.specs.Listing.{bufferSize};
+ghost use Rattle.listing.specs.Run.{emptied};
+ghost use Rattle.sfdu_list.specs.Turn.{Going, Behind, Turns, Ends};
+use libc::STDERR_FILENO;
+use libc::STDIN_FILENO;
+use libc::STDOUT_FILENO;
+use listing::State;
+
+// Text is written once there is more of it than this: then its buffer has room for that of another window.
+const ENOUGH: usize = 32768;
+
+// A proved loop has to end, and nothing says that a stream does: so the loop counts its turns down, from 2^47, which no run uses
+// up. A turn reads at most 65,536 bytes, so the place in the stream stays below 2^63.
+const TURNS: u64 = 140737488355328;
+
+// A piece of the stream: how many bytes came, none at its end; or the read failed.
+struct Piece {
+    got: usize,
+    failed: bool,
+}
+
+// What a turn left: where the listing stands, and whether a read or a write failed.
+struct Turn {
+    state: State,
+    failed: bool,
+}
+
+// Reads into the window from `have` on. There is room for a byte at least, so none means the end of the input.
+fn read_piece(fd: i32, w: &mut [u8], have: usize) -> Piece
+    requires { ⌜ have < length (now w) ⌝ }
+    ensures { λ r. ⌜ Behind (now (w .entry)) have (now (w .exit)) r ⌝ }
+{
+    let part = &mut w[have..];
+    let count = libc::read(fd, part);
+    Piece {
+        got: io::count(count, part),
+        failed: count < 0,
+    }
+}
+
+// One turn: a piece is read and listed, and the text is written where there is enough of it.
+fn take_turn(fd: i32, name: &[u8], w: &mut [u8], out: &mut [u8], s: State) -> Turn
+    requires { ⌜ Going (now w) (now out) s ⌝ }
+    ensures { λ r. ⌜ Turns (now (w .entry)) (now (out .entry)) s (now (w .exit)) (now (out .exit)) r ⌝ }
+{
+    let have = s.have;
+    let piece = read_piece(fd, w, have);
+    if piece.failed {
+        os::fail(name);
+        return Turn {
+            state: s,
+            failed: true,
+        };
+    }
+    let listed = listing::list_piece(w, out, s, piece.got);
+    if listed.text <= ENOUGH {
+        return Turn {
+            state: listed,
+            failed: false,
+        };
+    }
+    flush(out, listed)
+}
+
+// Writes the text that is laid out.
+fn flush(out: &[u8], s: State) -> Turn
+    requires { ⌜ s .text ≤ length (now out) ⌝ }
+    ensures { λ r. ⌜ r .state ≡ emptied s ⌝ }
+{
+    let n = s.text;
+    let is_written = io::write_all(STDOUT_FILENO, &out[..n]);
+    if !is_written {
+        os::fail(b"standard output");
+    }
+    Turn {
+        state: State {
+            place: s.place,
+            have: s.have,
+            text: 0,
+            done: s.done,
+        },
+        failed: !is_written,
+    }
+}
+
+// Lists the stream of a descriptor, but for the last of the text.
+fn list_stream(fd: i32, name: &[u8], w: &mut [u8], out: &mut [u8]) -> Turn
+    requires { ⌜ (length (now w) ≡ bufferSize) × (length (now out) ≡ bufferSize) ⌝ }
+    ensures { λ r. ⌜ Ends (now (w .exit)) (now (out .exit)) r ⌝ }
+{
+    let mut s = listing::begin(out);
+    let mut turns = TURNS;
+    while 0 < turns {
+        let t = take_turn(fd, name, w, out, s);
+        s = t.state;
+        if t.failed | s.done {
+            return t;
+        }
+        turns -= 1;
+    }
+    give_up(name);
+    Turn {
+        state: s,
+        failed: true,
+    }
+}
+
+fn give_up(name: &[u8]) {
+    io::write_all(STDERR_FILENO, name);
+    io::write_all(STDERR_FILENO, b": too long to list\n");
+}
+
+fn list(fd: i32, name: &[u8]) {
+    let mut window = io::large_buffer();
+    let w: &mut [u8] = &mut window;
+    let mut text = io::large_buffer();
+    let out: &mut [u8] = &mut text;
+    let t = list_stream(fd, name, w, out);
+    flush(out, t.state);
+}
+
+// Lists the file that argument i names, under a line with its name where there are several.
+fn list_argument(i: usize, several: bool) {
+    let mut path = io::buffer();
+    let n = os::arg(i, &mut path);
+    if os::errno() != 0 {
+        os::fail(b"argument");
+        return;
+    }
+    let fd = os::open_read(&path[..n]);
+    if fd < 0 {
+        os::fail(&path[..n]);
+        return;
+    }
+    if several {
+        io::write_all(STDOUT_FILENO, &path[..n]);
+        io::write_all(STDOUT_FILENO, b"\n");
+    }
+    list(fd, &path[..n]);
+    libc::close(fd);
+}
+
+fn main() {
+    let count = os::arg_count();
+    if count < 2 {
+        list(STDIN_FILENO, b"standard input");
+        return;
+    }
+    let mut i = 1;
+    while i < count {
+        list_argument(i, 2 < count);
+        i += 1;
+    }
+}

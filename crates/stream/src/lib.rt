@@ -1,0 +1,54 @@
+// Streams of records back to back: a cursor, a walk, number lists and a table of entries.
+mod listing;
+mod walking;
+
+pub use listing::list_entries;
+pub use listing::list_numbers;
+pub use walking::walk;
+
+// A place in a stream, in bytes from its start.
+pub struct Cursor {
+    pub at: usize,
+}
+
+// What a step finds, with the cursor it hands back: moved on past a record, and else unmoved.
+pub enum Step {
+    Found {
+        kind: sfdu::Kind,
+        size: usize,
+        primary: sfdu::Primary,
+        next: Cursor,
+    },
+    Done(Cursor),
+    Refused(refusals::Refusal, Cursor),
+}
+
+// Why a walk or a list stops: at the stream's end, or by a refusal.
+pub enum Stop {
+    End,
+    Refused(refusals::Refusal),
+}
+
+// What a walk or a list answers: how many whole records it passed or listed, the place where it stopped, and why there.
+pub struct Walked {
+    pub count: usize,
+    pub place: usize,
+    pub stop: Stop,
+}
+
+// An entry of a list: where a record stands, its length in bytes, its kind's number and its record number.
+#[repr(C)]
+pub struct Entry {
+    pub place: u64,
+    pub length: u64,
+    pub kind: u32,
+    pub number: u32,
+}
+
+// A turn of a list: the next record's entry and the place past it, or the list's answer.
+pub struct Turn {
+    pub listed: bool,
+    pub entry: Entry,
+    pub next: usize,
+    pub answer: Walked,
+}

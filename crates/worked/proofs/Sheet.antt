@@ -1,0 +1,30 @@
+-- Calls on a fresh sheet are the model's, laid out. Assumes nothing.
+use Prim.Native.Nat.{ℕ}
+use mathlib.Core.List.{List, [], _∷_, map}
+use mathlib.Core.Path.{_≡_, refl, ap, _∙_}
+use Rattle.model.specs.Book.{Book, fresh}
+use Rattle.model.specs.Step.{Call, Answer, answerWords, step, Entry, _⇒_, run}
+use Rattle.model.specs.WellFormed.{WellFormed, AllInRange}
+use Rattle.model.proofs.Outcome.{outcome}
+use Rattle.model.proofs.WellFormed.{well-formed, fresh-well-formed}
+use Rattle.sheet.specs.Bytes.{freshSheet}
+use Rattle.layout.specs.Layout.{layout, call, onSheet}
+use Rattle.layout.proofs.Sheets.{on-layout, fresh-layout}
+use Rattle.worked.specs.Calls.{answersOn, sheetAfter}
+
+abbrev pub wordsIn : Entry → List ℕ
+wordsIn (c ⇒ a) = answerWords a
+
+from : (calls : List Call) (b : Book) → WellFormed b → AllInRange calls
+    → (answersOn calls (layout b) ≡ map wordsIn (run b calls .log)) × (sheetAfter calls (layout b) ≡ layout (run b calls .book))
+unfolding answersOn sheetAfter run AllInRange
+from [] b w r = (refl, refl)
+from (c ∷ calls) b w r =
+    let p = from calls (step c b .book) (well-formed b w (outcome c b) (r .0)) (r .1) in
+    (rw (on-layout (call c) b w, p .0), rw (on-layout (call c) b w, p .1))
+
+pub answers-fresh : (calls : List Call) → AllInRange calls → answersOn calls freshSheet ≡ map wordsIn (run fresh calls .log)
+answers-fresh calls r = ap (answersOn calls) fresh-layout ∙ from calls fresh fresh-well-formed r .0
+
+pub after-fresh : (calls : List Call) → AllInRange calls → sheetAfter calls freshSheet ≡ layout (run fresh calls .book)
+after-fresh calls r = ap (sheetAfter calls) fresh-layout ∙ from calls fresh fresh-well-formed r .1

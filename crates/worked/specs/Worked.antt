@@ -1,0 +1,113 @@
+-- Document 01, "Worked examples, marked P for proof": one table of checks, each what a definition gives and what the paper says,
+-- over the definitions that the public contracts cite. Assumes nothing.
+use Prim.Native.Nat.{ℕ, _+_}
+use mathlib.Core.List.{List, [], _∷_, _++_, map}
+use mathlib.Core.Path.{_≡_}
+use lib.IntN.{ℤ, pos, negsuc}
+use lib.ListN.{length, getD, take, drop}
+use Rattle.sfdu.specs.declared.Kind.the-variants.{Telemetry, Rsr}
+use Rattle.sfdu.specs.Read.{readOne, dataPart}
+use Rattle.headers.specs.Words.{Word, number, signed, none}
+use Rattle.headers.specs.Headers.{readHeaders}
+use Rattle.keys.specs.Key.{telemetryKeyCall}
+use Rattle.model.specs.Positions.{position}
+use Rattle.model.specs.Step.{Call, Enrol, Open, Tick, Untick, Save}
+use Rattle.model.specs.Counts.{rowReport}
+use Rattle.sheet.specs.Sheet.{rowAt, ticksAt}
+use Rattle.sheet.specs.Bytes.{freshSheet}
+use Rattle.layout.specs.Layout.{report, onSheet}
+use Rattle.worked.specs.Calls.{answersOn, sheetAfter}
+use Rattle.worked.specs.Records.{plain, relabelled, p4, p6}
+
+-- What a definition gives, and what the paper says.
+pub record Check : Type 0 where
+  pub got : List Word
+  pub expected : List Word
+
+abbrev pub check : (got expected : List Word) → Check
+check got expected = record { got = got; expected = expected }
+
+abbrev pub numbers : (got expected : List ℕ) → Check
+numbers got expected = check (map number got) (map number expected)
+
+-- The claim about a table: every check agrees.
+abbrev pub Agree : List Check → Type 0
+Agree [] = Unit {0}
+Agree (c ∷ table) = (c .got ≡ c .expected) × Agree table
+
+-- ---- the calls of P7 to P10, on a fresh sheet; desk A is 0, desk B is 1
+
+-- P5's key.
+abbrev pub key : ℕ
+key = 760930632193
+
+abbrev pub highFirst : ℕ
+highFirst = 4294967290
+
+abbrev pub p7 : List Call
+p7 = Enrol key highFirst ∷ Open 0 0 ∷ Tick 0 3 ∷ Tick 0 1017 ∷ Tick 0 1018 ∷ Save 0 ∷ []
+
+abbrev pub p8-empty : List Call
+p8-empty = Enrol key 1 ∷ []
+
+abbrev pub p8 : List Call
+p8 = p8-empty ++ (Open 0 0 ∷ Tick 0 1 ∷ Tick 0 2 ∷ Tick 0 4 ∷ Save 0 ∷ [])
+
+abbrev pub p9-stale : List Call
+p9-stale = Enrol key 1 ∷ Open 0 0 ∷ Open 1 0 ∷ Tick 0 1 ∷ Tick 1 2 ∷ Save 0 ∷ Save 1 ∷ []
+
+abbrev pub p9 : List Call
+p9 = p9-stale ++ (Open 1 0 ∷ Tick 1 2 ∷ Save 1 ∷ [])
+
+abbrev pub p10 : List Call
+p10 = Enrol key 1 ∷ Open 0 0 ∷ Open 1 0 ∷ Tick 1 5 ∷ Save 1 ∷ Open 1 0 ∷ Untick 1 5 ∷ Save 1 ∷ Tick 0 7 ∷ Save 0 ∷ []
+
+-- The first number that each call answers: 0 where it is accepted, or the refusal's.
+abbrev pub verdicts : List Call → List ℕ
+verdicts calls = map (λ words. getD words 0 0) (answersOn calls freshSheet)
+
+-- The report of row 0, and its first tick byte: positions 0 to 7, from the lowest bit.
+abbrev pub reportAfter : List Call → List ℕ
+reportAfter calls = onSheet (report (λ b. rowReport b 0)) (sheetAfter calls freshSheet) .0
+
+abbrev pub tickByteAfter : List Call → List ℕ
+tickByteAfter calls = getD (sheetAfter calls freshSheet) (rowAt 0 + ticksAt) 0 ∷ []
+
+-- ---- the table
+
+abbrev pub table : List Check
+table =
+    -- P1 telemetry, label length 100: N 120, empty data. 99: refused 5.
+    numbers (take 3 (readOne (plain Telemetry 0))) (0 ∷ 1 ∷ 120 ∷ [])
+    ∷ numbers (length (dataPart (plain Telemetry 0)) ∷ []) (0 ∷ [])
+    ∷ numbers (readOne (relabelled 99 (plain Telemetry 0))) (5 ∷ [])
+    -- P2 telemetry, label 65,635, data 65,535: the most. 65,636: refused 5.
+    ∷ numbers (take 3 (readOne (plain Telemetry 65535))) (0 ∷ 1 ∷ 65655 ∷ [])
+    ∷ numbers (length (dataPart (plain Telemetry 65535)) ∷ []) (65535 ∷ [])
+    ∷ numbers (readOne (relabelled 65636 (plain Telemetry 65535))) (5 ∷ [])
+    -- P3 RSR label 240: N 260. 239: refused 5.
+    ∷ numbers (take 3 (readOne (plain Rsr 0))) (0 ∷ 2 ∷ 260 ∷ [])
+    ∷ numbers (readOne (relabelled 239 (plain Rsr 0))) (5 ∷ [])
+    -- P4 bytes 6, 7 = 254, 5: spacecraft 517.
+    ∷ check (take 1 (drop 7 (readHeaders 1 p4))) (number 517 ∷ [])
+    -- P5 spacecraft 177, source 43, equipment 2, stream 1: key 760930632193.
+    ∷ numbers (telemetryKeyCall 177 43 2 1) (0 ∷ 760930632193 ∷ [])
+    -- P6 Px/No bytes 128, 255, 127: -128, -1, 127.
+    ∷ check (take 1 (drop 19 (readHeaders 2 (p6 128)))) (signed (negsuc 127) ∷ [])
+    ∷ check (take 1 (drop 19 (readHeaders 2 (p6 255)))) (signed (negsuc 0) ∷ [])
+    ∷ check (take 1 (drop 19 (readHeaders 2 (p6 127)))) (signed (pos 127) ∷ [])
+    -- P7 telemetry row, first 4,294,967,290: number 3 at position 9; 1,017 is the last; 1,018 refused 28.
+    ∷ numbers (position key highFirst 3 ∷ position key highFirst 1017 ∷ []) (9 ∷ 1023 ∷ [])
+    ∷ numbers (verdicts p7) (0 ∷ 0 ∷ 0 ∷ 0 ∷ 28 ∷ 0 ∷ [])
+    ∷ numbers (reportAfter p7) (0 ∷ 2 ∷ 1022 ∷ highFirst ∷ [])
+    -- P8 first 1, ticks 1, 2, 4: ticked 3, missing 1, lowest missing 3. No ticks: 0, 0, none.
+    ∷ numbers (reportAfter p8) (0 ∷ 3 ∷ 1 ∷ 3 ∷ [])
+    ∷ numbers (reportAfter p8-empty) (0 ∷ 0 ∷ 0 ∷ [])
+    -- P9 A saves; B's save gives 31, the row has 1. B opens, ticks 2, saves: 1 and 2.
+    ∷ numbers (verdicts p9) (0 ∷ 0 ∷ 0 ∷ 0 ∷ 0 ∷ 0 ∷ 31 ∷ 0 ∷ 0 ∷ 0 ∷ [])
+    ∷ numbers (tickByteAfter p9-stale ++ reportAfter p9-stale) (1 ∷ 0 ∷ 1 ∷ 0 ∷ [])
+    ∷ numbers (tickByteAfter p9 ++ reportAfter p9) (3 ∷ 0 ∷ 2 ∷ 0 ∷ [])
+    -- P10 the row is back at what A opened: accepted, 7.
+    ∷ numbers (verdicts p10) (0 ∷ 0 ∷ 0 ∷ 0 ∷ 0 ∷ 0 ∷ 0 ∷ 0 ∷ 0 ∷ 0 ∷ [])
+    ∷ numbers (tickByteAfter p10) (64 ∷ [])
+    ∷ []

@@ -1,0 +1,155 @@
+//! Benchmarks: each call over fixed inputs, in nanoseconds a call, the best of several passes. With the feature
+//! `rattle` every line has the proved library's time too, and the ratio.
+
+use crate::make::Rng;
+use crate::record::{RSR, TELEMETRY};
+use crate::stream::{self, Entry, Stop};
+use crate::{ledger, list, nights, record, sample};
+use std::hint::black_box;
+use std::time::Instant;
+
+const PASSES: usize = 7;
+/// A pass lasts about this long.
+const PASS_SECONDS: f64 = 0.05;
+
+/// The calls that are timed. Each returns a number made of its answer, by which implementations are held to the same.
+pub struct Implementation {
+    pub name: &'static str,
+    pub read_headers: fn(&[u8], u32) -> u64,
+    pub walk: fn(&[u8]) -> u64,
+    pub is_sheet: fn(&[u8]) -> u64,
+    pub tick: fn(&mut [u8], u32, u32) -> u64,
+    pub untick: fn(&mut [u8], u32, u32) -> u64,
+    pub report: fn(&[u8], u32) -> u64,
+    pub table: fn(&[u8], &mut [Entry]) -> Stop,
+}
+
+pub const REFERENCE: Implementation = Implementation {
+    name: "reference",
+    // 0, or the refusal number.
+    read_headers: |s, wanted| match black_box(record::read_headers(s, wanted)) {
+        Ok(_) => 0,
+        Err(record::Refused::Number(refusal)) => refusal as u64,
+        Err(record::Refused::Field(_)) => 12,
+    },
+    // The count of whole records.
+    walk: |s| black_box(stream::walk(s)).count,
+    is_sheet: |s| ledger::is_sheet(s) as u64,
+    tick: |s, desk, n| ledger::tick(s, desk, n).err().unwrap_or(0) as u64,
+    untick: |s, desk, n| ledger::untick(s, desk, n).err().unwrap_or(0) as u64,
+    // The ticked and the missing count.
+    report: |s, row| match black_box(ledger::report(s, row)) {
+        Ok(report) => (report.ticked as u64) << 32 | report.missing as u64,
+        Err(refusal) => refusal as u64,
+    },
+    table: stream::table,
+};
+
+pub fn implementations() -> Vec<Implementation> {
+    #[cfg(feature = "rattle")]
+    return vec![REFERENCE, crate::rattle::RATTLE];
+    #[cfg(not(feature = "rattle"))]
+    vec![REFERENCE]
+}
+
+/// As many tries as make a pass.
+fn tries(mut try_once: impl FnMut() -> u64) -> usize {
+    let start = Instant::now();
+    black_box(try_once());
+    (PASS_SECONDS / start.elapsed().as_secs_f64().max(1e-9)).clamp(1.0, 1e6) as usize
+}
+
+/// Seconds of one try in a pass of several.
+fn pass(tries: usize, mut try_once: impl FnMut() -> u64) -> f64 {
+    let start = Instant::now();
+    for _ in 0..tries {
+        black_box(try_once());
+    }
+    start.elapsed().as_secs_f64() / tries as f64
+}
+
+/// One line: the best pass of each implementation, and how many times the first one's the others take. The passes
+/// take turns, so that a busy machine slows all alike.
+fn compare(name: &str, calls: f64, each: &[Implementation], mut run: impl FnMut(&Implementation) -> u64) {
+    let expected = run(&each[0]);
+    for implementation in each {
+        assert_eq!(run(implementation), expected, "{name}: {} answers otherwise", implementation.name);
+    }
+    let tries = tries(|| run(&each[0]));
+    let mut best = vec![f64::INFINITY; each.len()];
+    for _ in 0..PASSES {
+        for (implementation, best) in each.iter().zip(&mut best) {
+            *best = best.min(pass(tries, || run(implementation)));
+        }
+    }
+    let times = best.iter().map(|time| format!(" {:12.2} {:6.2}", time * 1e9 / calls, time / best[0]));
+    println!("{name:44}{}", times.collect::<String>());
+}
+
+pub fn run() {
+    let each = implementations();
+    let names: Vec<String> = each.iter().map(|i| format!(" {:>12} {:>6}", i.name, "times")).collect();
+    println!("{:44}{}", "nanoseconds a call", names.concat());
+    for (name, kind) in [("read headers, telemetry", TELEMETRY), ("read headers, RSR", RSR)] {
+        let s = sample::headers_sample(kind);
+        compare(name, 1.0, &each, |i| (i.read_headers)(black_box(&s), black_box(kind)));
+    }
+    for (name, records, length) in
+        [("walk, a record of 120 bytes", 1_000_000, 120), ("walk, a record of 1,000 bytes", 100_000, 1_000)]
+    {
+        let s = sample::telemetry_stream(records, length);
+        compare(name, records as f64, &each, |i| (i.walk)(black_box(&s)));
+        let mut entries = vec![Entry::default(); records as usize];
+        let name = name.replace("walk", "table");
+        compare(&name, records as f64, &each, |i| (i.table)(black_box(&s), &mut entries).count);
+    }
+    let (empty, full) = (fresh_sheet(), nights::full_sheet(&Rng::new(1)));
+    for (name, s) in [("is it a sheet: fresh", &empty), ("is it a sheet: 32 rows, 8 desks open", &full)] {
+        compare(name, 1.0, &each, |i| (i.is_sheet)(black_box(s)));
+    }
+    ledger_calls("a tick or untick: one row", &mut one_row_sheet(), &each);
+    ledger_calls("a tick or untick: 32 rows, 8 desks open", &mut full.clone(), &each);
+    for (name, s) in [("row report: one row", &one_row_sheet()), ("row report: 32 rows, 8 desks open", &full)] {
+        compare(name, 1.0, &each, |i| (i.report)(black_box(s), 0));
+    }
+    listing();
+}
+
+fn fresh_sheet() -> Vec<u8> {
+    let mut s = vec![0; ledger::SHEET];
+    ledger::fresh(&mut s).expect("the length is right");
+    s
+}
+
+fn one_row_sheet() -> Vec<u8> {
+    let mut s = fresh_sheet();
+    ledger::enrol(&mut s, 760_930_632_193, 1).expect("a fresh sheet");
+    ledger::open(&mut s, 0, 0).expect("a closed desk");
+    for n in [1, 2, 4, 900] {
+        ledger::tick(&mut s, 0, n).expect("not ticked");
+    }
+    ledger::save(&mut s, 0).expect("not stale");
+    ledger::open(&mut s, 0, 0).expect("a closed desk");
+    s
+}
+
+/// Ticks a number and unticks it (or the other way about), which leaves the sheet as it was.
+fn ledger_calls(name: &str, s: &mut [u8], each: &[Implementation]) {
+    let n = ledger::first(&ledger::desk(s, 0)[ledger::WORKED..]).wrapping_add(100);
+    let _ = ledger::untick(s, 0, n);
+    compare(name, 2.0, each, |i| (i.tick)(black_box(s), 0, n) << 8 | (i.untick)(black_box(s), 0, n));
+}
+
+/// The lister in memory, without the system's reads; whole programs are timed on a file of `reference big`.
+fn listing() {
+    let mut stream = Vec::new();
+    sample::big(64 << 20, &mut stream).expect("memory");
+    let mut text = Vec::new();
+    let mut list_once = || {
+        text.clear();
+        list::list(&stream[..], &mut text).expect("memory").expect("memory");
+        text.len() as u64
+    };
+    let time = (0..PASSES).map(|_| pass(3, &mut list_once)).fold(f64::INFINITY, f64::min);
+    println!("{:44} {:12.2}", "listing, megabytes a second (reference)", stream.len() as f64 / time / 1e6);
+}

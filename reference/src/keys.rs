@@ -1,0 +1,31 @@
+//! Stream keys. Document 01: 'Stream key'.
+
+/// RSR keys start here, and take 32 bits from here on.
+pub const FIRST_RSR: u64 = 1 << 42;
+pub const PAST_RSR: u64 = FIRST_RSR + (1 << 32);
+
+pub fn valid(key: u64) -> bool {
+    key < FIRST_RSR || (FIRST_RSR <= key && key < PAST_RSR)
+}
+
+fn fits(number: u32, bits: u32) -> bool {
+    (number as u64) < 1 << bits
+}
+
+pub fn telemetry_key(spacecraft: u32, source: u32, equipment: u32, stream: u32) -> Result<u64, u32> {
+    if !(fits(spacecraft, 10) && fits(source, 8) && fits(equipment, 16) && fits(stream, 8)) {
+        return Err(22);
+    }
+    Ok(((spacecraft as u64) << 32) + ((source as u64) << 24) + ((equipment as u64) << 8) + stream as u64)
+}
+
+pub fn rsr_key(spacecraft: u32, station: u32, receiver: u32, subchannel: u32) -> Result<u64, u32> {
+    if !(fits(spacecraft, 8) && fits(station, 8) && fits(receiver, 8) && fits(subchannel, 8)) {
+        return Err(22);
+    }
+    Ok(FIRST_RSR
+        + ((spacecraft as u64) << 24)
+        + ((station as u64) << 16)
+        + ((receiver as u64) << 8)
+        + subchannel as u64)
+}

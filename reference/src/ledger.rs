@@ -1,0 +1,303 @@
+//! The ledger sheet. Document 01: 'The ledger sheet'. In each call the sheet is judged first
+//! (20), then the refusals stand in the table's order.
+
+use crate::keys;
+use crate::record::number;
+
+pub const SHEET: usize = 6_776;
+pub const ROW_PLACES: usize = 32;
+pub const ROWS: usize = 24;
+pub const ROW: usize = 140;
+pub const DESK_PLACES: usize = 8;
+pub const DESKS: usize = 4_504;
+pub const DESK: usize = 284;
+pub const POSITIONS: u32 = 1_024;
+
+// Offsets in the header, a row and a desk.
+pub const USED: usize = 4;
+pub const FIRST: usize = 8;
+pub const TICKS: usize = 12;
+pub const ROW_NAMED: usize = 1;
+pub const OPENED: usize = 4;
+pub const WORKED: usize = 144;
+
+pub fn row_place(row: usize) -> usize {
+    ROWS + row * ROW
+}
+
+pub fn desk_place(desk: usize) -> usize {
+    DESKS + desk * DESK
+}
+
+pub fn row(s: &[u8], row: usize) -> &[u8] {
+    &s[row_place(row)..][..ROW]
+}
+
+pub fn desk(s: &[u8], desk: usize) -> &[u8] {
+    &s[desk_place(desk)..][..DESK]
+}
+
+pub fn rows_used(s: &[u8]) -> usize {
+    number(s, USED, 4) as usize
+}
+
+pub fn key(row: &[u8]) -> u64 {
+    number(row, 0, 8)
+}
+
+pub fn first(row: &[u8]) -> u32 {
+    number(row, FIRST, 4) as u32
+}
+
+fn ticks(row: &[u8]) -> &[u8] {
+    &row[TICKS..ROW]
+}
+
+fn all_zero(s: &[u8]) -> bool {
+    s.iter().fold(0, |all, byte| all | byte) == 0
+}
+
+fn write_header(s: &mut [u8], used: usize) {
+    let header = [SHEET, used, ROW_PLACES, ROWS, DESK_PLACES, DESKS];
+    for (i, value) in header.iter().enumerate() {
+        s[4 * i..4 * i + 4].copy_from_slice(&(*value as u32).to_be_bytes());
+    }
+}
+
+/// 'A sheet is right when'.
+pub fn is_sheet(s: &[u8]) -> bool {
+    s.len() == SHEET && header_right(s) && rows_right(s) && (0..DESK_PLACES).all(|d| desk_right(s, d))
+}
+
+fn header_right(s: &[u8]) -> bool {
+    let header = |i: usize| number(s, 4 * i, 4) as usize;
+    header(0) == SHEET
+        && header(1) <= ROW_PLACES
+        && header(2) == ROW_PLACES
+        && header(3) == ROWS
+        && header(4) == DESK_PLACES
+        && header(5) == DESKS
+}
+
+/// Used rows come first with valid, different keys; unused rows are all zero.
+fn rows_right(s: &[u8]) -> bool {
+    let used = rows_used(s);
+    let new_key = |r| (0..r).all(|earlier| key(row(s, earlier)) != key(row(s, r)));
+    (0..used).all(|r| keys::valid(key(row(s, r))) && new_key(r)) && all_zero(&s[row_place(used)..DESKS])
+}
+
+/// Closed and all zero, or open with a used row, two zeros, and copies that carry its key and first number.
+fn desk_right(s: &[u8], d: usize) -> bool {
+    let desk = desk(s, d);
+    let named = desk[ROW_NAMED] as usize;
+    match desk[0] {
+        0 => all_zero(desk),
+        1 => {
+            all_zero(&desk[2..4])
+                && named < rows_used(s)
+                && desk[OPENED..][..TICKS] == row(s, named)[..TICKS]
+                && desk[WORKED..][..TICKS] == row(s, named)[..TICKS]
+        }
+        _ => false,
+    }
+}
+
+fn judge_sheet(s: &[u8]) -> Result<(), u32> {
+    if is_sheet(s) {
+        Ok(())
+    } else {
+        Err(20)
+    }
+}
+
+/// The desk, if it is one of the eight (21).
+fn judge_desk(desk: u32) -> Result<usize, u32> {
+    if (desk as usize) < DESK_PLACES {
+        Ok(desk as usize)
+    } else {
+        Err(21)
+    }
+}
+
+/// The row, if it is a used one (25).
+fn judge_row(s: &[u8], row: u32) -> Result<usize, u32> {
+    if (row as usize) < rows_used(s) {
+        Ok(row as usize)
+    } else {
+        Err(25)
+    }
+}
+
+/// The desk (20, 21), if it has a row open (27).
+fn judge_open_desk(s: &[u8], d: u32) -> Result<usize, u32> {
+    judge_sheet(s)?;
+    let d = judge_desk(d)?;
+    if desk(s, d)[0] == 1 {
+        Ok(d)
+    } else {
+        Err(27)
+    }
+}
+
+fn row_with(s: &[u8], wanted: u64) -> Option<usize> {
+    (0..rows_used(s)).find(|r| key(row(s, *r)) == wanted)
+}
+
+fn clear_desk(s: &mut [u8], desk: usize) {
+    s[desk_place(desk)..][..DESK].fill(0);
+}
+
+/// Makes a fresh sheet; judges only the length.
+pub fn fresh(s: &mut [u8]) -> Result<(), u32> {
+    if s.len() != SHEET {
+        return Err(20);
+    }
+    s.fill(0);
+    write_header(s, 0);
+    Ok(())
+}
+
+pub fn enrol(s: &mut [u8], key: u64, first: u32) -> Result<usize, u32> {
+    judge_sheet(s)?;
+    if !keys::valid(key) {
+        return Err(22);
+    }
+    if row_with(s, key).is_some() {
+        return Err(23);
+    }
+    let row = rows_used(s);
+    if row == ROW_PLACES {
+        return Err(24);
+    }
+    let place = row_place(row);
+    s[place..place + FIRST].copy_from_slice(&key.to_be_bytes());
+    s[place + FIRST..place + TICKS].copy_from_slice(&first.to_be_bytes());
+    s[place + TICKS..place + ROW].copy_from_slice(&[0; 128]);
+    write_header(s, row + 1);
+    Ok(row)
+}
+
+pub fn find(s: &[u8], key: u64) -> Result<usize, u32> {
+    judge_sheet(s)?;
+    if !keys::valid(key) {
+        return Err(22);
+    }
+    row_with(s, key).ok_or(25)
+}
+
+pub fn open(s: &mut [u8], d: u32, r: u32) -> Result<(), u32> {
+    judge_sheet(s)?;
+    let d = judge_desk(d)?;
+    let r = judge_row(s, r)?;
+    if desk(s, d)[0] == 1 {
+        return Err(26);
+    }
+    let place = desk_place(d);
+    s[place] = 1;
+    s[place + ROW_NAMED] = r as u8;
+    let row = row_place(r)..row_place(r) + ROW;
+    s.copy_within(row.clone(), place + OPENED);
+    s.copy_within(row, place + WORKED);
+    Ok(())
+}
+
+/// (n - first) mod 2^32, where that is in the row.
+pub fn position(first: u32, n: u32) -> Option<u32> {
+    let position = n.wrapping_sub(first);
+    if position < POSITIONS {
+        Some(position)
+    } else {
+        None
+    }
+}
+
+fn ticked(ticks: &[u8], position: u32) -> bool {
+    ticks[position as usize / 8] >> (position % 8) & 1 == 1
+}
+
+pub fn tick(s: &mut [u8], desk: u32, n: u32) -> Result<(), u32> {
+    set_tick(s, desk, n, true)
+}
+
+pub fn untick(s: &mut [u8], desk: u32, n: u32) -> Result<(), u32> {
+    set_tick(s, desk, n, false)
+}
+
+/// Changes one bit of the desk's worked copy; 29 and 30 are judged on that copy.
+fn set_tick(s: &mut [u8], desk: u32, n: u32, wanted: bool) -> Result<(), u32> {
+    let desk = judge_open_desk(s, desk)?;
+    let worked = &mut s[desk_place(desk) + WORKED..][..ROW];
+    let Some(position) = position(first(worked), n) else {
+        return Err(28);
+    };
+    if ticked(ticks(worked), position) == wanted {
+        return Err(if wanted { 29 } else { 30 });
+    }
+    worked[TICKS + position as usize / 8] ^= 1 << (position % 8);
+    Ok(())
+}
+
+pub fn save(s: &mut [u8], d: u32) -> Result<(), u32> {
+    let d = judge_open_desk(s, d)?;
+    let r = desk(s, d)[ROW_NAMED] as usize;
+    let stale = row(s, r) != &desk(s, d)[OPENED..WORKED];
+    if !stale {
+        let worked = desk_place(d) + WORKED;
+        s.copy_within(worked..worked + ROW, row_place(r));
+    }
+    clear_desk(s, d);
+    if stale {
+        Err(31)
+    } else {
+        Ok(())
+    }
+}
+
+pub fn drop_desk(s: &mut [u8], desk: u32) -> Result<(), u32> {
+    let desk = judge_open_desk(s, desk)?;
+    clear_desk(s, desk);
+    Ok(())
+}
+
+#[derive(Debug, PartialEq)]
+pub struct Report {
+    pub ticked: u32,
+    pub missing: u32,
+    pub lowest: Option<u32>,
+}
+
+/// The ticked positions are counted, and those unticked below the highest of them are missing.
+pub fn report(s: &[u8], r: u32) -> Result<Report, u32> {
+    judge_sheet(s)?;
+    let r = judge_row(s, r)?;
+    let ticks = ticks(row(s, r));
+    let ticked: u32 = ticks.iter().map(|byte| byte.count_ones()).sum();
+    let missing = match highest_ticked(ticks) {
+        Some(highest) => highest + 1 - ticked,
+        None => 0,
+    };
+    Ok(Report { ticked, missing, lowest: lowest_missing_number(row(s, r)) })
+}
+
+fn highest_ticked(ticks: &[u8]) -> Option<u32> {
+    let last = ticks.iter().rposition(|byte| *byte != 0)?;
+    Some(8 * last as u32 + 7 - ticks[last].leading_zeros())
+}
+
+fn lowest_unticked(ticks: &[u8]) -> Option<u32> {
+    let byte = ticks.iter().position(|byte| *byte != 0xFF)?;
+    Some(8 * byte as u32 + ticks[byte].trailing_ones())
+}
+
+fn lowest_missing_number(row: &[u8]) -> Option<u32> {
+    let highest = highest_ticked(ticks(row))?;
+    let position = lowest_unticked(ticks(row)).filter(|position| *position < highest)?;
+    Some(first(row).wrapping_add(position))
+}
+
+/// The first missing number, and its row.
+pub fn first_gap(s: &[u8]) -> Result<Option<(u32, usize)>, u32> {
+    judge_sheet(s)?;
+    let gap = |r| lowest_missing_number(row(s, r)).map(|number| (number, r));
+    Ok((0..rows_used(s)).find_map(gap))
+}

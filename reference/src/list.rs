@@ -1,0 +1,121 @@
+//! The listing program. Document 01: its example, and refusal 17.
+
+use crate::record::{self, Record, TELEMETRY};
+use std::ffi::OsString;
+use std::fs::File;
+use std::io::{self, Read, Write};
+
+pub const WINDOW: usize = 65_536;
+pub const HEADING: &str = "place length kind number";
+
+/// Lists each file, or standard input where none is named; several under a line with the name.
+/// A file that cannot be opened or read is told of on standard error. Answers whether all went well.
+pub fn list_files(names: &[OsString], out: &mut impl Write) -> io::Result<bool> {
+    if names.is_empty() {
+        return list_one("standard input", Ok(io::stdin().lock()), out);
+    }
+    let mut well = true;
+    for name in names {
+        let file = File::open(name);
+        if names.len() > 1 && file.is_ok() {
+            out.write_all(name.as_encoded_bytes())?;
+            out.write_all(b"\n")?;
+        }
+        well &= list_one(&name.to_string_lossy(), file, out)?;
+    }
+    Ok(well)
+}
+
+fn list_one(name: &str, input: io::Result<impl Read>, out: &mut impl Write) -> io::Result<bool> {
+    let listed = match input {
+        Ok(input) => list(input, out)?,
+        Err(reason) => Err(reason),
+    };
+    out.flush()?;
+    if let Err(reason) = &listed {
+        eprintln!("{name}: {reason}");
+    }
+    Ok(listed.is_ok())
+}
+
+/// The bytes of the input that are in memory: those from `start` to `end`.
+struct Window<R> {
+    input: R,
+    bytes: Vec<u8>,
+    start: usize,
+    end: usize,
+    at_end: bool,
+}
+
+impl<R: Read> Window<R> {
+    fn new(input: R) -> Window<R> {
+        Window { input, bytes: vec![0; WINDOW], start: 0, end: 0, at_end: false }
+    }
+
+    fn held(&self) -> &[u8] {
+        &self.bytes[self.start..self.end]
+    }
+
+    /// Moves what is held to the front, and reads on until the window is full or the input ends.
+    fn refill(&mut self) -> io::Result<()> {
+        self.bytes.copy_within(self.start..self.end, 0);
+        self.end -= self.start;
+        self.start = 0;
+        while self.end < WINDOW && !self.at_end {
+            match self.input.read(&mut self.bytes[self.end..]) {
+                Ok(0) => self.at_end = true,
+                Ok(count) => self.end += count,
+                Err(reason) if reason.kind() == io::ErrorKind::Interrupted => {}
+                Err(reason) => return Err(reason),
+            }
+        }
+        Ok(())
+    }
+
+    /// The record at the start of what is held; 1 and 6 are believed only when the window can hold no more.
+    fn record(&mut self) -> io::Result<Result<Record, u32>> {
+        let answer = read_in_window(self.held());
+        if !self.at_end && matches!(answer, Err(1 | 6)) {
+            self.refill()?;
+            return Ok(read_in_window(self.held()));
+        }
+        Ok(answer)
+    }
+}
+
+/// Read one, with 17 straight after 5.
+pub fn read_in_window(s: &[u8]) -> Result<Record, u32> {
+    let (layout, n) = record::read_label(s)?;
+    if n > WINDOW {
+        return Err(17);
+    }
+    record::read_blocks(s, layout, n)
+}
+
+/// Lists one stream. The outer failure is that of `out`, the inner one a read that failed:
+/// then the stop is not known, and no last line is written.
+pub fn list(input: impl Read, out: &mut impl Write) -> io::Result<io::Result<()>> {
+    let mut window = Window::new(input);
+    let mut place = 0u64;
+    writeln!(out, "{HEADING}")?;
+    loop {
+        let answer = match window.record() {
+            Ok(answer) => answer,
+            Err(reason) => return Ok(Err(reason)),
+        };
+        match answer {
+            Ok(record) => {
+                let number = record::record_number(window.held(), record.kind);
+                let letter = if record.kind == TELEMETRY { 'T' } else { 'R' };
+                writeln!(out, "{place} {} {letter} {number}", record.length)?;
+                window.start += record.length;
+                place += record.length as u64;
+            }
+            Err(refusal) => {
+                let stop = if window.held().is_empty() { 0 } else { refusal };
+                writeln!(out, "{place} {stop}")?;
+                return Ok(Ok(()));
+            }
+        }
+    }
+}

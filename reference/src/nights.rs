@@ -1,0 +1,450 @@
+//! The ledger's part of random scripts: nights of calls by eight desks, and sheets right and damaged.
+
+use crate::keys::{FIRST_RSR, PAST_RSR};
+use crate::ledger::{self, DESK_PLACES, OPENED, POSITIONS, ROW, ROW_PLACES, SHEET, TICKS, WORKED};
+use crate::make::{put, Rng};
+use crate::random::Generator;
+use crate::script::{Frame, MOST_SHEET};
+
+const VALID_EDGES: [u64; 7] = [0, 1, 1 << 32, FIRST_RSR - 1, FIRST_RSR, FIRST_RSR + 1, PAST_RSR - 1];
+/// `new_key` does not give it but by chance.
+const KEY_OF_NO_OTHER: u64 = 1_000 << 32;
+const BAD_KEYS: [u64; 7] = [PAST_RSR, PAST_RSR + 1, FIRST_RSR << 1, 1 << 63, u64::MAX, (1 << 48) + 5, u64::MAX - 1];
+const FIRSTS: [u32; 9] = [0, 1, 2, 1_000, 65_530, u32::MAX, u32::MAX - 5, u32::MAX - 1_023, u32::MAX - 1_024];
+const BAD_DESKS: [u32; 6] = [8, 9, 255, 256, 264, u32::MAX];
+
+#[derive(Clone, Copy)]
+pub enum NightCase {
+    /// A few rows that many desks want: most saves meet another's.
+    Crowded,
+    /// Every row, and one enrolment more.
+    Full,
+    /// From a right sheet with ticks everywhere and desks in the middle of their work.
+    Underway,
+    /// Calls of any kind with little regard to the sheet.
+    Careless,
+}
+
+pub const NIGHT_CASES: [NightCase; 8] = [
+    NightCase::Crowded,
+    NightCase::Crowded,
+    NightCase::Crowded,
+    NightCase::Crowded,
+    NightCase::Full,
+    NightCase::Underway,
+    NightCase::Underway,
+    NightCase::Careless,
+];
+
+/// Short plays of two desks whose outcome turns on one rule.
+#[derive(Clone, Copy)]
+pub enum Piece {
+    /// The row was changed and changed back: the save is good.
+    ChangedBack,
+    /// As many ticks as before, but others: the save is stale.
+    SameCount,
+    /// The row's ends, and a gap after a run of ticks.
+    Ends,
+}
+
+pub const PIECES: [Piece; 3] = [Piece::ChangedBack, Piece::SameCount, Piece::Ends];
+
+impl Generator {
+    pub fn night(&mut self) {
+        if self.calls.sheet.len() != SHEET {
+            // A fresh sheet cannot be made in it.
+            self.emit(Frame { op: 19, a: vec![0; SHEET], ..Frame::default() });
+        }
+        match self.nights.deal(&self.rng) {
+            NightCase::Crowded => {
+                self.emit(Frame { op: 20, ..Frame::default() });
+                self.enrol_rows(self.rng.between(1, 3));
+                self.piece();
+                self.work(self.rng.between(40, 90));
+            }
+            NightCase::Full => {
+                self.emit(Frame { op: 20, ..Frame::default() });
+                self.enrol_rows(ROW_PLACES);
+                self.emit(Frame { op: 21, key: self.key_not_there(), x: self.first_number(), ..Frame::default() });
+                self.work(20);
+            }
+            NightCase::Underway => {
+                self.emit(Frame { op: 19, a: right_sheet(&self.rng), ..Frame::default() });
+                self.work(self.rng.between(8, 40));
+            }
+            NightCase::Careless => {
+                for _ in 0..self.rng.between(10, 30) {
+                    let op = self.rng.between(20, 29) as u32;
+                    self.call(op);
+                }
+            }
+        }
+    }
+
+    /// A sheet right or damaged, and calls on it.
+    pub fn sheets(&mut self) {
+        let case = self.sheets.deal(&self.rng);
+        self.emit(Frame { op: 19, a: sheet_case(&self.rng, case), ..Frame::default() });
+        for _ in 0..self.rng.between(2, 4) {
+            let op = self.sheet_ops.deal(&self.rng);
+            self.call(op);
+        }
+        if self.rng.percent(20) {
+            self.call(20);
+        }
+    }
+
+    fn piece(&mut self) {
+        let first = ledger::first(ledger::row(&self.view(), 0));
+        let (a, b) = (self.rng.below(4) as u32, self.rng.between(4, 7) as u32);
+        let run = self.rng.between(1, 9) as u32;
+        let (one, other) = (self.rng.below(500) as u32, self.rng.between(500, 1_023) as u32);
+        let desk_opens = |desk| vec![(23, desk, 0)];
+        let changes = |desk, op, position| vec![(op, desk, first.wrapping_add(position))];
+        let saves = |desk| vec![(26, desk, 0), (28, 0, 0)];
+        let once = |op, position| [desk_opens(b), changes(b, op, position), saves(b)].concat();
+        let calls = match self.pieces.deal(&self.rng) {
+            Piece::ChangedBack => {
+                [desk_opens(a), once(24, one), once(25, one), changes(a, 24, other), saves(a)].concat()
+            }
+            Piece::SameCount => {
+                [once(24, one), desk_opens(a), once(25, one), once(24, other), changes(a, 24, 7), saves(a)].concat()
+            }
+            Piece::Ends => {
+                let from_start = (0..run).flat_map(|position| changes(a, 24, position)).collect();
+                let ends = [POSITIONS, u32::MAX, POSITIONS - 1].map(|position| changes(a, 24, position)).concat();
+                [desk_opens(a), from_start, saves(a), desk_opens(a), ends, saves(a), vec![(29, 0, 0)]].concat()
+            }
+        };
+        for (op, x, y) in calls {
+            self.emit(Frame { op, x, y, ..Frame::default() });
+        }
+    }
+
+    fn enrol_rows(&mut self, rows: usize) {
+        for _ in 0..rows {
+            self.emit(Frame { op: 21, key: self.key_not_there(), x: self.first_number(), ..Frame::default() });
+        }
+    }
+
+    /// Calls that mostly have something to do on the sheet as it stands.
+    fn work(&mut self, calls: usize) {
+        for _ in 0..calls {
+            let no_rows = ledger::rows_used(&self.view()) == 0;
+            let op = match self.rng.below(200) {
+                _ if no_rows && self.rng.percent(70) => 21,
+                0 => 20,
+                1..=10 => 21,
+                11..=18 => 22,
+                19..=38 => 28,
+                39..=44 => 29,
+                45..=60 => self.rng.between(23, 27) as u32,
+                _ => 0,
+            };
+            if op == 0 {
+                self.desk_work();
+            } else {
+                self.call(op);
+            }
+        }
+    }
+
+    /// One of the eight desks opens a row, or goes on with the one it has.
+    fn desk_work(&mut self) {
+        let view = self.view();
+        let x = self.rng.below(DESK_PLACES as u64) as u32;
+        let open = ledger::desk(&view, x as usize)[0] == 1;
+        let ticked = self.ticked_number(x);
+        let frame = match self.rng.below(100) {
+            roll if roll <= 3 || !open => Frame { op: 23, x, y: self.row(), ..Frame::default() },
+            4..=9 if ticked.is_some() => Frame { op: 24, x, y: ticked.unwrap_or(0), ..Frame::default() },
+            10..=28 if ticked.is_some() => Frame { op: 25, x, y: ticked.unwrap_or(0), ..Frame::default() },
+            29..=34 => Frame { op: 25, x, y: self.number(x), ..Frame::default() },
+            4..=64 => Frame { op: 24, x, y: self.number(x), ..Frame::default() },
+            65..=91 => Frame { op: 26, x, ..Frame::default() },
+            _ => Frame { op: 27, x, ..Frame::default() },
+        };
+        self.emit(frame);
+    }
+
+    /// A call of this op, with arguments good and bad.
+    fn call(&mut self, op: u32) {
+        let frame = match op {
+            21 => Frame { op, key: self.enrolment_key(), x: self.first_number(), ..Frame::default() },
+            22 => Frame { op, key: self.enrolment_key(), ..Frame::default() },
+            23 => Frame { op, x: self.desk(), y: self.row(), ..Frame::default() },
+            24 | 25 => {
+                let x = self.desk();
+                Frame { op, x, y: self.number(x), ..Frame::default() }
+            }
+            26 | 27 => Frame { op, x: self.desk(), ..Frame::default() },
+            28 => Frame { op, x: self.row(), ..Frame::default() },
+            _ => Frame { op, ..Frame::default() },
+        };
+        self.emit(frame);
+    }
+
+    /// The sheet, where it is one; else a fresh one, for the choice of numbers only.
+    fn view(&self) -> Vec<u8> {
+        let mut view = self.calls.sheet.clone();
+        if !ledger::is_sheet(&view) {
+            view = vec![0; SHEET];
+            ledger::fresh(&mut view).expect("the length is right");
+        }
+        view
+    }
+
+    /// A key: new, one that is there, or a bad one.
+    fn enrolment_key(&self) -> u64 {
+        let view = self.view();
+        let used = ledger::rows_used(&view);
+        match self.rng.below(10) {
+            0..=3 if used > 0 => ledger::key(ledger::row(&view, self.rng.index(used))),
+            4..=5 => self.rng.pick(&BAD_KEYS),
+            _ => new_key(&self.rng),
+        }
+    }
+
+    fn key_not_there(&self) -> u64 {
+        let view = self.view();
+        loop {
+            let key = new_key(&self.rng);
+            if ledger::find(&view, key).is_err() {
+                return key;
+            }
+        }
+    }
+
+    fn first_number(&self) -> u32 {
+        first_number(&self.rng)
+    }
+
+    fn desk(&self) -> u32 {
+        if self.rng.percent(12) {
+            self.rng.pick(&BAD_DESKS)
+        } else {
+            self.rng.below(DESK_PLACES as u64) as u32
+        }
+    }
+
+    /// A row, mostly a used one.
+    fn row(&self) -> u32 {
+        let used = ledger::rows_used(&self.view()) as u32;
+        if used == 0 || self.rng.percent(6) {
+            return self.rng.pick(&[0, used, used + 1, 31, 32, 255, 256, 256 + used, u32::MAX]);
+        }
+        self.rng.below(used as u64) as u32
+    }
+
+    /// A number for the desk's row: few different ones, so that many are already ticked; also the row's edges.
+    fn number(&self, desk: u32) -> u32 {
+        let view = self.view();
+        let desk = desk as usize % DESK_PLACES;
+        let first = ledger::first(&ledger::desk(&view, desk)[WORKED..]);
+        let rng = &self.rng;
+        let position = match rng.below(20) {
+            0..=10 => rng.below(10) as u32,
+            11..=15 => rng.below(POSITIONS as u64) as u32,
+            16 => rng.pick(&[1_022, POSITIONS - 1, 7, 8]),
+            17 => rng.pick(&[POSITIONS, POSITIONS + 1, u32::MAX, 1 << 16, 1 << 31]),
+            18 => rng.pick(&[0u32, u32::MAX, 1 << 31]).wrapping_sub(first),
+            _ => rng.word(),
+        };
+        first.wrapping_add(position)
+    }
+
+    /// A number that the desk has ticked.
+    fn ticked_number(&self, desk: u32) -> Option<u32> {
+        let view = self.view();
+        let worked = &ledger::desk(&view, desk as usize)[WORKED..];
+        let ticked: Vec<u32> = (0..POSITIONS).filter(|p| worked[TICKS + *p as usize / 8] >> (p % 8) & 1 == 1).collect();
+        if ticked.is_empty() {
+            None
+        } else {
+            Some(ledger::first(worked).wrapping_add(self.rng.pick(&ticked)))
+        }
+    }
+}
+
+/// One of some hundred valid keys, an edge, or any.
+fn new_key(rng: &Rng) -> u64 {
+    match rng.below(4) {
+        0 => rng.pick(&VALID_EDGES),
+        1 => FIRST_RSR + (177 << 24) + rng.below(50),
+        2 => (177 << 32) + (43 << 24) + rng.below(50),
+        _ => rng.below(PAST_RSR),
+    }
+}
+
+fn first_number(rng: &Rng) -> u32 {
+    if rng.percent(80) {
+        rng.pick(&FIRSTS)
+    } else {
+        rng.word()
+    }
+}
+
+// Sheets.
+
+/// Any right sheet: rows with ticks of every sort, and desks closed or in the middle of their work.
+fn right_sheet(rng: &Rng) -> Vec<u8> {
+    let used = rng.pick(&[0, 1, 2, 3, 5, 31, 32, 32]);
+    let open = rng.pick(&[0, 20, 60, 100]);
+    sheet_with(rng, used, open)
+}
+
+/// A right sheet with every row used and every desk open.
+pub fn full_sheet(rng: &Rng) -> Vec<u8> {
+    sheet_with(rng, ROW_PLACES, 100)
+}
+
+fn sheet_with(rng: &Rng, used: usize, open_percent: u64) -> Vec<u8> {
+    let mut s = vec![0; SHEET];
+    ledger::fresh(&mut s).expect("the length is right");
+    while ledger::rows_used(&s) < used {
+        let (key, first) = (new_key(rng), first_number(rng));
+        if let Ok(row) = ledger::enrol(&mut s, key, first) {
+            let ticks = ticks(rng);
+            s[ledger::row_place(row) + TICKS..][..ROW - TICKS].copy_from_slice(&ticks);
+        }
+    }
+    for desk in 0..DESK_PLACES {
+        if used > 0 && rng.percent(open_percent) {
+            let row = rng.index(used) as u32;
+            ledger::open(&mut s, desk as u32, row).expect("a closed desk and a used row");
+            for copy in [OPENED, WORKED] {
+                if rng.percent(40) {
+                    let ticks = ticks(rng);
+                    s[ledger::desk_place(desk) + copy + TICKS..][..ROW - TICKS].copy_from_slice(&ticks);
+                }
+            }
+        }
+    }
+    s
+}
+
+fn ticks(rng: &Rng) -> Vec<u8> {
+    let mut ticks = match rng.below(6) {
+        0 => vec![0xFF; 128],
+        1 => rng.bytes(128),
+        _ => vec![0; 128],
+    };
+    for _ in 0..rng.pick(&[0, 1, 1, 2, 5]) {
+        let position = rng.pick(&[0, 1, 7, 8, 63, 64, 1_015, 1_016, 1_022, 1_023, rng.index(1_024), rng.index(1_024)]);
+        ticks[position / 8] ^= 1 << (position % 8);
+    }
+    if rng.percent(20) {
+        let from = rng.index(128);
+        ticks[from..].fill(0);
+    }
+    ticks
+}
+
+/// One or more for each clause of 'A sheet is right when'.
+#[derive(Clone, Copy)]
+pub enum SheetCase {
+    Right,
+    Length(usize),
+    /// A number of the header, but for the rows used.
+    Header(usize),
+    /// So many rows, and the header's number of them.
+    RowsUsed(usize, u32),
+    KeyNotValid,
+    KeyAtEdge,
+    SameKeys,
+    /// Offset in a row.
+    UnusedRow(usize),
+    DeskByte(u8),
+    /// Offset in a desk that is closed.
+    ClosedDesk(usize),
+    /// Offset in a desk that is open.
+    DeskZero(usize),
+    /// The row that an open desk names.
+    DeskRow(u8),
+    /// The desk names the first unused row, and its copies are as that one: zero.
+    DeskRowUnused,
+    /// Offset of a byte of a copy's key or first number.
+    Copy(usize),
+    AnyBit,
+    AllZero,
+}
+
+pub fn sheet_cases() -> Vec<SheetCase> {
+    use SheetCase::*;
+    let mut cases =
+        vec![Right, Right, KeyNotValid, KeyNotValid, KeyAtEdge, SameKeys, SameKeys, DeskRowUnused, AnyBit, AllZero];
+    cases.extend([0, SHEET - 1, SHEET + 1, MOST_SHEET].map(Length));
+    cases.extend([0, 2, 3, 4, 5].map(Header));
+    cases.extend(
+        [(2, 1), (2, 3), (31, 32), (32, 33), (32, 31), (1, u32::MAX), (1, 257)]
+            .map(|(rows, said)| RowsUsed(rows, said)),
+    );
+    cases.extend([0, 11, ROW - 1].map(UnusedRow));
+    cases.extend([0, 1, 2, 255].map(DeskByte));
+    cases.extend([1, 2, 3, 4, 143, 144, 283].map(ClosedDesk));
+    cases.extend([2, 3].map(DeskZero));
+    cases.extend([3, 32, 255].map(DeskRow));
+    cases.extend([0, 7, 8, 11].map(|at| Copy(OPENED + at)));
+    cases.extend([0, 7, 8, 11].map(|at| Copy(WORKED + at)));
+    cases
+}
+
+fn sheet_case(rng: &Rng, case: SheetCase) -> Vec<u8> {
+    use SheetCase::*;
+    let used = match case {
+        RowsUsed(rows, _) => rows,
+        UnusedRow(_) => rng.pick(&[0, 1, 31]),
+        SameKeys => rng.pick(&[2, 3, 32]),
+        DeskRow(_) | DeskRowUnused => 3,
+        _ => rng.pick(&[1, 3, 32]),
+    };
+    let open_percent = match case {
+        ClosedDesk(_) | RowsUsed(..) => 0,
+        DeskZero(_) | DeskRow(_) | DeskRowUnused | Copy(_) => 100,
+        _ => rng.pick(&[0, 50]),
+    };
+    let mut s = sheet_with(rng, used, open_percent);
+    let row = ledger::row_place(rng.index(used.max(1)));
+    let desk = ledger::desk_place(rng.pick(&[0, 7, rng.index(8)]));
+    match case {
+        Right => return right_sheet(rng),
+        Length(length) => s.resize(length, 0),
+        Header(word) => {
+            let right = ledger_word(&s, word);
+            let wrong = rng.pick(&[right + 1, right - 1, 0, right ^ 1 << 31, right << 8, u32::MAX]);
+            put(&mut s, 4 * word, 4, wrong as u64);
+        }
+        RowsUsed(_, said) => {
+            // Zero bytes read as a row have key 0: that it stands twice is not to be the sheet's only fault.
+            if let Ok(row) = ledger::find(&s, 0) {
+                put(&mut s, ledger::row_place(row), 8, KEY_OF_NO_OTHER);
+            }
+            put(&mut s, 4, 4, said as u64)
+        }
+        KeyNotValid => put(&mut s, row, 8, rng.pick(&BAD_KEYS)),
+        KeyAtEdge => put(&mut s, row, 8, rng.pick(&VALID_EDGES)),
+        SameKeys => {
+            let one = rng.index(used);
+            let two = (one + 1 + rng.index(used - 1)) % used;
+            let key = ledger::key(ledger::row(&s, one));
+            put(&mut s, ledger::row_place(two), 8, key);
+        }
+        UnusedRow(at) => s[ledger::row_place(rng.pick(&[used, ROW_PLACES - 1])) + at] = 1 << rng.below(8),
+        DeskByte(byte) => s[desk] = byte,
+        ClosedDesk(at) | DeskZero(at) => s[desk + at] = 1 << rng.below(8),
+        DeskRow(row) => s[desk + 1] = row,
+        DeskRowUnused => {
+            s[desk + 1] = used as u8;
+            s[desk + OPENED..][..TICKS].fill(0);
+            s[desk + WORKED..][..TICKS].fill(0);
+        }
+        Copy(at) => s[desk + at] ^= 1 << rng.below(8),
+        AnyBit => s[rng.index(SHEET)] ^= 1 << rng.below(8),
+        AllZero => s.fill(0),
+    }
+    s
+}
+
+fn ledger_word(s: &[u8], word: usize) -> u32 {
+    crate::record::number(s, 4 * word, 4) as u32
+}

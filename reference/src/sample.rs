@@ -1,0 +1,221 @@
+//! Sample streams for lessons, and long mixed streams for benchmarks.
+
+use crate::make::{self, put, put_secondary, Rng, RSR_PRIMARY, TELEMETRY_PRIMARY};
+use crate::record::{self, RSR, TELEMETRY};
+use std::io::{self, Write};
+
+const SEED: u64 = 1;
+
+pub struct Sample {
+    pub name: &'static str,
+    /// What is to be seen, for samples/README.md.
+    pub about: &'static str,
+    make: fn() -> Vec<u8>,
+}
+
+pub const SAMPLES: [Sample; 13] = [
+    Sample {
+        name: "good-night",
+        about: "A whole night: 240 records of five streams, both kinds; virtual stream 1 passes number \
+            4294967295, subchannel 2 passes 65535.",
+        make: good_night,
+    },
+    Sample {
+        name: "refusal-01",
+        about: "Under 20 bytes: after three records stand the first 19 bytes of a label.",
+        make: || spoilt(|r| r.truncate(19)),
+    },
+    Sample {
+        name: "refusal-02",
+        about: "Authority wrong: the fourth record spells NJPl at its bytes 0 to 3.",
+        make: || stopped(|r| r[3] = b'l'),
+    },
+    Sample {
+        name: "refusal-03",
+        about: "Bytes 4 to 7 wrong: label version 1 at byte 4 of the fourth record.",
+        make: || stopped(|r| r[4] = b'1'),
+    },
+    Sample {
+        name: "refusal-04",
+        about: "Kind unknown: C998 at bytes 8 to 11 of the fourth record.",
+        make: || stopped(|r| r[8..12].copy_from_slice(b"C998")),
+    },
+    Sample {
+        name: "refusal-05",
+        about: "Label length 99 at bytes 12 to 19 of the fourth record; a telemetry label says at least 100.",
+        make: || stopped(|r| put(r, 12, 8, 99)),
+    },
+    Sample {
+        name: "refusal-06",
+        about: "Under N bytes: the fourth record lacks its last byte, and the stream ends.",
+        make: || spoilt(|r| r.truncate(r.len() - 1)),
+    },
+    Sample {
+        name: "refusal-07",
+        about: "Aggregation label wrong: length 96, which is 92, at byte 22 of the fourth record.",
+        make: || stopped(|r| put(r, 22, 2, 96)),
+    },
+    Sample {
+        name: "refusal-08",
+        about: "Primary label wrong: type 3, which is 2, at byte 24 of the fourth record.",
+        make: || stopped(|r| put(r, 24, 2, 3)),
+    },
+    Sample {
+        name: "refusal-09",
+        about: "Secondary label wrong: type 104 (RSR) at byte 32 of the fourth record, a telemetry one.",
+        make: || stopped(|r| put(r, 32, 2, 104)),
+    },
+    Sample {
+        name: "refusal-10",
+        about: "Data type wrong: 11, which is 10, at byte 116 of the fourth record.",
+        make: || stopped(|r| put(r, 116, 2, 11)),
+    },
+    Sample {
+        name: "refusal-11",
+        about: "Data length wrong: 40, which is 20, at byte 118 of the fourth record (the label's 20 added twice).",
+        make: || stopped(|r| put(r, 118, 2, 40)),
+    },
+    Sample {
+        name: "refusal-17",
+        about: "N 65537, one over the program's buffer: the fourth record, whole, with 65417 bytes of data.",
+        make: too_long,
+    },
+];
+
+pub fn sample(name: &str) -> Option<Vec<u8>> {
+    SAMPLES.iter().find(|sample| sample.name == name).map(|sample| (sample.make)())
+}
+
+fn telemetry(rng: &Rng, stream: u64, number: u32, data: usize) -> Vec<u8> {
+    let mut secondary = make::secondary(rng, TELEMETRY);
+    for (at, width, value) in [
+        (4, 2, 48 << 8 | 48),
+        (6, 2, 177),
+        (10, 1, 43),
+        (22, 4, number as u64),
+        (28, 1, 2),
+        (30, 1, stream),
+        (74, 2, 2),
+    ] {
+        put_secondary(&mut secondary, at, width, value);
+    }
+    make::record(TELEMETRY, TELEMETRY_PRIMARY, &secondary, &rng.bytes(data))
+}
+
+fn rsr(rng: &Rng, subchannel: u64, number: u32, data: usize) -> Vec<u8> {
+    let mut secondary = make::secondary(rng, RSR);
+    let fields = [
+        (4, 2, 48 << 8 | 48),
+        (8, 2, number as u64 & 0xFFFF),
+        (10, 1, 40),
+        (11, 1, 43),
+        (12, 1, 1),
+        (13, 1, subchannel),
+        (14, 1, 0),
+        (15, 1, 177),
+        (16, 2, 4_021),
+        (28, 2, 2_008),
+        (30, 2, 242),
+    ];
+    for (at, width, value) in fields {
+        put_secondary(&mut secondary, at, width, value);
+    }
+    make::record(RSR, RSR_PRIMARY, &secondary, &rng.bytes(data))
+}
+
+fn good_night() -> Vec<u8> {
+    let rng = Rng::new(SEED);
+    let mut stream = Vec::new();
+    for i in 0..48u32 {
+        for virtual_stream in 1..=3 {
+            let first = if virtual_stream == 1 { 4_294_967_270 } else { 1 };
+            let data = 2 * rng.index(30);
+            stream.extend(telemetry(&rng, virtual_stream, i.wrapping_add(first), data));
+        }
+        for subchannel in 1..=2 {
+            let first = if subchannel == 2 { 65_510 } else { 0 };
+            let data = 4 * rng.index(20);
+            stream.extend(rsr(&rng, subchannel, i + first, data));
+        }
+    }
+    stream
+}
+
+/// Two telemetry records, one of RSR, and a telemetry record with 20 bytes of data that `spoil` spoils.
+fn spoilt(spoil: fn(&mut Vec<u8>)) -> Vec<u8> {
+    let rng = Rng::new(SEED);
+    let mut last = telemetry(&rng, 1, 9, 20);
+    spoil(&mut last);
+    [telemetry(&rng, 1, 7, 0), rsr(&rng, 1, 300, 8), telemetry(&rng, 1, 8, 64), last].concat()
+}
+
+/// The same, and a good record after it, which a listing does not reach.
+fn stopped(spoil: fn(&mut Vec<u8>)) -> Vec<u8> {
+    let mut stream = spoilt(spoil);
+    stream.extend(telemetry(&Rng::new(SEED), 1, 10, 0));
+    stream
+}
+
+fn too_long() -> Vec<u8> {
+    stopped(|r| *r = telemetry(&Rng::new(SEED), 1, 9, 65_537 - 120))
+}
+
+/// A stream of whole records, of at least `bytes` bytes: the same some megabytes over and over.
+pub fn big(bytes: u64, out: &mut impl Write) -> io::Result<()> {
+    let rng = Rng::new(SEED);
+    let batch: Vec<Vec<u8>> = (0..2_000).map(|_| mixed_record(&rng)).collect();
+    let joined = batch.concat();
+    let mut written = 0;
+    while written + joined.len() as u64 <= bytes {
+        out.write_all(&joined)?;
+        written += joined.len() as u64;
+    }
+    for record in &batch {
+        if written >= bytes {
+            break;
+        }
+        out.write_all(record)?;
+        written += record.len() as u64;
+    }
+    Ok(())
+}
+
+/// Lengths as they come in a night: short and framed telemetry, and RSR at several sample rates.
+pub fn mixed_record(rng: &Rng) -> Vec<u8> {
+    let number = rng.word() >> rng.below(32);
+    match rng.below(20) {
+        0..=8 => {
+            let data = rng.between(0, 280);
+            telemetry(rng, 1, number, data)
+        }
+        9..=15 => telemetry(rng, 2, number, 1_264),
+        16..=18 => rsr(rng, 1, number, 2_000),
+        _ => {
+            let data = rng.pick(&[16_000, 20_000, 25_000]);
+            rsr(rng, 2, number, data)
+        }
+    }
+}
+
+/// Streams of records all of one length, for benchmarks.
+pub fn telemetry_stream(records: u32, record_length: usize) -> Vec<u8> {
+    let rng = Rng::new(SEED);
+    let shortest = record::layout_of(TELEMETRY).expect("one of the two kinds").data_value;
+    let mut record = telemetry(&rng, 1, 0, record_length - shortest);
+    let mut stream = Vec::with_capacity(records as usize * record_length);
+    let (at, width) = record::number_field(TELEMETRY);
+    for number in 0..records {
+        put(&mut record, at, width, number as u64);
+        stream.extend_from_slice(&record);
+    }
+    stream
+}
+
+pub fn headers_sample(kind: u32) -> Vec<u8> {
+    let rng = Rng::new(SEED);
+    if kind == TELEMETRY {
+        telemetry(&rng, 1, 7, 1_264)
+    } else {
+        rsr(&rng, 1, 7, 2_000)
+    }
+}

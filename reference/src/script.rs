@@ -1,0 +1,298 @@
+//! Call scripts, as call-script.md says: frames in, one line a call out.
+
+use crate::record::{self, Fields, Record, Refused, Rsr, Telemetry};
+use crate::stream::{self, Cursor, Step, Stop};
+use crate::{keys, ledger};
+use std::io::{self, Write};
+
+pub const HEADER: usize = 40;
+pub const MOST_A: usize = 131_072;
+pub const MOST_B: usize = 66_000;
+pub const MOST_SLICE: u32 = 70_000;
+pub const MOST_LIST: u32 = 64;
+pub const MOST_SHEET: usize = 8_192;
+pub const SLICE_FILL: u8 = 165;
+pub const LIST_FILL: u32 = 7;
+pub const BAD_FRAME: &str = "bad frame";
+
+#[derive(Clone, Debug, Default, PartialEq)]
+pub struct Frame {
+    pub op: u32,
+    pub x: u32,
+    pub y: u32,
+    pub z: u32,
+    pub w: u32,
+    pub key: u64,
+    pub a: Vec<u8>,
+    pub b: Vec<u8>,
+}
+
+impl Frame {
+    pub fn write(&self, out: &mut impl Write) -> io::Result<()> {
+        for word in [self.op, self.x, self.y, self.z, self.w, 0] {
+            out.write_all(&word.to_be_bytes())?;
+        }
+        out.write_all(&self.key.to_be_bytes())?;
+        out.write_all(&(self.a.len() as u32).to_be_bytes())?;
+        out.write_all(&(self.b.len() as u32).to_be_bytes())?;
+        out.write_all(&self.a)?;
+        out.write_all(&self.b)
+    }
+}
+
+/// The frame at the start of a script, and its length; none where the script ends inside it or a run is too long.
+pub fn read_frame(s: &[u8]) -> Option<(Frame, usize)> {
+    if s.len() < HEADER {
+        return None;
+    }
+    let word = |at| record::number(s, at, 4) as u32;
+    let (length_a, length_b) = (word(32) as usize, word(36) as usize);
+    let end = HEADER + length_a + length_b;
+    if length_a > MOST_A || length_b > MOST_B || s.len() < end {
+        return None;
+    }
+    let frame = Frame {
+        op: word(0),
+        x: word(4),
+        y: word(8),
+        z: word(12),
+        w: word(16),
+        key: record::number(s, 24, 8),
+        a: s[HEADER..HEADER + length_a].to_vec(),
+        b: s[HEADER + length_a..end].to_vec(),
+    };
+    Some((frame, end))
+}
+
+/// Hands each frame with its line to `each`; after a bad frame, the line alone, and no more.
+pub fn run(script: &[u8], mut each: impl FnMut(Option<&Frame>, &str) -> io::Result<()>) -> io::Result<()> {
+    let mut calls = Calls::new();
+    let mut rest = script;
+    while !rest.is_empty() {
+        let answer = read_frame(rest).and_then(|(frame, end)| calls.line(&frame).map(|line| (frame, end, line)));
+        let Some((frame, end, line)) = answer else {
+            return each(None, BAD_FRAME);
+        };
+        each(Some(&frame), &line)?;
+        rest = &rest[end..];
+    }
+    Ok(())
+}
+
+/// The one sheet that the ledger calls of a script share.
+pub struct Calls {
+    pub sheet: Vec<u8>,
+}
+
+impl Calls {
+    pub fn new() -> Calls {
+        Calls { sheet: vec![0; ledger::SHEET] }
+    }
+
+    /// The line of a call; none for a frame that is bad.
+    pub fn line(&mut self, f: &Frame) -> Option<String> {
+        match f.op {
+            1 => Some(line_of_record(record::read_one(&f.a))),
+            2 => Some(line_of_part(record::secondary_part(&f.a))),
+            3 => Some(line_of_part(record::data_part(&f.a))),
+            4 => Some(line_of_headers(record::read_headers(&f.a, f.x))),
+            5 => write_one(f),
+            6 => Some(line_of_key(keys::telemetry_key(f.x, f.y, f.z, f.w))),
+            7 => Some(line_of_key(keys::rsr_key(f.x, f.y, f.z, f.w))),
+            8 => Some(line_of_stop(&stream::walk(&f.a))),
+            9 => number_lists(f),
+            11 => Some(line_of_step(Cursor { place: f.key }.step(&f.a))),
+            19..=29 => self.ledger_line(f),
+            _ => None,
+        }
+    }
+
+    /// The crc of the whole sheet after the call ends each line.
+    fn ledger_line(&mut self, f: &Frame) -> Option<String> {
+        let s = &mut self.sheet;
+        let nothing = |_| String::new();
+        let row = |row: usize| format!(" {row}");
+        let answer = match f.op {
+            19 => {
+                if f.a.len() > MOST_SHEET {
+                    return None;
+                }
+                *s = f.a.clone();
+                Ok(String::new())
+            }
+            20 => ledger::fresh(s).map(nothing),
+            21 => ledger::enrol(s, f.key, f.x).map(row),
+            22 => ledger::find(s, f.key).map(row),
+            23 => ledger::open(s, f.x, f.y).map(nothing),
+            24 => ledger::tick(s, f.x, f.y).map(nothing),
+            25 => ledger::untick(s, f.x, f.y).map(nothing),
+            26 => ledger::save(s, f.x).map(nothing),
+            27 => ledger::drop_desk(s, f.x).map(nothing),
+            28 => ledger::report(s, f.x)
+                .map(|report| format!(" {} {} {}", report.ticked, report.missing, or_none(report.lowest))),
+            _ => ledger::first_gap(s).map(|gap| match gap {
+                Some((number, row)) => format!(" {number} {row}"),
+                None => " none".to_string(),
+            }),
+        };
+        let crc = crc32(s);
+        Some(match answer {
+            Ok(values) => format!("0{values} {crc}"),
+            Err(refusal) => format!("{refusal} {crc}"),
+        })
+    }
+}
+
+fn or_none<T: ToString>(value: Option<T>) -> String {
+    value.map_or("none".to_string(), |value| value.to_string())
+}
+
+fn record_words(record: &Record) -> String {
+    let [major, minor, mission, format] = record.primary;
+    format!("0 {} {} {major} {minor} {mission} {format}", record.kind, record.length)
+}
+
+fn line_of_record(answer: Result<Record, u32>) -> String {
+    match answer {
+        Ok(record) => record_words(&record),
+        Err(refusal) => refusal.to_string(),
+    }
+}
+
+fn line_of_part(part: &[u8]) -> String {
+    format!("{} {}", part.len(), crc32(part))
+}
+
+fn line_of_headers(answer: Result<(Record, Fields), Refused>) -> String {
+    match answer {
+        Ok((record, Fields::Telemetry(fields))) => format!("{} {}", record_words(&record), telemetry_words(&fields)),
+        Ok((record, Fields::Rsr(fields))) => format!("{} {}", record_words(&record), rsr_words(&fields)),
+        Err(Refused::Number(refusal)) => refusal.to_string(),
+        Err(Refused::Field(offset)) => format!("12 {offset}"),
+    }
+}
+
+fn telemetry_words(t: &Telemetry) -> String {
+    format!(
+        "{} {} {} {} {} {} {} {} {}",
+        t.spacecraft,
+        t.source,
+        t.received,
+        t.number,
+        or_none(t.uplink_band),
+        t.mode,
+        t.stream,
+        t.equipment,
+        t.key
+    )
+}
+
+fn rsr_words(r: &Rsr) -> String {
+    format!(
+        "{} {} {} {} {} {} {} {} {} {} {} {} {} {} {} {} {} {} {} {} {} {}",
+        r.software,
+        r.number,
+        r.complex,
+        r.station,
+        r.receiver,
+        r.subchannel,
+        r.spacecraft,
+        r.pass,
+        r.uplink_band,
+        r.downlink_band,
+        r.mode,
+        r.uplink_station,
+        r.expected_px_no,
+        r.bandwidth,
+        r.override_flag,
+        r.attenuation,
+        r.rms,
+        r.peak,
+        r.year,
+        r.day,
+        r.override_frequency,
+        r.key
+    )
+}
+
+fn line_of_key(answer: Result<u64, u32>) -> String {
+    match answer {
+        Ok(key) => format!("0 {key}"),
+        Err(refusal) => refusal.to_string(),
+    }
+}
+
+fn line_of_stop(stop: &Stop) -> String {
+    format!("{} {} {}", stop.count, stop.place, stop.number)
+}
+
+fn line_of_step(step: Step) -> String {
+    match step {
+        Step::Found(record, next) => format!("{} {}", record_words(&record), next.place),
+        Step::Done(cursor) => format!("done {}", cursor.place),
+        Step::Refused(refusal, cursor) => format!("{refusal} {}", cursor.place),
+    }
+}
+
+fn write_one(f: &Frame) -> Option<String> {
+    if f.z > MOST_SLICE {
+        return None;
+    }
+    let mut slice = vec![SLICE_FILL; f.z as usize];
+    let answer = record::write_one(f.x, f.y.to_be_bytes(), &f.a, &f.b, &mut slice);
+    let crc = crc32(&slice);
+    Some(match answer {
+        Ok(n) => format!("0 {n} {crc}"),
+        Err(refusal) => format!("{refusal} {crc}"),
+    })
+}
+
+fn number_lists(f: &Frame) -> Option<String> {
+    if [f.x, f.y, f.z, f.w].iter().any(|length| *length > MOST_LIST) {
+        return None;
+    }
+    let mut places = vec![LIST_FILL as u64; f.x as usize];
+    let mut lengths = vec![LIST_FILL as u64; f.y as usize];
+    let mut kinds = vec![LIST_FILL; f.z as usize];
+    let mut numbers = vec![LIST_FILL; f.w as usize];
+    let stop = stream::number_lists(&f.a, &mut places, &mut lengths, &mut kinds, &mut numbers);
+    let mut line = line_of_stop(&stop);
+    let lists = [places, lengths].concat().into_iter().chain([kinds, numbers].concat().into_iter().map(u64::from));
+    for value in lists {
+        line += &format!(" {value}");
+    }
+    Some(line)
+}
+
+/// The refusal number in a call's line; 0 where there is none, and for parts, whose lines have no such word.
+pub fn refusal_in(op: u32, line: &str) -> u32 {
+    let at = match op {
+        2 | 3 => return 0,
+        8 | 9 => 2,
+        _ => 0,
+    };
+    line.split(' ').nth(at).and_then(|word| word.parse().ok()).unwrap_or(0)
+}
+
+const CRC_TABLE: [u32; 256] = crc_table();
+
+const fn crc_table() -> [u32; 256] {
+    let mut table = [0; 256];
+    let mut i = 0;
+    while i < 256 {
+        let mut value = i as u32;
+        let mut bit = 0;
+        while bit < 8 {
+            value = if value & 1 == 1 { value >> 1 ^ 0xEDB8_8320 } else { value >> 1 };
+            bit += 1;
+        }
+        table[i] = value;
+        i += 1;
+    }
+    table
+}
+
+/// The CRC-32 of zlib.
+pub fn crc32(bytes: &[u8]) -> u32 {
+    !bytes.iter().fold(!0, |crc, byte| crc >> 8 ^ CRC_TABLE[((crc ^ *byte as u32) & 0xFF) as usize])
+}
