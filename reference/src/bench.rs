@@ -3,7 +3,7 @@
 
 use crate::make::Rng;
 use crate::record::{RSR, TELEMETRY};
-use crate::stream::{self, Entry, Stop};
+use crate::stream;
 use crate::{ledger, list, nights, record, sample};
 use std::hint::black_box;
 use std::time::Instant;
@@ -21,7 +21,6 @@ pub struct Implementation {
     pub tick: fn(&mut [u8], u32, u32) -> u64,
     pub untick: fn(&mut [u8], u32, u32) -> u64,
     pub report: fn(&[u8], u32) -> u64,
-    pub table: fn(&[u8], &mut [Entry]) -> Stop,
 }
 
 pub const REFERENCE: Implementation = Implementation {
@@ -42,7 +41,6 @@ pub const REFERENCE: Implementation = Implementation {
         Ok(report) => (report.ticked as u64) << 32 | report.missing as u64,
         Err(refusal) => refusal as u64,
     },
-    table: stream::table,
 };
 
 pub fn implementations() -> Vec<Implementation> {
@@ -99,9 +97,6 @@ pub fn run() {
     {
         let s = sample::telemetry_stream(records, length);
         compare(name, records as f64, &each, |i| (i.walk)(black_box(&s)));
-        let mut entries = vec![Entry::default(); records as usize];
-        let name = name.replace("walk", "table");
-        compare(&name, records as f64, &each, |i| (i.table)(black_box(&s), &mut entries).count);
     }
     let (empty, full) = (fresh_sheet(), nights::full_sheet(&Rng::new(1)));
     for (name, s) in [("is it a sheet: fresh", &empty), ("is it a sheet: 32 rows, 8 desks open", &full)] {

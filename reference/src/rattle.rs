@@ -3,7 +3,6 @@
 //! the answer that `Implementation` in bench.rs tells of.
 
 use crate::bench::Implementation;
-use crate::stream::{Entry, Stop};
 
 extern "C" {
     fn bench_read_headers(s: *const u8, length: usize, wanted: u32) -> u64;
@@ -12,8 +11,6 @@ extern "C" {
     fn bench_tick(s: *mut u8, length: usize, desk: u32, n: u32) -> u64;
     fn bench_untick(s: *mut u8, length: usize, desk: u32, n: u32) -> u64;
     fn bench_report(s: *const u8, length: usize, row: u32) -> u64;
-    /// Writes count, stop place and stop number into `stop`.
-    fn bench_table(s: *const u8, length: usize, entries: *mut Entry, free: usize, stop: *mut u64, three: usize);
 }
 
 // Each pointer is good for its length, which is all that the functions ask.
@@ -25,9 +22,4 @@ pub const RATTLE: Implementation = Implementation {
     tick: |s, desk, n| unsafe { bench_tick(s.as_mut_ptr(), s.len(), desk, n) },
     untick: |s, desk, n| unsafe { bench_untick(s.as_mut_ptr(), s.len(), desk, n) },
     report: |s, row| unsafe { bench_report(s.as_ptr(), s.len(), row) },
-    table: |s, entries| {
-        let mut stop = [0; 3];
-        unsafe { bench_table(s.as_ptr(), s.len(), entries.as_mut_ptr(), entries.len(), stop.as_mut_ptr(), stop.len()) };
-        Stop { count: stop[0], place: stop[1], number: stop[2] as u32 }
-    },
 };

@@ -1,8 +1,8 @@
-//! The table of entries has no call in scripts, so every implementation's is held to the number lists here.
+//! The table of entries has no call in scripts, so it is held to the number lists here; `table/` does the same for the
+//! proved library.
 
-use crate::bench::implementations;
 use crate::random;
-use crate::stream::{number_lists, Entry};
+use crate::stream::{self, number_lists, Entry};
 
 const STALE: Entry = Entry { place: 7, length: 7, kind: 7, number: 7 };
 
@@ -12,13 +12,11 @@ pub fn compare(seed: u64, count: usize) -> usize {
     let mut tried = 0;
     for frame in streams {
         for free in [frame.x, frame.y, 0, 1, 64] {
-            for implementation in implementations() {
-                let mut entries = vec![STALE; free as usize];
-                let stop = (implementation.table)(&frame.a, &mut entries);
-                let (expected_stop, expected) = by_lists(&frame.a, free as usize);
-                assert_eq!((stop, entries), (expected_stop, expected), "{}: seed {seed}", implementation.name);
-                tried += 1;
-            }
+            let mut entries = vec![STALE; free as usize];
+            let stop = stream::table(&frame.a, &mut entries);
+            let (expected_stop, expected) = by_lists(&frame.a, free as usize);
+            assert_eq!((stop, entries), (expected_stop, expected), "seed {seed}");
+            tried += 1;
         }
     }
     tried
