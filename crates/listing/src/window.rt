@@ -16,18 +16,14 @@ use crate::lines::put_last;
 use crate::lines::put_line;
 use headers::record_number;
 use octets::read_be;
+use sfdu::LABEL;
+use sfdu::LENGTH;
+use sfdu::LENGTH_AT;
 use sfdu::Read;
 use sfdu::read_one;
 
 // The window's size: the longest record that the program takes.
-const WINDOW: u64 = 65536;
-
-// The label of a record, and the length in it of what follows.
-const LABEL: u64 = 20;
-
-const LENGTH_AT: usize = 12;
-
-const LENGTH: usize = 8;
+const WINDOW: usize = 65536;
 
 // The refusals that the window judges itself: the numbers of document 01's table.
 const TOO_SHORT: u32 = 1;
@@ -89,7 +85,7 @@ fn is_over(s: &[u8]) -> bool
     requires { ⌜ labelSize ≤ length (now s) ⌝ }
     ensures { λ r. ⌜ r ≡ ltb bufferSize (recordLength (now (s .entry))) ⌝ }
 {
-    WINDOW - LABEL < read_be(s, LENGTH_AT, LENGTH)
+    ((WINDOW - LABEL) as u64) < read_be(s, LENGTH_AT, LENGTH)
 }
 
 // Lays out, from index `start` of `out` on, a line for each whole record of the window, whose first byte stands at `place` of the

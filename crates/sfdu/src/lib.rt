@@ -3,6 +3,9 @@ mod nesting;
 mod reader;
 mod writer;
 
+pub use nesting::LABEL;
+pub use nesting::LENGTH;
+pub use nesting::LENGTH_AT;
 pub use nesting::PRIMARY_VALUE_AT;
 pub use nesting::SECONDARY_AT;
 pub use nesting::kind_number;
