@@ -12,10 +12,16 @@ use Rattle.refusals.specs.Judge.{verdict}
 use Rattle.refusals.proofs.Judged.{Numbered}
 use Rattle.octets.specs.Octets.{all}
 use Rattle.octets.proofs.Laws.{all-at}
-use Rattle.headers.specs.Ranges.{inRange, judgedBytes, noField, byteRow, byteRows}
+use Rattle.headers.specs.declared.Allowed.the-variants.{Between}
+use Rattle.headers.specs.declared.Judged.{Judged}
+use Rattle.headers.specs.Ranges.{inRange, judgedBytes, byteRow, byteRows}
 
 abbrev pub entries : ℕ
 entries = 10
+
+-- What stands past the table's end.
+abbrev noField : Judged
+noField = record { at = 0; allowed = Between 0 0 }
 
 -- What is left to judge from entry i on.
 unfoldable pub faultFrom : List ℕ → ℕ → ℕ
@@ -29,7 +35,7 @@ pub from-end : (s : List ℕ) → faultFrom s entries ≡ 0
 unfolding faultFrom judgedBytes verdict
 from-end s = refl
 
-pub length-judged : length judgedBytes ≡ entries
+length-judged : length judgedBytes ≡ entries
 unfolding judgedBytes
 length-judged = refl
 

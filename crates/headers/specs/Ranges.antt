@@ -55,10 +55,6 @@ judgedBytes =
     ∷ record { at = secondaryAt + 27; allowed = Between 0 128 }
     ∷ []
 
--- What stands past the table's end.
-abbrev pub noField : Judged
-noField = record { at = 0; allowed = Between 0 0 }
-
 abbrev pub byteRow : List ℕ → Judged → Row
 byteRow s f = (f .at) when not (inRange (f .allowed) (getD s (f .at) 0))
 

@@ -1,7 +1,7 @@
 // The fields of an RSR record.
 ghost use mathlib.Core.Path.{_≡_};
-ghost use Prim.Native.Nat.{_≤_, _<_};
-ghost use lib.ListN.{length, getD};
+ghost use Prim.Native.Nat.{_≤_};
+ghost use lib.ListN.{length};
 ghost use Rattle.refusals.specs.Judge.{verdict};
 ghost use Rattle.sfdu.specs.declared.Kind.the-variants.{Rsr};
 ghost use Rattle.sfdu.specs.Nesting.{dataValueAt};
@@ -9,7 +9,7 @@ ghost use Rattle.sfdu.specs.Read.{primaryWords, primaryOf, recordLength};
 ghost use Rattle.headers.specs.Date.{isYear, isDay};
 ghost use Rattle.headers.specs.Fields.{recordNumber, signedByte};
 ghost use Rattle.headers.specs.Headers.{wordsOf, acceptedFields, judgedFields, sourceWords, sourceOf, signalWords, signalOf, timeWords, timeOf};
-ghost use Rattle.headers.specs.Ranges.{fault, inRange, isRsrBand, judgedBytes, noField, byteRows, dateRows};
+ghost use Rattle.headers.specs.Ranges.{fault, inRange, isRsrBand, byteRows, dateRows};
 use crate::Allowed;
 use crate::Headers;
 use crate::Judged;
@@ -164,12 +164,15 @@ fn field_fault(s: &[u8]) -> usize
     date_fault(s)
 }
 
+// The same for the judged bytes alone. The table is made once, before the loop: LLVM then unrolls the loop, and each entry is a
+// constant.
 fn byte_fault(s: &[u8]) -> usize
     requires { ⌜ dataValueAt Rsr ≤ length (now s) ⌝ }
     ensures { λ r. ⌜ r ≡ verdict (byteRows (now (s .entry))) ⌝ }
 {
-    for i in 0..JUDGED.len() {
-        let field = judged(i);
+    let table = JUDGED;
+    for i in 0..table.len() {
+        let field = table[i];
         let at = field.at;
         let allowed = field.allowed;
         if !in_range(allowed, s[at]) {
@@ -177,13 +180,6 @@ fn byte_fault(s: &[u8]) -> usize
         }
     }
     0
-}
-
-fn judged(i: usize) -> Judged
-    requires { ⌜ i < 10 ⌝ }
-    ensures { λ r. ⌜ r ≡ getD judgedBytes i noField ⌝ }
-{
-    JUDGED[i]
 }
 
 fn in_range(allowed: Allowed, b: u8) -> bool

@@ -1,45 +1,47 @@
--- `headers::rsr::byte_fault` meets its contract. The invariant: what is left of the table decides. Assumes nothing.
+-- `headers::rsr::byte_fault` meets its contract. The code's table is the paper's, entry for entry; the invariant: what is left
+-- of it decides. Assumes nothing.
 use native.Mathlib.Omega.{arith}
 use Prim.Native.Nat.{_≤_, _-_}
 use mathlib.Core.Path.{_≡_, ap, sym, _∙_}
 use Rattle.refusals.specs.Judge.{verdict}
 use Rattle.octets.proofs.Laws.{failed, passed}
-use Rattle.headers.specs.declared.Judged.{Judged}
-use Rattle.headers.specs.Ranges.{byteRows}
+use Rattle.headers.specs.Ranges.{judgedBytes, byteRows}
 use Rattle.headers.proofs.Table.{entries, faultFrom, from-start, from-end, fault-here, fault-past, at-low}
 use Rattle.headers.proofs.rsr.byte_fault.Statement.{statement}
 use Rattle.headers.proofs.rsr.byte_fault.Tie as tie
 use Rattle.headers.proofs.rsr.byte_fault.Reads as reads
 use Rattle.headers.proofs.rsr.byte_fault.Lts as lts
 use Rattle.headers.proofs.rsr.in_range.Reads as in-range-reads
-use Rattle.headers.proofs.rsr.judged.Reads as judged-reads
 
 abbrev Inv-loop : tie.InvT-loop
-Inv-loop s i₀ i = (i ≤ entries) × (verdict (byteRows s) ≡ faultFrom s i)
+Inv-loop s table i₀ i = (i ≤ entries) × (verdict (byteRows s) ≡ faultFrom s i)
 
 abbrev μ-loop : tie.MeasureT-loop
-μ-loop s i₀ i = entries - i
+μ-loop s table i₀ i = entries - i
 
 loop-holds : tie.Need-loop-holds Inv-loop μ-loop
 loop-holds c = (omega arith, from-start _)
 
-judged-requires : tie.Need-judged-requires Inv-loop μ-loop
-judged-requires c κs = omega arith
+mul-field : tie.Need-mul-field Inv-loop μ-loop
+mul-field c = omega arith
+
+array-copy-out-field : tie.Need-array-copy-out-field Inv-loop μ-loop
+array-copy-out-field c = omega arith
 
 shared-slice-read-in-range : tie.Need-shared-slice-read-in-range Inv-loop μ-loop
-shared-slice-read-in-range c =
-    let i = c .before .before .before .loop .i in
-    omega (arith, at-low i (omega arith), ap (λ (f : Judged). f .at) (c .before .judged .ensures))
+unfolding judgedBytes
+shared-slice-read-in-range c = omega (arith, at-low (c .before .before .before .loop .i) (omega arith))
 
 in-range-requires : tie.Need-in-range-requires Inv-loop μ-loop
 in-range-requires c κs = tt
 
 returns : tie.Need-returns Inv-loop μ-loop
+unfolding judgedBytes
 returns c =
     let s = c .before .before .before .before .before .before .before .args .s .now in
-    let i = c .before .before .before .before .before .loop .i in
-    let e = rw (c .before .before .before .judged .ensures) at (failed (c .before .in-range .ensures) (c .if1 .taken)) in
-    rw (c .before .before .before .judged .ensures) (sym (c .before .before .before .before .before .loop .inv .1 ∙ fault-here s i (omega arith) e))
+    let loop = c .before .before .before .before .before .loop in
+    let e = failed (c .before .in-range .ensures) (c .if1 .taken) in
+    sym (loop .inv .1 ∙ fault-here s (loop .i) (omega arith) e)
 
 add-i : tie.Need-add-i Inv-loop μ-loop
 add-i c = omega arith
@@ -48,11 +50,12 @@ loop-less : tie.Need-loop-less Inv-loop μ-loop
 loop-less c = omega arith
 
 loop-again : tie.Need-loop-again Inv-loop μ-loop
+unfolding judgedBytes
 loop-again c =
     let s = c .before .before .before .before .before .before .before .args .s .now in
-    let i = c .before .before .before .before .before .loop .i in
-    let e = rw (c .before .before .before .judged .ensures) at (passed (c .before .in-range .ensures) (c .if1 .left)) in
-    (omega arith, c .before .before .before .before .before .loop .inv .1 ∙ fault-past s i (omega arith) e)
+    let loop = c .before .before .before .before .before .loop in
+    let e = passed (c .before .in-range .ensures) (c .if1 .left) in
+    (omega arith, loop .inv .1 ∙ fault-past s (loop .i) (omega arith) e)
 
 returns-2 : tie.Need-returns-2 Inv-loop μ-loop
 returns-2 c =
@@ -67,7 +70,8 @@ byte-fault-spec =
     Inv-loop
     μ-loop
     loop-holds
-    judged-requires
+    mul-field
+    array-copy-out-field
     shared-slice-read-in-range
     in-range-requires
     returns
