@@ -12,7 +12,8 @@ use refusals::Refusal;
 use sfdu::Kind;
 use sfdu::Read;
 
-// The headers of the first record of a slice, where it is of the wanted kind.
+// The headers of the first record of a slice, where it is of the wanted kind. Each kind returns its own answer: where the two
+// meet first, LLVM copies every field.
 pub fn read_headers(s: &[u8], wanted: u32) -> Headers
     ensures { λ r. ⌜ wordsOf r ≡ readHeaders wanted (now (s .entry)) ⌝ }
 {
@@ -27,8 +28,8 @@ pub fn read_headers(s: &[u8], wanted: u32) -> Headers
                 return Headers::Refused(Refusal::WrongKind);
             }
             match kind {
-                Kind::Telemetry => telemetry::fields(s, size, primary),
-                Kind::Rsr => rsr::fields(s, size, primary),
+                Kind::Telemetry => return telemetry::fields(s, size, primary),
+                Kind::Rsr => return rsr::fields(s, size, primary),
             }
         }
         Read::Refused(r) => Headers::Refused(r),

@@ -50,6 +50,16 @@ fields-requires c κs =
     let low : dataValueAt Telemetry ≤ length s = omega (arith, ap dataValueAt (c .enum-told .given .1), long .0, long .1) in
     (f .size, primary-found f, low)
 
+returns-2 : tie.Need-returns-2
+returns-2 c =
+    let s = c .before .before .before .before .before .before .before .before .before .before .args .s .now in
+    let g = c .before .before .before .before .before .before .found .given in
+    let f = found s (g .0 .0) (g .0 .1 .0) (primaryWords (g .0 .1 .1 .0)) (sym (ap wordsOf (g .1)) ∙ c .before .before .before .before .before .before .before .before .read-one .ensures) in
+    let e = (c .before .enum-told .given .1) in
+    let kind = sym (f .kind) ∙ e in
+    let same = c .before .before .before .if1 .left ∙ c .before .before .before .before .kind-number .ensures ∙ ap kindNumber (f .kind) in
+    c .fields .ensures ∙ sym (right-kind _ s (f .accepted) same ∙ ap (λ (k : Kind). judgedFields k s) kind)
+
 enum-told-2 : tie.Need-enum-told-2
 enum-told-2 c = search needs
 
@@ -62,19 +72,6 @@ fields-requires-2 c κs =
     let low : dataValueAt Rsr ≤ length s = omega (arith, ap dataValueAt (c .enum-told2 .given .1), long .0, long .1) in
     (f .size, primary-found f, low)
 
-enum-known-found-2 : tie.Need-enum-known-found-2
-enum-known-found-2 c = search needs
-
-returns-2 : tie.Need-returns-2
-returns-2 c =
-    let s = c .before .before .before .before .before .before .before .before .before .before .args .s .now in
-    let g = c .before .before .before .before .before .before .found .given in
-    let f = found s (g .0 .0) (g .0 .1 .0) (primaryWords (g .0 .1 .1 .0)) (sym (ap wordsOf (g .1)) ∙ c .before .before .before .before .before .before .before .before .read-one .ensures) in
-    let e = (c .before .enum-told .given .1) in
-    let kind = sym (f .kind) ∙ e in
-    let same = c .before .before .before .if1 .left ∙ c .before .before .before .before .kind-number .ensures ∙ ap kindNumber (f .kind) in
-    c .fields .ensures ∙ sym (right-kind _ s (f .accepted) same ∙ ap (λ (k : Kind). judgedFields k s) kind)
-
 returns-3 : tie.Need-returns-3
 returns-3 c =
     let s = c .before .before .before .before .before .before .before .before .before .before .args .s .now in
@@ -84,6 +81,9 @@ returns-3 c =
     let kind = sym (f .kind) ∙ e in
     let same = c .before .before .before .if1 .left ∙ c .before .before .before .before .kind-number .ensures ∙ ap kindNumber (f .kind) in
     c .fields2 .ensures ∙ sym (right-kind _ s (f .accepted) same ∙ ap (λ (k : Kind). judgedFields k s) kind)
+
+enum-known-found-2 : tie.Need-enum-known-found-2
+enum-known-found-2 c = search needs
 
 returns-4 : tie.Need-returns-4
 returns-4 c =
@@ -101,9 +101,9 @@ read-headers-spec =
     returns
     enum-told
     fields-requires
+    returns-2
     enum-told-2
     fields-requires-2
-    enum-known-found-2
-    returns-2
     returns-3
+    enum-known-found-2
     returns-4)
