@@ -6,6 +6,7 @@ pub mod Scans
 pub mod Bits
 pub mod ReadBack
 pub mod Missing
+pub mod TickBytes
 pub mod Reports
 pub mod Calls
 pub mod Answers

@@ -14,7 +14,7 @@ use Rattle.sheet.proofs.Scans.{Each, Fails, Top}
 
 -- ---- one position more
 
-size-cons : (x : Bool) (s : List Bool) → size (x ∷ s) ≡ cond x 1 0 + size s
+pub size-cons : (x : Bool) (s : List Bool) → size (x ∷ s) ≡ cond x 1 0 + size s
 unfolding size
 size-cons true s = omega arith
 size-cons false s = omega arith

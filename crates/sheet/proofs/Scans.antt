@@ -1,6 +1,6 @@
 -- The lowest number of which a test holds, as a loop finds it. Assumes nothing.
 use Prim.Native.Nat.{ℕ, zero, suc, _+_, _-_, _≤_, _<_}
-use native.Mathlib.Nat.{not-suc-le-zero, le-of-suc-le-suc, eq-or-lt-of-le, zero-lt-suc}
+use native.Mathlib.Nat.{add-zero, not-suc-le-zero, le-of-suc-le-suc, eq-or-lt-of-le, zero-lt-suc}
 use native.Mathlib.Omega.{arith}
 use mathlib.Core.Bool.{Bool, true, false, cond}
 use mathlib.Core.Logic.{⊎-elim}
@@ -108,3 +108,10 @@ past-down (suc n) p l e = let k : suc n - 1 ≡ n = omega arith in rw (k, rw k a
 pub past-none : (p : ℕ → Bool) → pastHighest 0 p ≡ 0
 unfolding pastHighest
 past-none p = refl
+
+-- over k numbers of which the test fails
+pub past-skip : (k m : ℕ) (p : ℕ → Bool) → ((i : ℕ) → m ≤ i → i < m + k → p i ≡ false) → pastHighest (m + k) p ≡ pastHighest m p
+past-skip zero m p h = rw add-zero
+past-skip (suc k) m p h =
+    let below : m + suc k - 1 ≡ m + k = omega arith in
+    past-down (m + suc k) p (omega arith) (h (m + suc k - 1) (omega arith) (omega arith)) ∙ rw below (past-skip k m p (λ i g l. h i g (omega arith)))

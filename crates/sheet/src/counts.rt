@@ -1,33 +1,37 @@
 // Row report and first gap.
+use crate::BYTE_BITS;
 use crate::GapAnswer;
 use crate::ROW;
 use crate::ROWS_AT;
 use crate::ReportAnswer;
+use crate::TICKS;
+use crate::TICKS_AT;
 use crate::right::key_at;
 use crate::right::rows_used;
 use crate::rows::first_at;
-use crate::ticks::POSITIONS;
 use crate::ticks::is_ticked;
 ghost use mathlib.Core.Path.{_≡_};
-ghost use mathlib.Core.Bool.{not};
-ghost use Prim.Native.Nat.{_+_, _≤_, _<_};
+ghost use mathlib.Core.Bool.{true, not};
+ghost use Prim.Native.Nat.{_+_, _*_, _≤_, _<_};
 ghost use lib.ListN.{length};
+ghost use Rattle.octets.specs.Octets.{all};
 ghost use Rattle.model.specs.Positions.{rowLength, size};
-ghost use Rattle.sheet.specs.Sheet.{sheetSize, rowSize, rowCount, rowAt, used, Sized};
+ghost use Rattle.sheet.specs.Sheet.{sheetSize, rowSize, ticksSize, byteBits, rowCount, rowAt, used, Sized};
 ghost use Rattle.sheet.specs.Rows.{tickedAt, ticksOf};
 ghost use Rattle.sheet.specs.Bytes.{lowest, pastHighest, numberAtPosition, reportWords, gapFrom};
 ghost use Rattle.sheet.specs.Words.{reportAnswerWords, gapWords};
 
-// How many positions of the row at offset a are ticked.
+// A tick byte whose positions are all ticked.
+const FULL: u8 = 255;
+
+// How many positions of the row at offset a are ticked: the ones of its tick bytes.
 fn ticked_count(s: &[u8], a: usize) -> u32
     requires { ⌜ a + rowSize ≤ length (now s) ⌝ }
     ensures { λ r. ⌜ r ≡ size (ticksOf (now (s .entry)) a) ⌝ }
 {
     let mut count: u32 = 0;
-    for i in 0..POSITIONS {
-        if is_ticked(s, a, i) {
-            count += 1;
-        }
+    for n in 0..TICKS {
+        count += u8::count_ones(s[a + TICKS_AT + n]);
     }
     count
 }
@@ -37,7 +41,7 @@ fn ticks_end(s: &[u8], a: usize) -> usize
     requires { ⌜ a + rowSize ≤ length (now s) ⌝ }
     ensures { λ r. ⌜ r ≡ pastHighest rowLength (tickedAt (now (s .entry)) a) ⌝ }
 {
-    let mut end = POSITIONS;
+    let mut end = BYTE_BITS * bytes_end(s, a);
     while 0 < end {
         if is_ticked(s, a, end - 1) {
             return end;
@@ -47,17 +51,42 @@ fn ticks_end(s: &[u8], a: usize) -> usize
     0
 }
 
+// One past the highest tick byte that is not zero, or 0: no position is ticked from there on.
+fn bytes_end(s: &[u8], a: usize) -> usize
+    requires { ⌜ a + rowSize ≤ length (now s) ⌝ }
+    ensures { λ r. ⌜ (r ≤ ticksSize) × (pastHighest rowLength (tickedAt (now (s .entry)) a) ≡ pastHighest (byteBits * r) (tickedAt (now (s .entry)) a)) ⌝ }
+{
+    let mut end = TICKS;
+    while 0 < end && s[a + TICKS_AT + (end - 1)] == 0 {
+        end -= 1;
+    }
+    end
+}
+
 // The lowest unticked position below end of the row at offset a, or end.
 fn lowest_unticked(s: &[u8], a: usize, end: usize) -> usize
     requires { ⌜ (a + rowSize ≤ length (now s)) × (end ≤ rowLength) ⌝ }
     ensures { λ r. ⌜ r ≡ lowest end (λ i. not (tickedAt (now (s .entry)) a i)) ⌝ }
 {
-    for i in 0..end {
+    let start = BYTE_BITS * full_bytes(s, a, end / BYTE_BITS);
+    for i in start..end {
         if !is_ticked(s, a, i) {
             return i;
         }
     }
     end
+}
+
+// How many tick bytes are full, from the first on and no more than end: their positions are all ticked.
+fn full_bytes(s: &[u8], a: usize, end: usize) -> usize
+    requires { ⌜ (a + rowSize ≤ length (now s)) × (end ≤ ticksSize) ⌝ }
+    ensures { λ r. ⌜ (r ≤ end) × (all (byteBits * r) (tickedAt (now (s .entry)) a) ≡ true) ⌝ }
+{
+    let mut n = 0;
+    while n < end && s[a + TICKS_AT + n] == FULL {
+        n += 1;
+    }
+    n
 }
 
 // The number at position i of the row at offset a.

@@ -3,20 +3,26 @@ use Prim.Native.Nat.{_≤_, _-_}
 use mathlib.Core.Bool.{not}
 use mathlib.Core.Path.{_≡_, sym, ap}
 use native.Mathlib.Omega.{arith}
-use Rattle.octets.proofs.Laws.{failed, passed}
+use Rattle.octets.proofs.Laws.{failed, passed, all-at}
 use Rattle.sheet.specs.Rows.{tickedAt}
-use Rattle.sheet.proofs.Scans.{Fails, each-none, each-more, lowest-here, lowest-none}
+use Rattle.sheet.proofs.Scans.{Fails, each-more, lowest-here, lowest-none}
 use Rattle.sheet.proofs.counts.lowest_unticked.Statement.{statement}
 use Rattle.sheet.proofs.counts.lowest_unticked.Tie as tie
 
 abbrev Inv-loop : tie.InvT-loop
-Inv-loop s a end i₀ i = (i ≤ end) × Fails (λ j. not (tickedAt s a j)) i
+Inv-loop s a end start i₀ i = (i ≤ end) × Fails (λ j. not (tickedAt s a j)) i
 
 abbrev μ-loop : tie.MeasureT-loop
-μ-loop s a end i₀ i = end - i
+μ-loop s a end start i₀ i = end - i
+
+full-bytes-requires : tie.Need-full-bytes-requires Inv-loop μ-loop
+full-bytes-requires c κs = (omega arith, omega arith)
+
+mul-start : tie.Need-mul-start Inv-loop μ-loop
+mul-start c = omega arith
 
 loop-holds : tie.Need-loop-holds Inv-loop μ-loop
-loop-holds c = (omega arith, each-none _ _)
+loop-holds c = (omega arith, λ j l. ap not (all-at _ j _ (c .full-bytes .ensures .1) l))
 
 is-ticked-requires : tie.Need-is-ticked-requires Inv-loop μ-loop
 is-ticked-requires c κs = omega arith
@@ -40,7 +46,7 @@ loop-again c =
 returns-2 : tie.Need-returns-2 Inv-loop μ-loop
 returns-2 c =
     let at = c .before .loop in
-    let e : at .i ≡ c .before .before .before .args .end = omega arith in
+    let e : at .i ≡ c .before .before .before .before .args .end = omega arith in
     sym (lowest-none _ _ (rw e at (at .inv .1)))
 
 pub lowest-unticked-spec : {M : Type 1} → statement M
@@ -49,6 +55,8 @@ lowest-unticked-spec =
     (tie.spec
     Inv-loop
     μ-loop
+    full-bytes-requires
+    mul-start
     loop-holds
     is-ticked-requires
     returns

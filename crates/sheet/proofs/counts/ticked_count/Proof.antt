@@ -1,48 +1,59 @@
--- `counts::ticked_count` meets its contract. The invariant: the count is that of the first i positions. Assumes nothing.
-use Prim.Native.Nat.{_≤_, _-_}
-use mathlib.Core.Logic.{⊎-elim}
-use mathlib.Core.Path.{_≡_, sym, _∙_}
+-- `counts::ticked_count` meets its contract. The invariant: the count is that of the positions of the first n bytes.
+-- Assumes nothing.
+use Prim.Native.Nat.{_+_, _*_, _≤_, _-_}
+use mathlib.Core.Path.{_≡_, sym}
 use native.Mathlib.Omega.{arith}
+use lib.Count.{ones-le}
 use Rattle.model.specs.Positions.{rowLength, size}
+use Rattle.sheet.specs.Sheet.{ticksAt, ticksSize, byteBits}
 use Rattle.sheet.specs.Rows.{tickedAt, table, ticksOf}
-use Rattle.sheet.proofs.Missing.{size-none, size-more}
+use Rattle.sheet.proofs.Missing.{size-none}
+use Rattle.sheet.proofs.TickBytes.{tickByte, ones-more}
 use Rattle.sheet.proofs.counts.ticked_count.Statement.{statement}
 use Rattle.sheet.proofs.counts.ticked_count.Tie as tie
 
 abbrev Inv-loop : tie.InvT-loop
-Inv-loop s a count₀ i₀ count i = (i ≤ rowLength) × (count ≤ i) × (count ≡ size (table i (tickedAt s a)))
+Inv-loop s a count₀ n₀ count n = (n ≤ ticksSize) × (count ≤ byteBits * n) × (count ≡ size (table (byteBits * n) (tickedAt s a)))
 
 abbrev μ-loop : tie.MeasureT-loop
-μ-loop s a count₀ i₀ count i = rowLength - i
+μ-loop s a count₀ n₀ count n = ticksSize - n
 
 loop-holds : tie.Need-loop-holds Inv-loop μ-loop
 loop-holds c = (omega arith, omega arith, sym (size-none _))
 
-is-ticked-requires : tie.Need-is-ticked-requires Inv-loop μ-loop
-is-ticked-requires c κs = omega arith
-
 add-count : tie.Need-add-count Inv-loop μ-loop
 add-count c = omega arith
 
-add-i : tie.Need-add-i Inv-loop μ-loop
-add-i c = omega arith
+add-count-2 : tie.Need-add-count-2 Inv-loop μ-loop
+add-count-2 c = omega arith
+
+shared-slice-read-count : tie.Need-shared-slice-read-count Inv-loop μ-loop
+shared-slice-read-count c = omega arith
+
+add-count-3 : tie.Need-add-count-3 Inv-loop μ-loop
+add-count-3 c =
+    let g = c .before .before .before .args in
+    let n = c .before .before .loop .n in
+    omega (arith, ones-le byteBits (tickByte (g .s .now) (g .a) n) (c .shared-slice-known .given (g .a + ticksAt + n) .fits))
+
+add-n : tie.Need-add-n Inv-loop μ-loop
+add-n c = omega arith
 
 loop-less : tie.Need-loop-less Inv-loop μ-loop
 loop-less c = omega arith
 
 loop-again : tie.Need-loop-again Inv-loop μ-loop
 loop-again c =
-    let at = c .before .before .before .loop in
-    let g = c .before .before .before .before .before .args in
-    let more = size-more (at .i) (tickedAt (g .s .now) (g .a)) in
-    ⊎-elim
-    (λ w. let t = sym (c .before .is-ticked .ensures) ∙ w .0 .taken in (omega arith, omega arith, omega (arith, rw t at more)))
-    (λ w. let t = sym (c .before .is-ticked .ensures) ∙ w .0 .left in (omega arith, omega arith, omega (arith, rw t at more)))
-    (c .if1 .came)
+    let g = c .before .before .before .args in
+    let n = c .before .before .loop .n in
+    let fits = c .shared-slice-known .given (g .a + ticksAt + n) .fits in
+    let few = ones-le byteBits (tickByte (g .s .now) (g .a) n) fits in
+    let more = ones-more (g .s .now) (g .a) n fits in
+    (omega arith, omega arith, omega arith)
 
 returns : tie.Need-returns Inv-loop μ-loop
 unfolding ticksOf
-returns c = let e : c .before .loop .i ≡ rowLength = omega arith in rw (← e) (c .before .loop .inv .2)
+returns c = let e : byteBits * c .before .loop .n ≡ rowLength = omega arith in rw (← e) (c .before .loop .inv .2)
 
 pub ticked-count-spec : {M : Type 1} → statement M
 ticked-count-spec =
@@ -51,9 +62,11 @@ ticked-count-spec =
     Inv-loop
     μ-loop
     loop-holds
-    is-ticked-requires
     add-count
-    add-i
+    add-count-2
+    shared-slice-read-count
+    add-count-3
+    add-n
     loop-less
     loop-again
     returns)

@@ -1,6 +1,6 @@
 -- `counts::ticks_end` meets its contract. The invariant: no position from end on is ticked. Assumes nothing.
 use Prim.Native.Nat.{_≤_}
-use mathlib.Core.Path.{_≡_, refl, sym, _∙_}
+use mathlib.Core.Path.{_≡_, sym, _∙_}
 use native.Mathlib.Omega.{arith}
 use Rattle.model.specs.Positions.{rowLength}
 use Rattle.sheet.specs.Rows.{tickedAt}
@@ -15,8 +15,14 @@ Inv-loop s a end₀ end = (end ≤ rowLength) × (pastHighest rowLength (tickedA
 abbrev μ-loop : tie.MeasureT-loop
 μ-loop s a end₀ end = end
 
+bytes-end-requires : tie.Need-bytes-end-requires Inv-loop μ-loop
+bytes-end-requires c κs = omega arith
+
+mul-end : tie.Need-mul-end Inv-loop μ-loop
+mul-end c = omega arith
+
 loop-holds : tie.Need-loop-holds Inv-loop μ-loop
-loop-holds c = (omega arith, refl)
+loop-holds c = (omega arith, c .bytes-end .ensures .1)
 
 sub-is-ticked : tie.Need-sub-is-ticked Inv-loop μ-loop
 sub-is-ticked c = omega arith
@@ -52,6 +58,8 @@ ticks-end-spec =
     (tie.spec
     Inv-loop
     μ-loop
+    bytes-end-requires
+    mul-end
     loop-holds
     sub-is-ticked
     is-ticked-requires

@@ -1,0 +1,69 @@
+-- `counts::bytes_end` meets its contract. The invariant: no position of the bytes from end on is ticked. Assumes nothing.
+use Prim.Native.Nat.{_+_, _-_, _*_, _≤_}
+use mathlib.Core.Path.{_≡_, refl, _∙_}
+use native.Mathlib.Omega.{arith}
+use borrow.Author.Tests.{eqb-true}
+use Rattle.model.specs.Positions.{rowLength}
+use Rattle.sheet.specs.Sheet.{ticksSize, byteBits}
+use Rattle.sheet.specs.Rows.{tickedAt}
+use Rattle.sheet.specs.Bytes.{pastHighest}
+use Rattle.sheet.proofs.TickBytes.{past-byte}
+use Rattle.sheet.proofs.counts.bytes_end.Statement.{statement}
+use Rattle.sheet.proofs.counts.bytes_end.Tie as tie
+
+abbrev Inv-loop : tie.InvT-loop
+Inv-loop s a end₀ end = (end ≤ ticksSize) × (pastHighest rowLength (tickedAt s a) ≡ pastHighest (byteBits * end) (tickedAt s a))
+
+abbrev μ-loop : tie.MeasureT-loop
+μ-loop s a end₀ end = end
+
+loop-holds : tie.Need-loop-holds Inv-loop μ-loop
+loop-holds c = (omega arith, refl)
+
+add-if1 : tie.Need-add-if1 Inv-loop μ-loop
+add-if1 c = omega arith
+
+sub-if1 : tie.Need-sub-if1 Inv-loop μ-loop
+sub-if1 c = omega arith
+
+add-if1-2 : tie.Need-add-if1-2 Inv-loop μ-loop
+add-if1-2 c = omega arith
+
+shared-slice-read-if1 : tie.Need-shared-slice-read-if1 Inv-loop μ-loop
+shared-slice-read-if1 c = omega arith
+
+sub-end : tie.Need-sub-end Inv-loop μ-loop
+sub-end c = omega arith
+
+loop-less : tie.Need-loop-less Inv-loop μ-loop
+loop-less c = omega arith
+
+loop-again : tie.Need-loop-again Inv-loop μ-loop
+loop-again c =
+    let at = c .before .before .before .loop in
+    let g = c .before .before .before .before .args in
+    let last : at .end - 1 + 1 ≡ at .end = omega arith in
+    (omega arith, at .inv .1 ∙ rw last at (past-byte (g .s .now) (g .a) (at .end - 1) (eqb-true _ _ (c .if1 .taken))))
+
+returns : tie.Need-returns Inv-loop μ-loop
+returns c = c .before .before .before .loop .inv
+
+returns-2 : tie.Need-returns-2 Inv-loop μ-loop
+returns-2 c = c .before .loop .inv
+
+pub bytes-end-spec : {M : Type 1} → statement M
+bytes-end-spec =
+    tie.close
+    (tie.spec
+    Inv-loop
+    μ-loop
+    loop-holds
+    add-if1
+    sub-if1
+    add-if1-2
+    shared-slice-read-if1
+    sub-end
+    loop-less
+    loop-again
+    returns
+    returns-2)
