@@ -24,16 +24,17 @@ ghost use Rattle.sheet.specs.Words.{reportAnswerWords, gapWords};
 // A tick byte whose positions are all ticked.
 const FULL: u8 = 255;
 
-// How many positions of the row at offset a are ticked: the ones of its tick bytes.
+// How many positions of the row at offset a are ticked: the ones of its tick bytes. They are summed in 16 bits, of which
+// LLVM adds twice as many at a time as of 32.
 fn ticked_count(s: &[u8], a: usize) -> u32
     requires { ⌜ a + rowSize ≤ length (now s) ⌝ }
     ensures { λ r. ⌜ r ≡ size (ticksOf (now (s .entry)) a) ⌝ }
 {
-    let mut count: u32 = 0;
+    let mut count: u16 = 0;
     for n in 0..TICKS {
-        count += u8::count_ones(s[a + TICKS_AT + n]);
+        count += u8::count_ones(s[a + TICKS_AT + n]) as u16;
     }
-    count
+    count as u32
 }
 
 // One past the highest ticked position of the row at offset a, or 0. What is unticked below it is missing.

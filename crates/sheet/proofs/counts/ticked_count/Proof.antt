@@ -30,6 +30,12 @@ add-count-2 c = omega arith
 shared-slice-read-count : tie.Need-shared-slice-read-count Inv-loop μ-loop
 shared-slice-read-count c = omega arith
 
+cast-count : tie.Need-cast-count Inv-loop μ-loop
+cast-count c =
+    let g = c .before .before .before .args in
+    let n = c .before .before .loop .n in
+    omega (arith, ones-le byteBits (tickByte (g .s .now) (g .a) n) (c .shared-slice-known .given (g .a + ticksAt + n) .fits))
+
 add-count-3 : tie.Need-add-count-3 Inv-loop μ-loop
 add-count-3 c =
     let g = c .before .before .before .args in
@@ -51,6 +57,9 @@ loop-again c =
     let more = ones-more (g .s .now) (g .a) n fits in
     (omega arith, omega arith, omega arith)
 
+cast-result : tie.Need-cast-result Inv-loop μ-loop
+cast-result c = omega arith
+
 returns : tie.Need-returns Inv-loop μ-loop
 unfolding ticksOf
 returns c = let e : byteBits * c .before .loop .n ≡ rowLength = omega arith in rw (← e) (c .before .loop .inv .2)
@@ -65,8 +74,10 @@ ticked-count-spec =
     add-count
     add-count-2
     shared-slice-read-count
+    cast-count
     add-count-3
     add-n
     loop-less
     loop-again
+    cast-result
     returns)
