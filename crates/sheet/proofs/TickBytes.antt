@@ -1,19 +1,19 @@
 -- The positions of a tick byte are its bits, from the lowest: as many are ticked as the byte has ones. Assumes nothing.
-use Prim.Native.Nat.{ℕ, zero, suc, _+_, _-_, _*_, _/_, _%_, _^_, _≤_, _<_}
+use Prim.Native.Nat.{ℕ, zero, suc, _+_, _*_, _/_, _%_, _^_, _≤_, _<_}
 use native.Mathlib.Nat.{add-zero, mod-lt, div-one, pow-succ', div-div-eq-div-mul, zero-lt-suc}
 use native.Mathlib.Omega.{arith}
-use mathlib.Core.Bool.{Bool, true, false, cond}
+use mathlib.Core.Bool.{Bool, true, false, not, cond}
 use mathlib.Core.List.{List, [], _∷_}
 use mathlib.Core.Path.{_≡_, refl, sym, ap, _∙_, fun-ext}
-use borrow.Author.Tests.{ltb-true, ltb-false}
+use borrow.Author.Tests.{eqb-true, not-false}
 use lib.Count.{ones, ones-step}
-use lib.Dec.{eqb, ltb}
+use lib.Dec.{eqb}
 use lib.ListN.{getD}
 use Rattle.model.specs.Positions.{size}
 use Rattle.sheet.specs.Sheet.{ticksAt, byteBits}
 use Rattle.sheet.specs.Rows.{tickedAt, table}
 use Rattle.sheet.specs.Bytes.{pastHighest}
-use Rattle.sheet.proofs.Scans.{Each, past-skip}
+use Rattle.sheet.proofs.Scans.{Each, Fails, past-skip}
 use Rattle.sheet.proofs.Bits.{below-eight}
 use Rattle.sheet.proofs.Missing.{size-cons, size-none, size-more}
 
@@ -85,23 +85,40 @@ alike-bits : (b : Bool) → Each b (bitOf (alike b)) byteBits
 alike-bits true = below-eight (λ k. bitOf (alike true) k ≡ true) refl refl refl refl refl refl refl refl
 alike-bits false = below-eight (λ k. bitOf (alike false) k ≡ false) refl refl refl refl refl refl refl refl
 
-alike-ticks : (b : Bool) (s : List ℕ) (a n i : ℕ) → tickByte s a n ≡ alike b → byteBits * n ≤ i → i < byteBits * (n + 1) → tickedAt s a i ≡ b
-alike-ticks b s a n i e h l =
-    let k = i - byteBits * n in
-    let at : byteBits * n + k ≡ i = omega arith in
-    rw (← at) (ticked-bit s a n k (omega arith) ∙ rw e (alike-bits b k (omega arith)))
+-- a position of such a byte
+alike-tick : (b : Bool) (s : List ℕ) (a i : ℕ) → tickByte s a (i / byteBits) ≡ alike b → tickedAt s a i ≡ b
+unfolding tickedAt
+alike-tick b s a i e = rw e (alike-bits b (i % byteBits) (mod-lt i (zero-lt-suc 7)))
 
--- its positions are as those before it
-pub each-byte : (b : Bool) (s : List ℕ) (a n : ℕ) → tickByte s a n ≡ alike b → Each b (tickedAt s a) (byteBits * n) → Each b (tickedAt s a) (byteBits * (n + 1))
-each-byte b s a n e h j l = by (ltb j (byteBits * n)) refl
-  where
-    by : (f : Bool) → ltb j (byteBits * n) ≡ f → tickedAt s a j ≡ b
-    by true q = h j (ltb-true _ _ q)
-    by false q = alike-ticks b s a n j e (ltb-false _ _ q) l
+module _ (s : List ℕ) (a : ℕ) where
+  abbrev pub notZero : ℕ → Bool
+  notZero n = not (eqb (tickByte s a n) (alike false))
 
--- the end of the ticks lies below a byte of zero
-pub past-byte : (s : List ℕ) (a n : ℕ) → tickByte s a n ≡ alike false
-    → pastHighest (byteBits * (n + 1)) (tickedAt s a) ≡ pastHighest (byteBits * n) (tickedAt s a)
-past-byte s a n e =
-    let next : byteBits * (n + 1) ≡ byteBits * n + byteBits = omega arith in
-    rw next (past-skip byteBits (byteBits * n) (tickedAt s a) (λ i h l. alike-ticks false s a n i e h (omega arith)))
+  abbrev pub notFull : ℕ → Bool
+  notFull n = not (eqb (tickByte s a n) (alike true))
+
+  -- no position of a byte of zero is ticked
+  zero-byte : (n : ℕ) → notZero n ≡ false → pastHighest (byteBits * suc n) (tickedAt s a) ≡ pastHighest (byteBits * n) (tickedAt s a)
+  zero-byte n e =
+      let next : byteBits * suc n ≡ byteBits * n + byteBits = omega arith in
+      rw next (past-skip byteBits (byteBits * n) (tickedAt s a) (λ i h l.
+      let here : i / byteBits ≡ n = omega arith in
+      alike-tick false s a i (rw here (eqb-true _ _ (not-false _ e)))))
+
+  -- so the end of the ticks lies in the highest byte that is not zero
+  pub end-in-byte : (n : ℕ) → pastHighest (byteBits * n) (tickedAt s a) ≡ pastHighest (byteBits * pastHighest n notZero) (tickedAt s a)
+  unfolding pastHighest
+  end-in-byte zero = refl
+  end-in-byte (suc n) = by (notZero n) refl (end-in-byte n)
+    where
+      end : ℕ
+      end = pastHighest n notZero
+
+      by : (f : Bool) → notZero n ≡ f → pastHighest (byteBits * n) (tickedAt s a) ≡ pastHighest (byteBits * end) (tickedAt s a)
+          → pastHighest (byteBits * suc n) (tickedAt s a) ≡ pastHighest (byteBits * cond (notZero n) (suc n) end) (tickedAt s a)
+      by true e h = rw e
+      by false e h = rw e (zero-byte n e ∙ h)
+
+  -- all positions below a byte are ticked where the bytes below it are full
+  pub full-ticks : (n : ℕ) → Fails notFull n → Each true (tickedAt s a) (byteBits * n)
+  full-ticks n h i l = alike-tick true s a i (eqb-true _ _ (not-false _ (h (i / byteBits) (omega arith))))

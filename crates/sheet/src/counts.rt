@@ -11,12 +11,12 @@ use crate::right::rows_used;
 use crate::rows::first_at;
 use crate::ticks::is_ticked;
 ghost use mathlib.Core.Path.{_≡_};
-ghost use mathlib.Core.Bool.{true, not};
-ghost use Prim.Native.Nat.{_+_, _*_, _≤_, _<_};
-ghost use lib.ListN.{length};
-ghost use Rattle.octets.specs.Octets.{all};
+ghost use mathlib.Core.Bool.{not};
+ghost use Prim.Native.Nat.{_+_, _≤_, _<_};
+ghost use lib.Dec.{eqb};
+ghost use lib.ListN.{length, getD};
 ghost use Rattle.model.specs.Positions.{rowLength, size};
-ghost use Rattle.sheet.specs.Sheet.{sheetSize, rowSize, ticksSize, byteBits, rowCount, rowAt, used, Sized};
+ghost use Rattle.sheet.specs.Sheet.{sheetSize, rowSize, ticksAt, ticksSize, rowCount, rowAt, used, Sized};
 ghost use Rattle.sheet.specs.Rows.{tickedAt, ticksOf};
 ghost use Rattle.sheet.specs.Bytes.{lowest, pastHighest, numberAtPosition, reportWords, gapFrom};
 ghost use Rattle.sheet.specs.Words.{reportAnswerWords, gapWords};
@@ -52,10 +52,10 @@ fn ticks_end(s: &[u8], a: usize) -> usize
     0
 }
 
-// One past the highest tick byte that is not zero, or 0: no position is ticked from there on.
+// One past the highest tick byte that is not zero, or 0. No position is ticked from there on.
 fn bytes_end(s: &[u8], a: usize) -> usize
     requires { ⌜ a + rowSize ≤ length (now s) ⌝ }
-    ensures { λ r. ⌜ (r ≤ ticksSize) × (pastHighest rowLength (tickedAt (now (s .entry)) a) ≡ pastHighest (byteBits * r) (tickedAt (now (s .entry)) a)) ⌝ }
+    ensures { λ r. ⌜ r ≡ pastHighest ticksSize (λ n. not (eqb (getD (now (s .entry)) (a + ticksAt + n) 0) 0)) ⌝ }
 {
     let mut end = TICKS;
     while 0 < end && s[a + TICKS_AT + (end - 1)] == 0 {
@@ -69,7 +69,7 @@ fn lowest_unticked(s: &[u8], a: usize, end: usize) -> usize
     requires { ⌜ (a + rowSize ≤ length (now s)) × (end ≤ rowLength) ⌝ }
     ensures { λ r. ⌜ r ≡ lowest end (λ i. not (tickedAt (now (s .entry)) a i)) ⌝ }
 {
-    let start = BYTE_BITS * full_bytes(s, a, end / BYTE_BITS);
+    let start = BYTE_BITS * lowest_unfilled(s, a, end / BYTE_BITS);
     for i in start..end {
         if !is_ticked(s, a, i) {
             return i;
@@ -78,10 +78,10 @@ fn lowest_unticked(s: &[u8], a: usize, end: usize) -> usize
     end
 }
 
-// How many tick bytes are full, from the first on and no more than end: their positions are all ticked.
-fn full_bytes(s: &[u8], a: usize, end: usize) -> usize
+// The lowest tick byte below end that is not full, or end. All positions below it are ticked.
+fn lowest_unfilled(s: &[u8], a: usize, end: usize) -> usize
     requires { ⌜ (a + rowSize ≤ length (now s)) × (end ≤ ticksSize) ⌝ }
-    ensures { λ r. ⌜ (r ≤ end) × (all (byteBits * r) (tickedAt (now (s .entry)) a) ≡ true) ⌝ }
+    ensures { λ r. ⌜ r ≡ lowest end (λ n. not (eqb (getD (now (s .entry)) (a + ticksAt + n) 0) 255)) ⌝ }
 {
     let mut n = 0;
     while n < end && s[a + TICKS_AT + n] == FULL {

@@ -1,18 +1,17 @@
--- `counts::bytes_end` meets its contract. The invariant: no position of the bytes from end on is ticked. Assumes nothing.
-use Prim.Native.Nat.{_+_, _-_, _*_, _≤_}
-use mathlib.Core.Path.{_≡_, refl, _∙_}
+-- `counts::bytes_end` meets its contract. The invariant: no byte from end on is other than zero. Assumes nothing.
+use Prim.Native.Nat.{_-_, _≤_}
+use mathlib.Core.Path.{_≡_, refl, sym, ap, _∙_}
+use mathlib.Core.Bool.{not}
 use native.Mathlib.Omega.{arith}
-use borrow.Author.Tests.{eqb-true}
-use Rattle.model.specs.Positions.{rowLength}
-use Rattle.sheet.specs.Sheet.{ticksSize, byteBits}
-use Rattle.sheet.specs.Rows.{tickedAt}
+use Rattle.sheet.specs.Sheet.{ticksSize}
 use Rattle.sheet.specs.Bytes.{pastHighest}
-use Rattle.sheet.proofs.TickBytes.{past-byte}
+use Rattle.sheet.proofs.Scans.{past-here, past-down, past-none}
+use Rattle.sheet.proofs.TickBytes.{notZero}
 use Rattle.sheet.proofs.counts.bytes_end.Statement.{statement}
 use Rattle.sheet.proofs.counts.bytes_end.Tie as tie
 
 abbrev Inv-loop : tie.InvT-loop
-Inv-loop s a end₀ end = (end ≤ ticksSize) × (pastHighest rowLength (tickedAt s a) ≡ pastHighest (byteBits * end) (tickedAt s a))
+Inv-loop s a end₀ end = (end ≤ ticksSize) × (pastHighest ticksSize (notZero s a) ≡ pastHighest end (notZero s a))
 
 abbrev μ-loop : tie.MeasureT-loop
 μ-loop s a end₀ end = end
@@ -41,15 +40,18 @@ loop-less c = omega arith
 loop-again : tie.Need-loop-again Inv-loop μ-loop
 loop-again c =
     let at = c .before .before .before .loop in
-    let g = c .before .before .before .before .args in
-    let last : at .end - 1 + 1 ≡ at .end = omega arith in
-    (omega arith, at .inv .1 ∙ rw last at (past-byte (g .s .now) (g .a) (at .end - 1) (eqb-true _ _ (c .if1 .taken))))
+    (omega arith, at .inv .1 ∙ past-down (at .end) _ (omega arith) (ap not (c .if1 .taken)))
 
 returns : tie.Need-returns Inv-loop μ-loop
-returns c = c .before .before .before .loop .inv
+returns c =
+    let at = c .before .before .before .loop in
+    sym (at .inv .1 ∙ past-here (at .end) _ (omega arith) (ap not (c .if1 .left)))
 
 returns-2 : tie.Need-returns-2 Inv-loop μ-loop
-returns-2 c = c .before .loop .inv
+returns-2 c =
+    let at = c .before .loop in
+    let e : at .end ≡ 0 = omega arith in
+    e ∙ sym (rw e at (at .inv .1) ∙ past-none _)
 
 pub bytes-end-spec : {M : Type 1} → statement M
 bytes-end-spec =

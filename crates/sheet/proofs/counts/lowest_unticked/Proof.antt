@@ -1,11 +1,14 @@
 -- `counts::lowest_unticked` meets its contract. The invariant: the first i positions are ticked. Assumes nothing.
-use Prim.Native.Nat.{_≤_, _-_}
+use Prim.Native.Nat.{_/_, _≤_, _-_}
 use mathlib.Core.Bool.{not}
 use mathlib.Core.Path.{_≡_, sym, ap}
 use native.Mathlib.Omega.{arith}
-use Rattle.octets.proofs.Laws.{failed, passed, all-at}
+use Rattle.octets.proofs.Laws.{failed, passed}
+use Rattle.sheet.specs.Sheet.{byteBits}
 use Rattle.sheet.specs.Rows.{tickedAt}
-use Rattle.sheet.proofs.Scans.{Fails, each-more, lowest-here, lowest-none}
+use Rattle.sheet.specs.Bytes.{lowest}
+use Rattle.sheet.proofs.Scans.{Fails, each-more, lowest-here, lowest-none, lowest-within, lowest-fails}
+use Rattle.sheet.proofs.TickBytes.{notFull, full-ticks}
 use Rattle.sheet.proofs.counts.lowest_unticked.Statement.{statement}
 use Rattle.sheet.proofs.counts.lowest_unticked.Tie as tie
 
@@ -15,14 +18,24 @@ Inv-loop s a end start i₀ i = (i ≤ end) × Fails (λ j. not (tickedAt s a j)
 abbrev μ-loop : tie.MeasureT-loop
 μ-loop s a end start i₀ i = end - i
 
-full-bytes-requires : tie.Need-full-bytes-requires Inv-loop μ-loop
-full-bytes-requires c κs = (omega arith, omega arith)
+lowest-unfilled-requires : tie.Need-lowest-unfilled-requires Inv-loop μ-loop
+lowest-unfilled-requires c κs = (omega arith, omega arith)
 
 mul-start : tie.Need-mul-start Inv-loop μ-loop
-mul-start c = omega arith
+mul-start c =
+    let g = c .before .before .args in
+    let full = c .lowest-unfilled .ensures in
+    let within = lowest-within (g .end / byteBits) (notFull (g .s .now) (g .a)) in
+    omega arith
 
 loop-holds : tie.Need-loop-holds Inv-loop μ-loop
-loop-holds c = (omega arith, λ j l. ap not (all-at _ j _ (c .full-bytes .ensures .1) l))
+loop-holds c =
+    let g = c .before .before .args in
+    let full = c .lowest-unfilled .ensures in
+    let bytes = g .end / byteBits in
+    let within = lowest-within bytes (notFull (g .s .now) (g .a)) in
+    let ticked = full-ticks (g .s .now) (g .a) (lowest bytes (notFull (g .s .now) (g .a))) (lowest-fails bytes (notFull (g .s .now) (g .a))) in
+    (omega arith, λ j l. ap not (ticked j (omega arith)))
 
 is-ticked-requires : tie.Need-is-ticked-requires Inv-loop μ-loop
 is-ticked-requires c κs = omega arith
@@ -55,7 +68,7 @@ lowest-unticked-spec =
     (tie.spec
     Inv-loop
     μ-loop
-    full-bytes-requires
+    lowest-unfilled-requires
     mul-start
     loop-holds
     is-ticked-requires

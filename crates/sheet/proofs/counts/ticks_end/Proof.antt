@@ -3,9 +3,11 @@ use Prim.Native.Nat.{_≤_}
 use mathlib.Core.Path.{_≡_, sym, _∙_}
 use native.Mathlib.Omega.{arith}
 use Rattle.model.specs.Positions.{rowLength}
+use Rattle.sheet.specs.Sheet.{ticksSize}
 use Rattle.sheet.specs.Rows.{tickedAt}
 use Rattle.sheet.specs.Bytes.{pastHighest}
-use Rattle.sheet.proofs.Scans.{past-here, past-down, past-none}
+use Rattle.sheet.proofs.Scans.{top-of, past-here, past-down, past-none}
+use Rattle.sheet.proofs.TickBytes.{notZero, end-in-byte}
 use Rattle.sheet.proofs.counts.ticks_end.Statement.{statement}
 use Rattle.sheet.proofs.counts.ticks_end.Tie as tie
 
@@ -19,10 +21,18 @@ bytes-end-requires : tie.Need-bytes-end-requires Inv-loop μ-loop
 bytes-end-requires c κs = omega arith
 
 mul-end : tie.Need-mul-end Inv-loop μ-loop
-mul-end c = omega arith
+mul-end c =
+    let g = c .before .before .args in
+    let end = c .bytes-end .ensures in
+    let within = top-of ticksSize (notZero (g .s .now) (g .a)) .within in
+    omega arith
 
 loop-holds : tie.Need-loop-holds Inv-loop μ-loop
-loop-holds c = (omega arith, c .bytes-end .ensures .1)
+loop-holds c =
+    let g = c .before .before .args in
+    let end = c .bytes-end .ensures in
+    let within = top-of ticksSize (notZero (g .s .now) (g .a)) .within in
+    (omega arith, rw end (end-in-byte (g .s .now) (g .a) ticksSize))
 
 sub-is-ticked : tie.Need-sub-is-ticked Inv-loop μ-loop
 sub-is-ticked c = omega arith
