@@ -39,22 +39,28 @@ length-judged : length judgedBytes ≡ entries
 unfolding judgedBytes
 length-judged = refl
 
-module _ (s : List ℕ) (i : ℕ) (h : i < entries) where
-  pub fault-here : inRange (getD judgedBytes i noField .allowed) (getD s (getD judgedBytes i noField .at) 0) ≡ false
-      → faultFrom s i ≡ getD judgedBytes i noField .at
+-- Entry i of a table that is the specification's: a byte out of range decides, one in range leaves it to the next entry; every
+-- entry lies before the year.
+module _ (table : List Judged) (same : table ≡ judgedBytes) (i : ℕ) (h : i < entries) where
+  pub fault-here : (s : List ℕ) → inRange (getD table i noField .allowed) (getD s (getD table i noField .at) 0) ≡ false
+      → faultFrom s i ≡ getD table i noField .at
   unfolding faultFrom verdict
-  fault-here e = let l : i < length judgedBytes = rw length-judged h in rw (drop-cons judgedBytes i noField, e)
+  fault-here s e =
+      let l : i < length judgedBytes = rw length-judged h in
+      rw (same, drop-cons judgedBytes i noField, rw same at e)
 
-  pub fault-past : inRange (getD judgedBytes i noField .allowed) (getD s (getD judgedBytes i noField .at) 0) ≡ true
+  pub fault-past : (s : List ℕ) → inRange (getD table i noField .allowed) (getD s (getD table i noField .at) 0) ≡ true
       → faultFrom s i ≡ faultFrom s (i + 1)
   unfolding faultFrom verdict
-  fault-past e = let l : i < length judgedBytes = rw length-judged h in rw (add-one, drop-cons judgedBytes i noField, e)
+  fault-past s e =
+      let l : i < length judgedBytes = rw length-judged h in
+      rw (add-one, drop-cons judgedBytes i noField, rw same at e)
 
--- Every entry lies before the year, and none at 0.
-pub at-low : (i : ℕ) → i < entries → getD judgedBytes i noField .at < 60
-unfolding judgedBytes all
-at-low i h = ltb-true _ _ (all-at entries i (λ k. ltb (getD judgedBytes k noField .at) 60) refl h)
+  pub at-low : getD table i noField .at < 60
+  unfolding judgedBytes all
+  at-low = rw same (ltb-true _ _ (all-at entries i (λ k. ltb (getD judgedBytes k noField .at) 60) refl h))
 
+-- No entry stands at 0.
 pub numbered : (s : List ℕ) → Numbered (byteRows s)
 unfolding judgedBytes
 numbered s = (lit< tt, (lit< tt, (lit< tt, (lit< tt, (lit< tt, (lit< tt, (lit< tt, (lit< tt, (lit< tt, (lit< tt, tt))))))))))

@@ -1,8 +1,8 @@
--- `headers::rsr::byte_fault` meets its contract. The code's table is the paper's, entry for entry; the invariant: what is left
--- of it decides. Assumes nothing.
+-- `headers::rsr::byte_fault` meets its contract. The invariant: the code's table is the specification's, and what is left of it
+-- decides. Assumes nothing.
 use native.Mathlib.Omega.{arith}
 use Prim.Native.Nat.{_≤_, _-_}
-use mathlib.Core.Path.{_≡_, ap, sym, _∙_}
+use mathlib.Core.Path.{_≡_, refl, ap, sym, _∙_}
 use Rattle.refusals.specs.Judge.{verdict}
 use Rattle.octets.proofs.Laws.{failed, passed}
 use Rattle.headers.specs.Ranges.{judgedBytes, byteRows}
@@ -14,13 +14,14 @@ use Rattle.headers.proofs.rsr.byte_fault.Lts as lts
 use Rattle.headers.proofs.rsr.in_range.Reads as in-range-reads
 
 abbrev Inv-loop : tie.InvT-loop
-Inv-loop s table i₀ i = (i ≤ entries) × (verdict (byteRows s) ≡ faultFrom s i)
+Inv-loop s table i₀ i = (i ≤ entries) × (table ≡ judgedBytes) × (verdict (byteRows s) ≡ faultFrom s i)
 
 abbrev μ-loop : tie.MeasureT-loop
 μ-loop s table i₀ i = entries - i
 
 loop-holds : tie.Need-loop-holds Inv-loop μ-loop
-loop-holds c = (omega arith, from-start _)
+unfolding judgedBytes
+loop-holds c = (omega arith, refl, from-start _)
 
 mul-field : tie.Need-mul-field Inv-loop μ-loop
 mul-field c = omega arith
@@ -29,19 +30,19 @@ array-copy-out-field : tie.Need-array-copy-out-field Inv-loop μ-loop
 array-copy-out-field c = omega arith
 
 shared-slice-read-in-range : tie.Need-shared-slice-read-in-range Inv-loop μ-loop
-unfolding judgedBytes
-shared-slice-read-in-range c = omega (arith, at-low (c .before .before .before .loop .i) (omega arith))
+shared-slice-read-in-range c =
+    let loop = c .before .before .before .loop in
+    omega (arith, at-low _ (loop .inv .1) (loop .i) (omega arith))
 
 in-range-requires : tie.Need-in-range-requires Inv-loop μ-loop
 in-range-requires c κs = tt
 
 returns : tie.Need-returns Inv-loop μ-loop
-unfolding judgedBytes
 returns c =
     let s = c .before .before .before .before .before .before .before .args .s .now in
     let loop = c .before .before .before .before .before .loop in
     let e = failed (c .before .in-range .ensures) (c .if1 .taken) in
-    sym (loop .inv .1 ∙ fault-here s (loop .i) (omega arith) e)
+    sym (loop .inv .2 ∙ fault-here _ (loop .inv .1) (loop .i) (omega arith) s e)
 
 add-i : tie.Need-add-i Inv-loop μ-loop
 add-i c = omega arith
@@ -50,18 +51,17 @@ loop-less : tie.Need-loop-less Inv-loop μ-loop
 loop-less c = omega arith
 
 loop-again : tie.Need-loop-again Inv-loop μ-loop
-unfolding judgedBytes
 loop-again c =
     let s = c .before .before .before .before .before .before .before .args .s .now in
     let loop = c .before .before .before .before .before .loop in
     let e = passed (c .before .in-range .ensures) (c .if1 .left) in
-    (omega arith, loop .inv .1 ∙ fault-past s (loop .i) (omega arith) e)
+    (omega arith, loop .inv .1, loop .inv .2 ∙ fault-past _ (loop .inv .1) (loop .i) (omega arith) s e)
 
 returns-2 : tie.Need-returns-2 Inv-loop μ-loop
 returns-2 c =
     let s = c .before .before .before .args .s .now in
     let i : c .before .loop .i ≡ entries = omega arith in
-    sym (c .before .loop .inv .1 ∙ ap (faultFrom s) i ∙ from-end s)
+    sym (c .before .loop .inv .2 ∙ ap (faultFrom s) i ∙ from-end s)
 
 pub byte-fault-spec : {M : Type 1} → statement M
 byte-fault-spec =
