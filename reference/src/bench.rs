@@ -2,7 +2,7 @@
 //! `rattle` every line has the proved library's time too, and the ratio.
 
 use crate::make::Rng;
-use crate::record::{RSR, TELEMETRY};
+use crate::record::{Fields, Record, Refused, Rsr, Telemetry, RSR, TELEMETRY};
 use crate::stream;
 use crate::{ledger, list, nights, record, sample};
 use std::hint::black_box;
@@ -25,23 +25,72 @@ pub struct Implementation {
 
 pub const REFERENCE: Implementation = Implementation {
     name: "reference",
-    // 0, or the refusal number.
-    read_headers: |s, wanted| match black_box(record::read_headers(s, wanted)) {
-        Ok(_) => 0,
-        Err(record::Refused::Number(refusal)) => refusal as u64,
-        Err(record::Refused::Field(_)) => 12,
-    },
+    read_headers: |s, wanted| headers_number(record::read_headers(s, wanted)),
     // The count of whole records.
     walk: |s| black_box(stream::walk(s)).count,
     is_sheet: |s| ledger::is_sheet(s) as u64,
     tick: |s, desk, n| ledger::tick(s, desk, n).err().unwrap_or(0) as u64,
     untick: |s, desk, n| ledger::untick(s, desk, n).err().unwrap_or(0) as u64,
-    // The ticked and the missing count.
-    report: |s, row| match black_box(ledger::report(s, row)) {
-        Ok(report) => (report.ticked as u64) << 32 | report.missing as u64,
-        Err(refusal) => refusal as u64,
-    },
+    report: |s, row| report_number(ledger::report(s, row)),
 };
+
+/// Every number of the answer, one on the other, so that every field has to be read; Px/No, which may be negative, is left out.
+fn headers_number(answer: Result<(Record, Fields), Refused>) -> u64 {
+    match answer {
+        Ok((record, Fields::Telemetry(fields))) => record_number(&record) ^ telemetry_number(&fields),
+        Ok((record, Fields::Rsr(fields))) => record_number(&record) ^ rsr_number(&fields),
+        Err(Refused::Number(refusal)) => refusal as u64,
+        Err(Refused::Field(offset)) => 12 ^ offset as u64,
+    }
+}
+
+fn record_number(record: &Record) -> u64 {
+    let primary = record.primary.iter().fold(0, |number, value| number ^ *value as u64);
+    record.kind as u64 ^ record.length as u64 ^ primary
+}
+
+fn telemetry_number(t: &Telemetry) -> u64 {
+    let band = t.uplink_band.map_or(0, u64::from);
+    t.spacecraft as u64
+        ^ t.source as u64
+        ^ t.received
+        ^ t.number as u64
+        ^ band
+        ^ t.mode as u64
+        ^ t.stream as u64
+        ^ t.equipment as u64
+        ^ t.key
+}
+
+fn rsr_number(r: &Rsr) -> u64 {
+    let source = r.software as u64
+        ^ r.number as u64
+        ^ r.complex as u64
+        ^ r.station as u64
+        ^ r.receiver as u64
+        ^ r.subchannel as u64
+        ^ r.spacecraft as u64
+        ^ r.pass as u64;
+    let signal = r.uplink_band as u64
+        ^ r.downlink_band as u64
+        ^ r.mode as u64
+        ^ r.uplink_station as u64
+        ^ r.bandwidth as u64
+        ^ r.override_flag as u64
+        ^ r.attenuation as u64
+        ^ r.rms as u64
+        ^ r.peak as u64;
+    let time = r.year as u64 ^ r.day as u64 ^ r.override_frequency;
+    source ^ signal ^ time ^ r.key
+}
+
+/// The ticked and the missing count and the lowest missing number.
+fn report_number(answer: Result<ledger::Report, u32>) -> u64 {
+    match answer {
+        Ok(report) => ((report.ticked as u64) << 32 | report.missing as u64) ^ report.lowest.map_or(0, u64::from),
+        Err(refusal) => refusal as u64,
+    }
+}
 
 pub fn implementations() -> Vec<Implementation> {
     #[cfg(feature = "rattle")]

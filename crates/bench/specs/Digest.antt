@@ -2,20 +2,28 @@
 use Prim.Native.Nat.{ℕ, _+_, _*_, _^_}
 use mathlib.Core.Bool.{Bool, cond}
 use mathlib.Core.List.{List, [], _∷_}
+use lib.Bits.{bitXor}
 use lib.Dec.{eqb}
 use lib.ListN.{getD}
 use Rattle.headers.specs.Words.{Word, number, signed, none}
 
--- The number that an answer begins with: 0 where it is accepted, or the refusal's.
-abbrev pub verdictOf : List Word → ℕ
-verdictOf [] = 0
-verdictOf (number n ∷ words) = n
-verdictOf (signed z ∷ words) = 0
-verdictOf (none ∷ words) = 0
+-- What a word adds to a number. A signed word and none add nothing.
+abbrev pub value : Word → ℕ
+value (number n) = n
+value (signed z) = 0
+value none = 0
+
+-- The words onto a number, one after the other, from the last.
+abbrev pub onto : List Word → ℕ → ℕ
+onto [] rest = rest
+onto (w ∷ words) rest = bitXor (value w) (onto words rest)
+
+abbrev pub digest : List Word → ℕ
+digest words = onto words 0
 
 abbrev pub flag : Bool → ℕ
 flag b = cond b 1 0
 
--- The ticked and the missing count of a report, or the refusal's number.
+-- The ticked and the missing count of a report and the lowest missing number, or the refusal's number.
 abbrev pub counts : List ℕ → ℕ
-counts words = cond (eqb (getD words 0 0) 0) (getD words 1 0 * 2 ^ 32 + getD words 2 0) (getD words 0 0)
+counts words = cond (eqb (getD words 0 0) 0) (bitXor (getD words 1 0 * 2 ^ 32 + getD words 2 0) (getD words 3 0)) (getD words 0 0)

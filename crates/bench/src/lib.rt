@@ -1,43 +1,131 @@
 // The calls that `reference bench` times, for its Rust program to link: numbers, and slices as a pointer and a length.
+use headers::Band;
 use headers::Headers;
+use headers::RsrSignal;
+use headers::RsrSource;
+use headers::RsrTime;
+use headers::TelemetryFields;
+use sfdu::Primary;
 use sheet::Answer;
 use sheet::ReportAnswer;
 ghost use mathlib.Core.Path.{_≡_};
-ghost use mathlib.Core.List.{[], _∷_};
+ghost use mathlib.Core.List.{[], _∷_, _++_, map};
 ghost use Prim.Native.Nat.{_+_, _*_, _^_};
 ghost use lib.ListN.{getD};
 ghost use Rattle.sheet.specs.Words.{answerWords};
-ghost use Rattle.headers.specs.Headers.{readHeaders};
+ghost use Rattle.sfdu.specs.Read.{primaryWords};
+ghost use Rattle.headers.specs.Words.{number};
+ghost use Rattle.headers.specs.Headers.{readHeaders, bandWord, telemetryFieldWords, sourceWords, signalWords, timeWords};
 ghost use Rattle.stream.specs.Listing.{walked};
 ghost use Rattle.sheet.specs.Sheet.{right};
 ghost use Rattle.model.specs.Step.{Tick, Untick};
 ghost use Rattle.model.specs.Counts.{rowReport};
 ghost use Rattle.layout.specs.Layout.{call, report, onSheet};
-ghost use Rattle.bench.specs.Digest.{verdictOf, flag, counts};
+ghost use Rattle.bench.specs.Digest.{value, onto, digest, flag, counts};
 
+// The words of an accepted answer that the kinds begin with, and that of a field out of range; and what adds nothing to a number.
+const ACCEPTED: u64 = 0;
+
+const TELEMETRY: u64 = 1;
+
+const RSR: u64 = 2;
+
+const FIELD_RANGE: u64 = 12;
+
+const NOTHING: u64 = 0;
+
+// Every word of the answer goes into the number, so that every field is read.
 #[no_mangle]
 pub extern "C" fn bench_read_headers(s: &[u8], wanted: u32) -> u64
-    ensures { λ r. ⌜ r ≡ verdictOf (readHeaders wanted (now (s .entry))) ⌝ }
+    ensures { λ r. ⌜ r ≡ digest (readHeaders wanted (now (s .entry))) ⌝ }
 {
     let found = headers::read_headers(s, wanted);
     match found {
         Headers::Telemetry {
-            size: _,
-            primary: _,
-            fields: _,
-            key: _,
-        } => 0,
+            size,
+            primary,
+            fields,
+            key,
+        } => accepted_onto(
+            TELEMETRY,
+            size,
+            primary,
+            telemetry_onto(fields, key ^ NOTHING),
+        ),
         Headers::Rsr {
-            size: _,
-            primary: _,
-            source: _,
-            signal: _,
-            time: _,
-            key: _,
-        } => 0,
-        Headers::OutOfRange(_) => 12,
-        Headers::Refused(why) => refusals::number(why) as u64,
+            size,
+            primary,
+            source,
+            signal,
+            time,
+            key,
+        } => accepted_onto(
+            RSR,
+            size,
+            primary,
+            rsr_onto(source, signal, time, key ^ NOTHING),
+        ),
+        Headers::OutOfRange(at) => FIELD_RANGE ^ (at as u64 ^ NOTHING),
+        Headers::Refused(why) => refusals::number(why) as u64 ^ NOTHING,
     }
+}
+
+fn accepted_onto(kind: u64, size: usize, primary: Primary, rest: u64) -> u64
+    ensures { λ r. ⌜ r ≡ onto (number 0 ∷ number kind ∷ number size ∷ map number (primaryWords primary)) rest ⌝ }
+{
+    ACCEPTED ^ (kind ^ (size as u64 ^ primary_onto(primary, rest)))
+}
+
+fn primary_onto(p: Primary, rest: u64) -> u64
+    ensures { λ r. ⌜ r ≡ onto (map number (primaryWords p)) rest ⌝ }
+{
+    p.major as u64 ^ (p.minor as u64 ^ (p.mission as u64 ^ (p.format as u64 ^ rest)))
+}
+
+fn telemetry_onto(f: TelemetryFields, rest: u64) -> u64
+    ensures { λ r. ⌜ r ≡ onto (telemetryFieldWords f) rest ⌝ }
+{
+    let uplink = f.uplink;
+    let last = f.mode as u64 ^ (f.stream as u64 ^ (f.equipment as u64 ^ rest));
+    let banded = band_value(uplink) ^ last;
+    f.spacecraft as u64 ^ (f.source as u64 ^ (f.received ^ (f.number as u64 ^ banded)))
+}
+
+fn band_value(band: Band) -> u64
+    ensures { λ r. ⌜ r ≡ value (bandWord band) ⌝ }
+{
+    match band {
+        Band::Letter(letter) => letter as u64,
+        Band::Unused => NOTHING,
+    }
+}
+
+fn rsr_onto(source: RsrSource, signal: RsrSignal, time: RsrTime, rest: u64) -> u64
+    ensures { λ r. ⌜ r ≡ onto (sourceWords source ++ signalWords signal ++ timeWords time) rest ⌝ }
+{
+    source_onto(source, signal_onto(signal, time_onto(time, rest)))
+}
+
+fn source_onto(f: RsrSource, rest: u64) -> u64
+    ensures { λ r. ⌜ r ≡ onto (sourceWords f) rest ⌝ }
+{
+    let last = f.subchannel as u64 ^ (f.spacecraft as u64 ^ (f.pass as u64 ^ rest));
+    let middle = f.complex as u64 ^ (f.station as u64 ^ (f.receiver as u64 ^ last));
+    f.software as u64 ^ (f.number as u64 ^ middle)
+}
+
+fn signal_onto(f: RsrSignal, rest: u64) -> u64
+    ensures { λ r. ⌜ r ≡ onto (signalWords f) rest ⌝ }
+{
+    let last = f.attenuation as u64 ^ (f.rms as u64 ^ (f.peak as u64 ^ rest));
+    let middle = NOTHING ^ (f.bandwidth as u64 ^ (f.overridden as u64 ^ last));
+    f.uplink as u64 ^ (f.downlink as u64 ^ (f.mode as u64 ^ (f.uplink_station as u64 ^ middle)))
+}
+
+fn time_onto(f: RsrTime, rest: u64) -> u64
+    ensures { λ r. ⌜ r ≡ onto (timeWords f) rest ⌝ }
+{
+    f.year as u64 ^ (f.day as u64 ^ (f.frequency ^ rest))
 }
 
 #[no_mangle]
@@ -87,12 +175,12 @@ pub extern "C" fn bench_report(s: &[u8], row: u32) -> u64
 {
     let found = ledger::row_report(s, row);
     match found {
-        ReportAnswer::Whole { ticked } => packed(ticked, 0),
+        ReportAnswer::Whole { ticked } => packed(ticked, 0) ^ NOTHING,
         ReportAnswer::Gaps {
             ticked,
             missing,
-            lowest: _,
-        } => packed(ticked, missing),
+            lowest,
+        } => packed(ticked, missing) ^ lowest as u64,
         ReportAnswer::Refused(why) => refusals::number(why) as u64,
     }
 }

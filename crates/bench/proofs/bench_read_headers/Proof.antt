@@ -1,7 +1,7 @@
 -- `bench::bench_read_headers` meets its contract. Assumes nothing.
 use mathlib.Core.Path.{ap, sym, _∙_}
 use Rattle.headers.specs.Headers.{wordsOf}
-use Rattle.bench.specs.Digest.{verdictOf}
+use Rattle.bench.specs.Digest.{digest}
 use borrow.Author.Needs.{needs}
 use Rattle.bench.proofs.bench_read_headers.Statement.{statement}
 use Rattle.bench.proofs.bench_read_headers.Tie as tie
@@ -9,17 +9,29 @@ use Rattle.bench.proofs.bench_read_headers.Tie as tie
 read-headers-requires : tie.Need-read-headers-requires
 read-headers-requires c κs = search needs
 
-enum-told : tie.Need-enum-told
-enum-told c = search needs
-
-enum-told-2 : tie.Need-enum-told-2
-enum-told-2 c = search needs
-
-enum-told-3 : tie.Need-enum-told-3
-enum-told-3 c = search needs
-
 enum-known-found : tie.Need-enum-known-found
 enum-known-found c = search needs
+
+telemetry-onto-requires : tie.Need-telemetry-onto-requires
+telemetry-onto-requires c κs = search needs
+
+accepted-onto-requires : tie.Need-accepted-onto-requires
+accepted-onto-requires c κs = search needs
+
+enum-known-found-2 : tie.Need-enum-known-found-2
+enum-known-found-2 c = search needs
+
+rsr-onto-requires : tie.Need-rsr-onto-requires
+rsr-onto-requires c κs = search needs
+
+accepted-onto-requires-2 : tie.Need-accepted-onto-requires-2
+accepted-onto-requires-2 c κs = search needs
+
+enum-known-found-3 : tie.Need-enum-known-found-3
+enum-known-found-3 c = search needs
+
+enum-known-found-4 : tie.Need-enum-known-found-4
+enum-known-found-4 c = search needs
 
 number-requires : tie.Need-number-requires
 number-requires c κs = search needs
@@ -28,26 +40,32 @@ cast-result : tie.Need-cast-result
 cast-result c = search needs
 
 returns : tie.Need-returns
-returns c = ap verdictOf (sym (ap wordsOf (c .enum-told .given .1)) ∙ c .before .before .read-headers .ensures)
+returns c =
+    c .accepted-onto .ensures ∙ rw (c .before .telemetry-onto .ensures) (ap digest (sym (ap wordsOf (c .before .before .before .found .given .1)) ∙ c .before .before .before .before .before .read-headers .ensures))
 
 returns-2 : tie.Need-returns-2
-returns-2 c = ap verdictOf (sym (ap wordsOf (c .enum-told2 .given .1)) ∙ c .before .before .read-headers .ensures)
+returns-2 c =
+    c .accepted-onto2 .ensures ∙ rw (c .before .rsr-onto .ensures) (ap digest (sym (ap wordsOf (c .before .before .before .found2 .given .1)) ∙ c .before .before .before .before .before .read-headers .ensures))
 
 returns-3 : tie.Need-returns-3
-returns-3 c = ap verdictOf (sym (ap wordsOf (c .enum-told3 .given .1)) ∙ c .before .before .read-headers .ensures)
+returns-3 c = ap digest (sym (ap wordsOf (c .before .found3 .given .1)) ∙ c .before .before .before .read-headers .ensures)
 
 returns-4 : tie.Need-returns-4
-returns-4 c = c .number .ensures ∙ ap verdictOf (sym (ap wordsOf (c .before .before .found .given .1)) ∙ c .before .before .before .before .read-headers .ensures)
+returns-4 c = rw (c .number .ensures) (ap digest (sym (ap wordsOf (c .before .before .found4 .given .1)) ∙ c .before .before .before .before .read-headers .ensures))
 
 pub bench-read-headers-spec : {M : Type 1} → statement M
 bench-read-headers-spec =
     tie.close
     (tie.spec
     read-headers-requires
-    enum-told
-    enum-told-2
-    enum-told-3
     enum-known-found
+    telemetry-onto-requires
+    accepted-onto-requires
+    enum-known-found-2
+    rsr-onto-requires
+    accepted-onto-requires-2
+    enum-known-found-3
+    enum-known-found-4
     number-requires
     cast-result
     returns

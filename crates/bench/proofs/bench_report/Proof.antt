@@ -24,20 +24,23 @@ enum-known-found-2 c = search needs
 packed-requires-2 : tie.Need-packed-requires-2
 packed-requires-2 c κs = search needs
 
+cast-result : tie.Need-cast-result
+cast-result c = search needs
+
 enum-known-found-3 : tie.Need-enum-known-found-3
 enum-known-found-3 c = search needs
 
 number-requires : tie.Need-number-requires
 number-requires c κs = search needs
 
-cast-result : tie.Need-cast-result
-cast-result c = search needs
+cast-result-2 : tie.Need-cast-result-2
+cast-result-2 c = search needs
 
 returns : tie.Need-returns
-returns c = c .packed .ensures ∙ ap (λ o. counts (o .0)) (ap (λ (a : ReportAnswer). (reportAnswerWords a, c .before .before .before .before .before .before .args .s .now)) (sym (c .before .before .found .given .1)) ∙ c .before .before .before .before .row-report .ensures)
+returns c = rw (c .packed .ensures) (ap (λ o. counts (o .0)) (ap (λ (a : ReportAnswer). (reportAnswerWords a, c .before .before .before .before .before .before .args .s .now)) (sym (c .before .before .found .given .1)) ∙ c .before .before .before .before .row-report .ensures))
 
 returns-2 : tie.Need-returns-2
-returns-2 c = c .packed2 .ensures ∙ ap (λ o. counts (o .0)) (ap (λ (a : ReportAnswer). (reportAnswerWords a, c .before .before .before .before .before .before .args .s .now)) (sym (c .before .before .found2 .given .1)) ∙ c .before .before .before .before .row-report .ensures)
+returns-2 c = rw (c .packed2 .ensures) (ap (λ o. counts (o .0)) (ap (λ (a : ReportAnswer). (reportAnswerWords a, c .before .before .before .before .before .before .args .s .now)) (sym (c .before .before .found2 .given .1)) ∙ c .before .before .before .before .row-report .ensures))
 
 returns-3 : tie.Need-returns-3
 returns-3 c = c .number .ensures ∙ sym (rw (ne-eqb _ _ (number-positive (c .before .before .found3 .given .0 .0)))) ∙ ap (λ o. counts (o .0)) (ap (λ (a : ReportAnswer). (reportAnswerWords a, c .before .before .before .before .before .before .args .s .now)) (sym (c .before .before .found3 .given .1)) ∙ c .before .before .before .before .row-report .ensures)
@@ -51,9 +54,10 @@ bench-report-spec =
     packed-requires
     enum-known-found-2
     packed-requires-2
+    cast-result
     enum-known-found-3
     number-requires
-    cast-result
+    cast-result-2
     returns
     returns-2
     returns-3)
