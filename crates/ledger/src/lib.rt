@@ -130,7 +130,7 @@ pub fn row_report(s: &[u8], row: u32) -> ReportAnswer
     if let Answer::Refused(why) = verdict {
         return ReportAnswer::Refused(why);
     }
-    sheet::counts::row_report(s, row as usize)
+    counts::row_report(s, row as usize)
 }
 
 // Finds the first missing number and its row.
@@ -140,5 +140,5 @@ pub fn first_gap(s: &[u8]) -> GapAnswer
     if !is_sheet(s) {
         return GapAnswer::Refused(Refusal::NotSheet);
     }
-    sheet::counts::first_gap(s)
+    counts::first_gap(s)
 }

@@ -5,8 +5,5 @@ pub mod Written
 pub mod Scans
 pub mod Bits
 pub mod ReadBack
-pub mod Missing
-pub mod TickBytes
-pub mod Reports
 pub mod Calls
 pub mod Answers

@@ -3,10 +3,10 @@ use Prim.Native.Nat.{_-_, _≤_}
 use mathlib.Core.Bool.{not}
 use mathlib.Core.Path.{_≡_, sym, ap, _∙_}
 use native.Mathlib.Omega.{arith}
 use Rattle.sheet.proofs.Scans.{Fails, each-none, each-more, lowest-here, lowest-none}
-use Rattle.sheet.proofs.TickBytes.{notFull}
-use Rattle.sheet.proofs.counts.lowest_unfilled.Statement.{statement}
-use Rattle.sheet.proofs.counts.lowest_unfilled.Tie as tie
+use Rattle.counts.proofs.TickBytes.{notFull}
+use Rattle.counts.proofs.lowest_unfilled.Statement.{statement}
+use Rattle.counts.proofs.lowest_unfilled.Tie as tie
 
 abbrev Inv-loop : tie.InvT-loop
 Inv-loop s a end n₀ n = (n ≤ end) × Fails (notFull s a) n

@@ -3,12 +3,12 @@ use Prim.Native.Nat.{_-_, _≤_}
 use mathlib.Core.Path.{_≡_, refl, sym, ap, _∙_}
 use mathlib.Core.Bool.{not}
 use native.Mathlib.Omega.{arith}
 use Rattle.sheet.specs.Sheet.{ticksSize}
 use Rattle.sheet.specs.Bytes.{pastHighest}
 use Rattle.sheet.proofs.Scans.{past-here, past-down, past-none}
-use Rattle.sheet.proofs.TickBytes.{notZero}
-use Rattle.sheet.proofs.counts.bytes_end.Statement.{statement}
-use Rattle.sheet.proofs.counts.bytes_end.Tie as tie
+use Rattle.counts.proofs.TickBytes.{notZero}
+use Rattle.counts.proofs.bytes_end.Statement.{statement}
+use Rattle.counts.proofs.bytes_end.Tie as tie
 
 abbrev Inv-loop : tie.InvT-loop
 Inv-loop s a end₀ end = (end ≤ ticksSize) × (pastHighest ticksSize (notZero s a) ≡ pastHighest end (notZero s a))

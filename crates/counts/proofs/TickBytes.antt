@@ -10,12 +10,12 @@ use lib.Count.{ones, ones-step}
 use lib.Dec.{eqb}
 use lib.ListN.{getD}
 use Rattle.model.specs.Positions.{size}
 use Rattle.sheet.specs.Sheet.{ticksAt, byteBits}
 use Rattle.sheet.specs.Rows.{tickedAt, table}
 use Rattle.sheet.specs.Bytes.{pastHighest}
 use Rattle.sheet.proofs.Scans.{Each, Fails, past-skip}
 use Rattle.sheet.proofs.Bits.{below-eight}
-use Rattle.sheet.proofs.Missing.{size-cons, size-none, size-more}
+use Rattle.counts.proofs.Missing.{size-cons, size-none, size-more}
 
 -- bit k of x
 abbrev pub bitOf : ℕ → ℕ → Bool

@@ -1,25 +1,25 @@
 // Row report and first gap.
-use crate::BYTE_BITS;
-use crate::GapAnswer;
-use crate::ROW;
-use crate::ROWS_AT;
-use crate::ReportAnswer;
-use crate::TICKS;
-use crate::TICKS_AT;
-use crate::right::key_at;
-use crate::right::rows_used;
-use crate::rows::first_at;
-use crate::ticks::is_ticked;
+use sheet::BYTE_BITS;
+use sheet::GapAnswer;
+use sheet::ROW;
+use sheet::ROWS_AT;
+use sheet::ReportAnswer;
+use sheet::TICKS;
+use sheet::TICKS_AT;
+use sheet::right::key_at;
+use sheet::right::rows_used;
+use sheet::rows::first_at;
+use sheet::ticks::is_ticked;
 ghost use mathlib.Core.Path.{_≡_};
 ghost use mathlib.Core.Bool.{not};
 ghost use Prim.Native.Nat.{_+_, _≤_, _<_};
 ghost use lib.Dec.{eqb};
 ghost use lib.ListN.{length, getD};
 ghost use Rattle.model.specs.Positions.{rowLength, size};
 ghost use Rattle.sheet.specs.Sheet.{sheetSize, rowSize, ticksAt, ticksSize, rowCount, rowAt, used, Sized};
 ghost use Rattle.sheet.specs.Rows.{tickedAt, ticksOf};
 ghost use Rattle.sheet.specs.Bytes.{lowest, pastHighest, numberAtPosition, reportWords, gapFrom};
 ghost use Rattle.sheet.specs.Words.{reportAnswerWords, gapWords};
 
 // A tick byte whose positions are all ticked.
 const FULL: u8 = 255;

@@ -5,12 +5,12 @@ use mathlib.Core.Path.{_≡_, sym}
 use native.Mathlib.Omega.{arith}
 use lib.Count.{ones-le}
 use Rattle.model.specs.Positions.{rowLength, size}
 use Rattle.sheet.specs.Sheet.{ticksAt, ticksSize, byteBits}
 use Rattle.sheet.specs.Rows.{tickedAt, table, ticksOf}
-use Rattle.sheet.proofs.Missing.{size-none}
-use Rattle.sheet.proofs.TickBytes.{tickByte, ones-more}
-use Rattle.sheet.proofs.counts.ticked_count.Statement.{statement}
-use Rattle.sheet.proofs.counts.ticked_count.Tie as tie
+use Rattle.counts.proofs.Missing.{size-none}
+use Rattle.counts.proofs.TickBytes.{tickByte, ones-more}
+use Rattle.counts.proofs.ticked_count.Statement.{statement}
+use Rattle.counts.proofs.ticked_count.Tie as tie
 
 abbrev Inv-loop : tie.InvT-loop
 Inv-loop s a count₀ n₀ count n = (n ≤ ticksSize) × (count ≤ byteBits * n) × (count ≡ size (table (byteBits * n) (tickedAt s a)))

@@ -9,11 +9,11 @@ use mathlib.Core.Path.{_≡_, refl, sym, ap}
 use borrow.Author.Tests.{not-true, not-false}
 use Rattle.model.specs.Positions.{rowLength, size, missing, least}
 use Rattle.model.proofs.Counts.{least-none}
 use Rattle.sheet.specs.Sheet.{rowAt}
 use Rattle.sheet.specs.Rows.{tickedAt, ticksOf}
 use Rattle.sheet.specs.Bytes.{lowest, pastHighest, numberAtPosition, reportWords, gapFrom}
 use Rattle.sheet.proofs.Scans.{Each, lowest-holds, lowest-fails, top-of}
-use Rattle.sheet.proofs.Missing.{missing-count, missing-lowest, missing-none}
+use Rattle.counts.proofs.Missing.{missing-count, missing-lowest, missing-none}
 
 module _ (s : List ℕ) (a : ℕ) where
   -- one past the highest ticked position, and the lowest unticked one below it

@@ -3,13 +3,13 @@ use Prim.Native.Nat.{_≤_}
 use mathlib.Core.Path.{_≡_, sym, _∙_}
 use native.Mathlib.Omega.{arith}
 use Rattle.model.specs.Positions.{rowLength}
 use Rattle.sheet.specs.Sheet.{ticksSize}
 use Rattle.sheet.specs.Rows.{tickedAt}
 use Rattle.sheet.specs.Bytes.{pastHighest}
 use Rattle.sheet.proofs.Scans.{top-of, past-here, past-down, past-none}
-use Rattle.sheet.proofs.TickBytes.{notZero, end-in-byte}
-use Rattle.sheet.proofs.counts.ticks_end.Statement.{statement}
-use Rattle.sheet.proofs.counts.ticks_end.Tie as tie
+use Rattle.counts.proofs.TickBytes.{notZero, end-in-byte}
+use Rattle.counts.proofs.ticks_end.Statement.{statement}
+use Rattle.counts.proofs.ticks_end.Tie as tie
 
 abbrev Inv-loop : tie.InvT-loop
 Inv-loop s a end₀ end = (end ≤ rowLength) × (pastHighest rowLength (tickedAt s a) ≡ pastHighest end (tickedAt s a))

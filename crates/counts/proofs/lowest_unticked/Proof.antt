@@ -4,13 +4,13 @@ use mathlib.Core.Bool.{not}
 use mathlib.Core.Path.{_≡_, sym, ap}
 use native.Mathlib.Omega.{arith}
 use Rattle.octets.proofs.Laws.{failed, passed}
 use Rattle.sheet.specs.Sheet.{byteBits}
 use Rattle.sheet.specs.Rows.{tickedAt}
 use Rattle.sheet.specs.Bytes.{lowest}
 use Rattle.sheet.proofs.Scans.{Fails, each-more, lowest-here, lowest-none, lowest-within, lowest-fails}
-use Rattle.sheet.proofs.TickBytes.{notFull, full-ticks}
-use Rattle.sheet.proofs.counts.lowest_unticked.Statement.{statement}
-use Rattle.sheet.proofs.counts.lowest_unticked.Tie as tie
+use Rattle.counts.proofs.TickBytes.{notFull, full-ticks}
+use Rattle.counts.proofs.lowest_unticked.Statement.{statement}
+use Rattle.counts.proofs.lowest_unticked.Tie as tie
 
 abbrev Inv-loop : tie.InvT-loop
 Inv-loop s a end start i₀ i = (i ≤ end) × Fails (λ j. not (tickedAt s a j)) i

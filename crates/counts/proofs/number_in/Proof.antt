@@ -1,7 +1,7 @@
 -- `counts::number_in` meets its contract. Assumes nothing.
 use borrow.Author.Needs.{needs}
-use Rattle.sheet.proofs.counts.number_in.Statement.{statement}
-use Rattle.sheet.proofs.counts.number_in.Tie as tie
+use Rattle.counts.proofs.number_in.Statement.{statement}
+use Rattle.counts.proofs.number_in.Tie as tie
 
 key-at-requires : tie.Need-key-at-requires
 key-at-requires c κs = search needs

@@ -1,9 +1,9 @@
 -- `counts::row_report` meets its contract. Assumes nothing.
 use native.Mathlib.Omega.{arith}
 use Rattle.sheet.specs.Sheet.{rowAt}
-use Rattle.sheet.proofs.Reports.{end-within, row-count, report-whole, report-gaps}
-use Rattle.sheet.proofs.counts.row_report.Statement.{statement}
-use Rattle.sheet.proofs.counts.row_report.Tie as tie
+use Rattle.counts.proofs.Reports.{end-within, row-count, report-whole, report-gaps}
+use Rattle.counts.proofs.row_report.Statement.{statement}
+use Rattle.counts.proofs.row_report.Tie as tie
 
 mul-a : tie.Need-mul-a
 mul-a c = omega arith

@@ -1,0 +1,3 @@
+pub mod Missing
+pub mod TickBytes
+pub mod Reports
