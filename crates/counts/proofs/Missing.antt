@@ -9,8 +9,8 @@ use mathlib.Core.List.{List, [], _∷_}
 use mathlib.Core.Option.{none, some, Option·map}
 use mathlib.Core.Path.{_≡_, refl, sym, ap, _∙_}
 use Rattle.model.specs.Positions.{size, anyTicked, missing, least}
-use Rattle.sheet.specs.Rows.{table}
-use Rattle.sheet.proofs.Scans.{Each, Fails, Top}
+use Rattle.changes.specs.Rows.{table}
+use Rattle.changes.proofs.Scans.{Each, Fails, Top}
 
 -- ---- one position more
 

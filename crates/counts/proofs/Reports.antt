@@ -10,9 +10,9 @@ use borrow.Author.Tests.{not-true, not-false}
 use Rattle.model.specs.Positions.{rowLength, size, missing, least}
 use Rattle.model.proofs.Counts.{least-none}
 use Rattle.sheet.specs.Sheet.{rowAt}
-use Rattle.sheet.specs.Rows.{tickedAt, ticksOf}
-use Rattle.sheet.specs.Bytes.{lowest, pastHighest, numberAtPosition, reportWords, gapFrom}
-use Rattle.sheet.proofs.Scans.{Each, lowest-holds, lowest-fails, top-of}
+use Rattle.changes.specs.Rows.{tickedAt, ticksOf}
+use Rattle.changes.specs.Bytes.{lowest, pastHighest, numberAtPosition, reportWords, gapFrom}
+use Rattle.changes.proofs.Scans.{Each, lowest-holds, lowest-fails, top-of}
 use Rattle.counts.proofs.Missing.{missing-count, missing-lowest, missing-none}
 
 module _ (s : List ℕ) (a : ℕ) where

@@ -11,10 +11,10 @@ use lib.Dec.{eqb}
 use lib.ListN.{getD}
 use Rattle.model.specs.Positions.{size}
 use Rattle.sheet.specs.Sheet.{ticksAt, byteBits}
-use Rattle.sheet.specs.Rows.{tickedAt, table}
-use Rattle.sheet.specs.Bytes.{pastHighest}
-use Rattle.sheet.proofs.Scans.{Each, Fails, past-skip}
-use Rattle.sheet.proofs.Bits.{below-eight}
+use Rattle.changes.specs.Rows.{tickedAt, table}
+use Rattle.changes.specs.Bytes.{pastHighest}
+use Rattle.changes.proofs.Scans.{Each, Fails, past-skip}
+use Rattle.changes.proofs.Bits.{below-eight}
 use Rattle.counts.proofs.Missing.{size-cons, size-none, size-more}
 
 -- bit k of x

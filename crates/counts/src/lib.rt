@@ -1,4 +1,6 @@
 // Row report and first gap.
+use changes::rows::first_at;
+use changes::ticks::is_ticked;
 use sheet::BYTE_BITS;
 use sheet::GapAnswer;
 use sheet::ROW;
@@ -8,8 +10,6 @@ use sheet::TICKS;
 use sheet::TICKS_AT;
 use sheet::right::key_at;
 use sheet::right::rows_used;
-use sheet::rows::first_at;
-use sheet::ticks::is_ticked;
 ghost use mathlib.Core.Path.{_≡_};
 ghost use mathlib.Core.Bool.{not};
 ghost use Prim.Native.Nat.{_+_, _≤_, _<_};
@@ -17,8 +17,8 @@ ghost use lib.Dec.{eqb};
 ghost use lib.ListN.{length, getD};
 ghost use Rattle.model.specs.Positions.{rowLength, size};
 ghost use Rattle.sheet.specs.Sheet.{sheetSize, rowSize, ticksAt, ticksSize, rowCount, rowAt, used, Sized};
-ghost use Rattle.sheet.specs.Rows.{tickedAt, ticksOf};
-ghost use Rattle.sheet.specs.Bytes.{lowest, pastHighest, numberAtPosition, reportWords, gapFrom};
+ghost use Rattle.changes.specs.Rows.{tickedAt, ticksOf};
+ghost use Rattle.changes.specs.Bytes.{lowest, pastHighest, numberAtPosition, reportWords, gapFrom};
 ghost use Rattle.sheet.specs.Words.{reportAnswerWords, gapWords};
 
 // A tick byte whose positions are all ticked.

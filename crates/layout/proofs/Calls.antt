@@ -23,11 +23,11 @@ use Rattle.model.proofs.Steps.{markVerdict, mark-step, save-step, mark-closed, 
 use Rattle.octets.specs.Octets.{bytesOf, part, put, sameAt}
 use Rattle.octets.proofs.Parts.{same-part, part-same}
 use Rattle.sheet.specs.Sheet.{sheetSize, rowSize, rowCount, openedAt, workedAt, deskCount, headerNumberSize, usedAt, rowAt, deskAt, used, isClosed, right}
-use Rattle.sheet.specs.Rows.{rowBytes, blankTicks}
-use Rattle.sheet.specs.Bytes.{Outcome, judged, rowWith, enrolAt, enrolCall, findCall, openDesk, openAt, openCall, clearDesk, dropCall, markDesk, markCall, isCurrent, stored, saveAt, saveCall, reportCall, gapCall}
-use Rattle.sheet.specs.Bytes as Bytes
-use Rattle.sheet.proofs.Puts.{put-same}
-use Rattle.sheet.proofs.Calls.{refuses}
+use Rattle.changes.specs.Rows.{rowBytes, blankTicks}
+use Rattle.changes.specs.Bytes.{Outcome, judged, rowWith, enrolAt, enrolCall, findCall, openDesk, openAt, openCall, clearDesk, dropCall, markDesk, markCall, isCurrent, stored, saveAt, saveCall, reportCall, gapCall}
+use Rattle.changes.specs.Bytes as Bytes
+use Rattle.changes.proofs.Puts.{put-same}
+use Rattle.changes.proofs.Calls.{refuses}
 use Rattle.layout.specs.Layout.{bitsValue, tickBytes, placeBytes, deskBytes, countUsed, layout, call, report, laidOut}
 use Rattle.layout.proofs.Rows.{length-place, row-same, mark-law}
 use Rattle.layout.proofs.Places.{header-put, worked-put, Shape, shape, length-layout, row-part, desk-put, row-put, desk-put-in, closed-law}

@@ -9,7 +9,7 @@ use lib.ListN.{length, getD, set, replicate, length-append, replicate-append-rep
 use lib.Seq.{ext-getD}
 use Rattle.octets.specs.Octets.{part, put}
 use Rattle.octets.proofs.Parts.{part-join}
-use Rattle.sheet.specs.Rows.{table}
+use Rattle.changes.specs.Rows.{table}
 use Rattle.layout.specs.Layout.{laid}
 use Rattle.layout.proofs.Parts.{part-seam, put-seam}
 

@@ -15,7 +15,7 @@ use Rattle.model.proofs.Outcome.{outcome}
 use Rattle.model.proofs.WellFormed.{well-formed, fresh-well-formed, run-well-formed}
 use Rattle.model.proofs.Laws.{Proper, words-injective, step-proper}
 use Rattle.model.proofs.Claim.{chain-claim}
-use Rattle.sheet.specs.Bytes.{freshSheet}
+use Rattle.changes.specs.Bytes.{freshSheet}
 use Rattle.sheet.specs.Words as Words
 use Rattle.sheet.specs.declared.Answer as sheet
 use Rattle.sheet.specs.declared.Answer.the-variants as A

@@ -16,8 +16,8 @@ use Rattle.octets.specs.Octets.{numberAt, bytesOf, part, put}
 use Rattle.octets.proofs.Laws.{length-bytesOf, part-at}
 use Rattle.octets.proofs.Parts.{number-first, number-bytes, part-first, part-whole}
 use Rattle.sheet.specs.Sheet.{sheetSize, rowSize, rowCount, rowsStart, deskZerosAt, deskZerosSize, openedAt, workedAt, deskSize, deskCount, desksStart, headerNumberSize, usedAt, rowAt, deskAt, headerNumber, isClosed}
-use Rattle.sheet.specs.Bytes.{headerBytes, openDesk}
-use Rattle.sheet.proofs.Written.{length-header}
+use Rattle.changes.specs.Bytes.{headerBytes, openDesk}
+use Rattle.changes.proofs.Written.{length-header}
 use Rattle.layout.specs.Layout.{placeBytes, deskBytes, countUsed, laid, layout}
 use Rattle.layout.proofs.Parts.{part-seam, put-seam, number-within, part-within, put-within, put-first}
 use Rattle.layout.proofs.Chunks.{length-laid, part-laid, put-laid, laid-same}

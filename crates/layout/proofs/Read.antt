@@ -17,8 +17,8 @@ use Rattle.octets.specs.Octets.{numberAt, bytesOf, part, zeroAt}
 use Rattle.octets.proofs.Laws.{Bytes, number-lt, and-split, all-at}
 use Rattle.octets.proofs.Parts.{bytes-number, part-join, part-whole, zero-part, same-part}
 use Rattle.sheet.specs.Sheet.{sheetSize, keySize, firstAt, firstSize, ticksAt, rowSize, rowCount, rowsStart, deskRowAt, deskZerosAt, deskZerosSize, openedAt, workedAt, deskSize, deskCount, desksStart, headerNumberSize, lengthAt, usedAt, rowCountAt, rowsStartAt, deskCountAt, desksStartAt, rowAt, deskAt, headerNumber, used, keyAt, firstNumberAt, deskByte, deskRow, isClosed, carries, headerRight, validKeys, differentKeys, unusedZero, closedZero, deskMarked, openNames, deskRight, right}
-use Rattle.sheet.specs.Rows.{table, ticksOf}
-use Rattle.sheet.specs.Bytes.{headerBytes, openDesk}
+use Rattle.changes.specs.Rows.{table, ticksOf}
+use Rattle.changes.specs.Bytes.{headerBytes, openDesk}
 use Rattle.sheet.proofs.Clauses.{Right, right-parts, header-few}
 use Rattle.layout.specs.Layout.{placeBytes, deskBytes, countUsed, layout, placeIn, deskIn, bookOf}
 use Rattle.layout.proofs.Parts.{number-within}

@@ -18,7 +18,7 @@ use Rattle.octets.specs.Octets.{part, zeroAt}
 use Rattle.octets.proofs.Laws.{part-at, all-each}
 use Rattle.octets.proofs.Parts.{part-same}
 use Rattle.sheet.specs.Sheet.{sheetSize, ticksAt, rowSize, rowCount, deskRowAt, deskZerosAt, deskZerosSize, openedAt, workedAt, deskSize, deskCount, rowsStart, desksStart, headerNumberSize, rowAt, deskAt, headerNumber, used, keyAt, deskByte, deskRow, carries, headerRight, validKeys, differentKeys, unusedZero, deskRight, right}
-use Rattle.sheet.specs.Bytes.{openDesk}
+use Rattle.changes.specs.Bytes.{openDesk}
 use Rattle.sheet.proofs.Clauses.{closed-desk, open-desk, open-parts}
 use Rattle.layout.specs.Layout.{placeBytes, deskBytes, countUsed, layout, placeIn, deskIn, bookOf}
 use Rattle.layout.proofs.Parts.{part-within}

@@ -19,9 +19,9 @@ use Rattle.octets.specs.Octets.{numberAt, bytesOf, part}
 use Rattle.octets.proofs.Laws.{Bytes, length-bytesOf, getD-past}
 use Rattle.octets.proofs.Parts.{bytes-number, part-join, part-first, part-whole}
 use Rattle.sheet.specs.Sheet.{keySize, firstAt, firstSize, ticksAt, ticksSize, rowSize, byteBits, keyAt, firstNumberAt}
-use Rattle.sheet.specs.Rows.{tickedAt, setTick, clearTick, ticksOf, rowBytes}
-use Rattle.sheet.specs.Bytes.{judged, marked, markRows, markPosition, markRow}
-use Rattle.sheet.proofs.ReadBack.{length-row, row-key, row-first, row-ticks}
+use Rattle.changes.specs.Rows.{tickedAt, setTick, clearTick, ticksOf, rowBytes}
+use Rattle.changes.specs.Bytes.{judged, marked, markRows, markPosition, markRow}
+use Rattle.changes.proofs.ReadBack.{length-row, row-key, row-first, row-ticks}
 use Rattle.layout.specs.Layout.{tickBytes, placeBytes}
 use Rattle.layout.proofs.Parts.{number-within, part-within}
 use Rattle.layout.proofs.Ticks.{test-bit, length-ticks, tick-at, tick-set, tick-clear, ticks-bytes, ticks-read}

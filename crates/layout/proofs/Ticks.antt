@@ -15,7 +15,7 @@ use Rattle.model.specs.Positions.{rowLength, Positions, has}
 use Rattle.octets.specs.Octets.{part}
 use Rattle.octets.proofs.Laws.{Bytes, length-part, part-at}
 use Rattle.sheet.specs.Sheet.{ticksAt, ticksSize, rowSize, byteBits}
-use Rattle.sheet.specs.Rows.{tickByteAt, tickBit, tickedAt, ticksOf}
+use Rattle.changes.specs.Rows.{tickByteAt, tickBit, tickedAt, ticksOf}
 use Rattle.layout.specs.Layout.{bit, bitsValue, tickBytes}
 use Rattle.layout.proofs.Chunks.{getD-table, table-is}
 

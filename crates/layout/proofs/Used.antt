@@ -14,8 +14,8 @@ use Rattle.model.specs.Book.{Place, free, row, isFree, withTicks, hasKey, place
 use Rattle.model.specs.Counts.{lowestNumber, placeReport, firstGapFrom}
 use Rattle.model.specs.Counts as Counts
 use Rattle.sheet.specs.Sheet.{rowAt}
-use Rattle.sheet.specs.Rows.{ticksOf}
-use Rattle.sheet.specs.Bytes.{lowest, numberAtPosition, lowestWords, reportWords, gapOr, gapFrom}
+use Rattle.changes.specs.Rows.{ticksOf}
+use Rattle.changes.specs.Bytes.{lowest, numberAtPosition, lowestWords, reportWords, gapOr, gapFrom}
 use Rattle.layout.specs.Layout.{countUsed}
 use Rattle.layout.proofs.Rows.{Says}
 

@@ -10,8 +10,8 @@ use Rattle.model.specs.Positions.{Positions}
 use Rattle.model.specs.Book.{Place, free, row, Desk, closed, working, Book, fresh, withTicks}
 use Rattle.model.specs.Step.{Call, answerWords, step}
 use Rattle.sheet.specs.Sheet.{sheetSize, rowSize, rowCount, ticksSize, byteBits, openedAt, workedAt, deskSize, deskCount, rowAt, deskAt, used, keyAt, firstNumberAt, deskRow, isClosed, right}
-use Rattle.sheet.specs.Rows.{table, ticksOf, rowBytes}
-use Rattle.sheet.specs.Bytes.{Outcome, headerBytes, openDesk}
+use Rattle.changes.specs.Rows.{table, ticksOf, rowBytes}
+use Rattle.changes.specs.Bytes.{Outcome, headerBytes, openDesk}
 
 -- ---- a book laid out
 

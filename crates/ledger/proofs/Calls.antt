@@ -10,8 +10,8 @@ use Rattle.model.specs.Step.{Call, Enrol, Find, Open, Mark, Save, Drop}
 use Rattle.model.specs.Counts.{rowReport, firstGap}
 use Rattle.octets.proofs.Laws.{Bytes}
 use Rattle.sheet.specs.Sheet.{rowAt, used, right}
-use Rattle.sheet.specs.Bytes.{Outcome, done, rowWith, enrolAt, openAt, clearDesk, markDesk, saveAt, reportWords, enrolCall, findCall, openCall, markCall, saveCall, dropCall, reportCall, gapCall, gapFrom}
-use Rattle.sheet.proofs.Calls.{refuses, passes, accepts}
+use Rattle.changes.specs.Bytes.{Outcome, done, rowWith, enrolAt, openAt, clearDesk, markDesk, saveAt, reportWords, enrolCall, findCall, openCall, markCall, saveCall, dropCall, reportCall, gapCall, gapFrom}
+use Rattle.changes.proofs.Calls.{refuses, passes, accepts}
 use Rattle.layout.specs.Layout.{call, report, onSheet}
 use Rattle.layout.proofs.Sheets.{call-law, report-law, gap-law}
 use Rattle.ledger.proofs.Judged.{Law}

@@ -12,7 +12,7 @@ use Rattle.model.specs.Chain.{Chain, stop, next}
 use Rattle.model.specs.Claim.{bookAfter}
 use Rattle.model.proofs.WellFormed.{run-well-formed}
 use Rattle.sheet.specs.Sheet.{sheetSize}
-use Rattle.sheet.specs.Bytes.{Outcome, freshSheet}
+use Rattle.changes.specs.Bytes.{Outcome, freshSheet}
 use Rattle.layout.specs.Layout.{layout, report, freshOn}
 use Rattle.layout.specs.Demand3 as Layout
 use Rattle.layout.proofs.Demand3.{answer-meets, row-answer-meets, demand3}

@@ -12,7 +12,7 @@ use Rattle.refusals.specs.Judge.{Row, verdict}
 use Rattle.refusals.proofs.Laws.{number-positive}
 use Rattle.refusals.proofs.Judged.{NoneHolds, Numbered, verdict-none}
 use Rattle.sheet.specs.Sheet.{sheetSize, rowCount, deskCount, used, deskRow, right, Sized}
-use Rattle.sheet.specs.Bytes.{Outcome, judged, rowWith}
+use Rattle.changes.specs.Bytes.{Outcome, judged, rowWith}
 use Rattle.sheet.specs.Words.{answerWords}
 use Rattle.sheet.specs.declared.Answer.{Answer}
 use Rattle.sheet.specs.declared.Answer.the-variants as A

@@ -10,12 +10,12 @@ use Rattle.refusals.specs.Judge.{Row, verdict}
 use Rattle.model.specs.Step.{Enrol}
 use Rattle.octets.proofs.Laws.{Bytes}
 use Rattle.sheet.specs.Sheet.{keySize, firstSize, rowAt, used}
-use Rattle.sheet.specs.Rows.{rowValueAt, blankRow}
-use Rattle.sheet.specs.Bytes.{Outcome, judged, enrolAt}
+use Rattle.changes.specs.Rows.{rowValueAt, blankRow}
+use Rattle.changes.specs.Bytes.{Outcome, judged, enrolAt}
 use Rattle.sheet.specs.Words.{rowWords}
 use Rattle.sheet.specs.declared.Answer.the-variants as A
 use Rattle.sheet.specs.declared.RowAnswer.the-variants as R
-use Rattle.sheet.proofs.ReadBack.{enrolled-blank}
+use Rattle.changes.proofs.ReadBack.{enrolled-blank}
 use Rattle.layout.specs.Layout.{call, onSheet}
 use Rattle.ledger.specs.Verdicts.{enrolRows, verdictWords}
 use Rattle.ledger.proofs.Judged.{enrol-fine}

@@ -7,7 +7,7 @@ use lib.Dec.{eqb, ltb}
 use Rattle.refusals.specs.Judge.{Row, _when_, verdict}
 use Rattle.keys.specs.Key.{validKey}
 use Rattle.sheet.specs.Sheet.{rowCount, deskCount, used, isClosed, right}
-use Rattle.sheet.specs.Bytes.{hasKey}
+use Rattle.changes.specs.Bytes.{hasKey}
 
 abbrev pub enrolRows : (key : ℕ) → List ℕ → List Row
 enrolRows key s =

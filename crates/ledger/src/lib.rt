@@ -3,20 +3,20 @@
 // not a right sheet is refused with 20 and left as it was.
 mod verdicts;
 
+use changes::desks::clear_desk;
+use changes::desks::make_fresh;
+use changes::desks::open_desk;
+use changes::desks::save_desk;
+use changes::rows::enrol_row;
+use changes::rows::find_row;
+use changes::ticks::mark_desk;
 use refusals::Refusal;
 use sheet::Answer;
 use sheet::GapAnswer;
 use sheet::ReportAnswer;
 use sheet::RowAnswer;
 use sheet::SHEET;
-use sheet::desks::clear_desk;
-use sheet::desks::make_fresh;
-use sheet::desks::open_desk;
-use sheet::desks::save_desk;
 use sheet::right::is_sheet;
-use sheet::rows::enrol_row;
-use sheet::rows::find_row;
-use sheet::ticks::mark_desk;
 use verdicts::desk_verdict;
 use verdicts::enrol_verdict;
 use verdicts::find_verdict;

@@ -1,12 +1,12 @@
 // Whether a call is refused, judged in the order of the refusal table. Nothing is changed.
+use changes::desks::is_closed;
+use changes::rows::has_key;
 use refusals::Refusal;
 use sheet::Answer;
 use sheet::DESKS;
 use sheet::ROWS;
-use sheet::desks::is_closed;
 use sheet::right::is_sheet;
 use sheet::right::rows_used;
-use sheet::rows::has_key;
 ghost use mathlib.Core.Path.{_≡_};
 ghost use Rattle.sheet.specs.Words.{answerWords};
 ghost use Rattle.ledger.specs.Verdicts.{enrolRows, findRows, openRows, deskRows, reportRows, verdictWords};

@@ -1,9 +1,6 @@
 // The bytes of the ledger sheet (document 01, "The ledger sheet"): whether a slice is a right sheet, and what each call
 // does to its bytes. Every size and offset has its name here, once.
-pub mod desks;
 pub mod right;
-pub mod rows;
-pub mod ticks;
 
 use refusals::Refusal;
 

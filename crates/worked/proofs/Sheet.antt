@@ -7,7 +7,7 @@ use Rattle.model.specs.Step.{Call, Answer, answerWords, step, Entry, _⇒_, run
 use Rattle.model.specs.WellFormed.{WellFormed, AllInRange}
 use Rattle.model.proofs.Outcome.{outcome}
 use Rattle.model.proofs.WellFormed.{well-formed, fresh-well-formed}
-use Rattle.sheet.specs.Bytes.{freshSheet}
+use Rattle.changes.specs.Bytes.{freshSheet}
 use Rattle.layout.specs.Layout.{layout, call, onSheet}
 use Rattle.layout.proofs.Sheets.{on-layout, fresh-layout}
 use Rattle.worked.specs.Calls.{answersOn, sheetAfter}

@@ -22,8 +22,8 @@ use Rattle.model.specs.Counts.{rowReport}
 use Rattle.model.specs.WellFormed.{AllInRange}
 use Rattle.model.proofs.WellFormed.{run-well-formed}
 use Rattle.sheet.specs.Sheet.{rowAt, ticksAt}
-use Rattle.sheet.specs.Rows.{rowBytes}
-use Rattle.sheet.specs.Bytes.{freshSheet, headerBytes}
+use Rattle.changes.specs.Rows.{rowBytes}
+use Rattle.changes.specs.Bytes.{freshSheet, headerBytes}
 use Rattle.layout.specs.Layout.{bitsValue, tickBytes, placeBytes, countUsed, laid, layout, report, onSheet}
 use Rattle.layout.proofs.Sheets.{on-layout}
 use Rattle.worked.specs.Calls.{answersOn, sheetAfter}

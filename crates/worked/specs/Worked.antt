@@ -14,7 +14,7 @@ use Rattle.model.specs.Positions.{position}
 use Rattle.model.specs.Step.{Call, Enrol, Open, Tick, Untick, Save}
 use Rattle.model.specs.Counts.{rowReport}
 use Rattle.sheet.specs.Sheet.{rowAt, ticksAt}
-use Rattle.sheet.specs.Bytes.{freshSheet}
+use Rattle.changes.specs.Bytes.{freshSheet}
 use Rattle.layout.specs.Layout.{report, onSheet}
 use Rattle.worked.specs.Calls.{answersOn, sheetAfter}
 use Rattle.worked.specs.Records.{plain, relabelled, p4, p6}

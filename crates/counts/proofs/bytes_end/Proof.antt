@@ -4,8 +4,8 @@ use mathlib.Core.Path.{_≡_, refl, sym, ap, _∙_}
 use mathlib.Core.Bool.{not}
 use native.Mathlib.Omega.{arith}
 use Rattle.sheet.specs.Sheet.{ticksSize}
-use Rattle.sheet.specs.Bytes.{pastHighest}
-use Rattle.sheet.proofs.Scans.{past-here, past-down, past-none}
+use Rattle.changes.specs.Bytes.{pastHighest}
+use Rattle.changes.proofs.Scans.{past-here, past-down, past-none}
 use Rattle.counts.proofs.TickBytes.{notZero}
 use Rattle.counts.proofs.bytes_end.Statement.{statement}
 use Rattle.counts.proofs.bytes_end.Tie as tie

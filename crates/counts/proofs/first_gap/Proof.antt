@@ -1,7 +1,7 @@
 -- `counts::first_gap` meets its contract. The invariants: the first gap is that of the rows from `row` on; of that row the
 -- first i positions are ticked. Assumes nothing.
 use native.Mathlib.Nat.{sub-zero}
-use Rattle.sheet.proofs.Scans.{Each, each-none, each-more}
+use Rattle.changes.proofs.Scans.{Each, each-none, each-more}
 use Prim.Native.Nat.{_-_, _≤_}
 use mathlib.Core.Bool.{true}
 use mathlib.Core.Path.{_≡_, refl, sym, ap, _∙_}
@@ -9,9 +9,9 @@ use native.Mathlib.Omega.{arith}
 use Rattle.octets.proofs.Laws.{failed, passed}
 use Rattle.sheet.specs.declared.GapAnswer.the-variants.{Nothing}
 use Rattle.sheet.specs.Sheet.{rowAt}
-use Rattle.sheet.specs.Rows.{tickedAt}
+use Rattle.changes.specs.Rows.{tickedAt}
 use Rattle.model.specs.Positions.{rowLength}
-use Rattle.sheet.specs.Bytes.{pastHighest, gapFrom}
+use Rattle.changes.specs.Bytes.{pastHighest, gapFrom}
 use Rattle.sheet.specs.Words.{gapWords}
 use Rattle.counts.proofs.Reports.{end-within, row-gap, row-whole, gap-next, gap-here, gap-none}
 use Rattle.counts.proofs.first_gap.Statement.{statement}

@@ -3,7 +3,7 @@ use Prim.Native.Nat.{_-_, _≤_}
 use mathlib.Core.Bool.{not}
 use mathlib.Core.Path.{_≡_, sym, ap, _∙_}
 use native.Mathlib.Omega.{arith}
-use Rattle.sheet.proofs.Scans.{Fails, each-none, each-more, lowest-here, lowest-none}
+use Rattle.changes.proofs.Scans.{Fails, each-none, each-more, lowest-here, lowest-none}
 use Rattle.counts.proofs.TickBytes.{notFull}
 use Rattle.counts.proofs.lowest_unfilled.Statement.{statement}
 use Rattle.counts.proofs.lowest_unfilled.Tie as tie

@@ -5,9 +5,9 @@ use mathlib.Core.Path.{_≡_, sym, ap}
 use native.Mathlib.Omega.{arith}
 use Rattle.octets.proofs.Laws.{failed, passed}
 use Rattle.sheet.specs.Sheet.{byteBits}
-use Rattle.sheet.specs.Rows.{tickedAt}
-use Rattle.sheet.specs.Bytes.{lowest}
-use Rattle.sheet.proofs.Scans.{Fails, each-more, lowest-here, lowest-none, lowest-within, lowest-fails}
+use Rattle.changes.specs.Rows.{tickedAt}
+use Rattle.changes.specs.Bytes.{lowest}
+use Rattle.changes.proofs.Scans.{Fails, each-more, lowest-here, lowest-none, lowest-within, lowest-fails}
 use Rattle.counts.proofs.TickBytes.{notFull, full-ticks}
 use Rattle.counts.proofs.lowest_unticked.Statement.{statement}
 use Rattle.counts.proofs.lowest_unticked.Tie as tie

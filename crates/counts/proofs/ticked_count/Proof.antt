@@ -6,7 +6,7 @@ use native.Mathlib.Omega.{arith}
 use lib.Count.{ones-le}
 use Rattle.model.specs.Positions.{rowLength, size}
 use Rattle.sheet.specs.Sheet.{ticksAt, ticksSize, byteBits}
-use Rattle.sheet.specs.Rows.{tickedAt, table, ticksOf}
+use Rattle.changes.specs.Rows.{tickedAt, table, ticksOf}
 use Rattle.counts.proofs.Missing.{size-none}
 use Rattle.counts.proofs.TickBytes.{tickByte, ones-more}
 use Rattle.counts.proofs.ticked_count.Statement.{statement}

@@ -4,9 +4,9 @@ use mathlib.Core.Path.{_≡_, sym, _∙_}
 use native.Mathlib.Omega.{arith}
 use Rattle.model.specs.Positions.{rowLength}
 use Rattle.sheet.specs.Sheet.{ticksSize}
-use Rattle.sheet.specs.Rows.{tickedAt}
-use Rattle.sheet.specs.Bytes.{pastHighest}
-use Rattle.sheet.proofs.Scans.{top-of, past-here, past-down, past-none}
+use Rattle.changes.specs.Rows.{tickedAt}
+use Rattle.changes.specs.Bytes.{pastHighest}
+use Rattle.changes.proofs.Scans.{top-of, past-here, past-down, past-none}
 use Rattle.counts.proofs.TickBytes.{notZero, end-in-byte}
 use Rattle.counts.proofs.ticks_end.Statement.{statement}
 use Rattle.counts.proofs.ticks_end.Tie as tie

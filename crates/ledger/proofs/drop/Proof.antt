@@ -1,7 +1,7 @@
 -- `drop` meets its contract. Assumes nothing.
 use native.Mathlib.Omega.{arith}
 use mathlib.Core.Path.{ap, _∙_}
-use Rattle.sheet.specs.Bytes.{done}
+use Rattle.changes.specs.Bytes.{done}
 use Rattle.model.specs.Step.{Drop}
 use Rattle.ledger.proofs.Judged.{refused-is, accepted-is, desk-fine}
 use Rattle.ledger.proofs.Calls.{by-rows}

@@ -1,7 +1,7 @@
 -- `open` meets its contract. Assumes nothing.
 use native.Mathlib.Omega.{arith}
 use mathlib.Core.Path.{ap, _∙_}
-use Rattle.sheet.specs.Bytes.{done}
+use Rattle.changes.specs.Bytes.{done}
 use Rattle.model.specs.Step.{Open}
 use Rattle.ledger.proofs.Judged.{refused-is, accepted-is, open-fine}
 use Rattle.ledger.proofs.Calls.{by-rows}

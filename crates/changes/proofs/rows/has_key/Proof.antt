@@ -1,0 +1,16 @@
+-- `rows::has_key` meets its contract. Assumes nothing.
+use borrow.Author.Needs.{needs}
+use Rattle.changes.proofs.rows.has_key.Statement.{statement}
+use Rattle.changes.proofs.rows.has_key.Tie as tie
+
+find-row-requires : tie.Need-find-row-requires
+find-row-requires c κs = search needs
+
+rows-used-requires : tie.Need-rows-used-requires
+rows-used-requires c κs = search needs
+
+returns : tie.Need-returns
+returns c = rw (c .before .find-row .ensures, c .rows-used .ensures)
+
+pub has-key-spec : {M : Type 1} → statement M
+has-key-spec = tie.close (tie.spec find-row-requires rows-used-requires returns)

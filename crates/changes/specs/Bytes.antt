@@ -1,0 +1,213 @@
+-- What each call of the ledger does to the bytes of a sheet, and its answer, refusals too (document 01, "The ledger sheet").
+-- An outcome is the answer's words, 0 and its values or the refusal's number, with the sheet as it is left.
+-- Assumes nothing.
+use Prim.Native.Nat.{ℕ, zero, suc, _+_, _-_}
+use mathlib.Core.Bool.{Bool, true, false, not, cond, Bool·beq}
+use mathlib.Core.List.{List, [], _∷_, _++_}
+use mathlib.Core.Option.{Option, none, some}
+use lib.Dec.{eqb, ltb}
+use lib.ListN.{length, replicate}
+use Rattle.keys.specs.Key.{validKey}
+use Rattle.octets.specs.Octets.{bytesOf, part, put, sameAt}
+use Rattle.refusals.specs.Judge.{Row, _when_, verdict}
+use Rattle.model.specs.Positions.{position, numberAt, inRow, size, missing, least}
+use Rattle.model.specs.Step.{alreadySo}
+use Rattle.sheet.specs.Sheet.{sheetSize, rowSize, rowCount, rowsStart, openedAt, workedAt, deskSize, deskCount, desksStart, headerNumberSize, usedAt, rowAt, deskAt, used, keyAt, firstNumberAt, deskRow, isClosed, right}
+use Rattle.changes.specs.Rows.{tickedAt, setTick, clearTick, ticksOf, rowBytes, blankTicks}
+
+abbrev pub Outcome : Type 0
+Outcome = List ℕ × List ℕ
+
+-- A call judged by rows of the refusal table, in the table's order: a refusal leaves the sheet as it was.
+unfoldable pub judged : List Row → Outcome → List ℕ → Outcome
+judged rows outcome s = cond (eqb (verdict rows) 0) outcome (verdict rows ∷ [], s)
+
+abbrev pub done : List ℕ
+done = 0 ∷ []
+
+-- ---- fresh
+
+-- The header of a sheet with so many rows used.
+unfoldable pub headerBytes : ℕ → List ℕ
+headerBytes n =
+    bytesOf headerNumberSize sheetSize ++ bytesOf headerNumberSize n ++ bytesOf headerNumberSize rowCount
+    ++ bytesOf headerNumberSize rowsStart ++ bytesOf headerNumberSize deskCount ++ bytesOf headerNumberSize desksStart
+
+-- "A fresh sheet has no rows and eight closed desks."
+unfoldable pub freshSheet : List ℕ
+freshSheet = headerBytes 0 ++ replicate (sheetSize - rowsStart) 0
+
+-- "The call that makes a fresh sheet judges only the slice's length (20)."
+unfoldable pub freshCall : List ℕ → Outcome
+freshCall s = judged ((20 when not (eqb (length s) sheetSize)) ∷ []) (done, freshSheet) s
+
+-- ---- enrol, find
+
+-- The lowest number below n of which p holds, or n where there is none.
+unfoldable pub lowest : ℕ → (ℕ → Bool) → ℕ
+lowest zero p = 0
+lowest (suc n) p = cond (p 0) 0 (suc (lowest n (λ i. p (suc i))))
+
+-- One past the highest number below n of which p holds, or 0 where there is none.
+unfoldable pub pastHighest : ℕ → (ℕ → Bool) → ℕ
+pastHighest zero p = 0
+pastHighest (suc n) p = cond (p n) (suc n) (pastHighest n p)
+
+-- The used row with the key, or the count of used rows where there is none.
+unfoldable pub rowWith : List ℕ → ℕ → ℕ
+rowWith s key = lowest (used s) (λ i. eqb (keyAt s (rowAt i)) key)
+
+abbrev pub hasKey : List ℕ → ℕ → Bool
+hasKey s key = ltb (rowWith s key) (used s)
+
+-- Row i becomes a row with no ticks, and the header counts it.
+unfoldable pub enrolAt : ℕ → (key first : ℕ) → List ℕ → List ℕ
+enrolAt i key first s = put (put s (rowAt i) (rowBytes key first blankTicks)) usedAt (bytesOf headerNumberSize (i + 1))
+
+-- "Enrol (key, first): the next row, no ticks; answers the row."
+unfoldable pub enrolCall : (key first : ℕ) → List ℕ → Outcome
+enrolCall key first s =
+    judged
+    ((20 when not (right s))
+    ∷ (22 when not (validKey key))
+    ∷ (23 when hasKey s key)
+    ∷ (24 when eqb (used s) rowCount)
+    ∷ [])
+    (0 ∷ used s ∷ [], enrolAt (used s) key first s)
+    s
+
+-- "Find (key): answers the row with it."
+unfoldable pub findCall : (key : ℕ) → List ℕ → Outcome
+findCall key s =
+    judged
+    ((20 when not (right s)) ∷ (22 when not (validKey key)) ∷ (25 when not (hasKey s key)) ∷ [])
+    (0 ∷ rowWith s key ∷ [], s)
+    s
+
+-- ---- open, drop
+
+-- An open desk: "1 if open, row, two zeros, the row as opened, the row as worked on".
+unfoldable pub openDesk : ℕ → (opened worked : List ℕ) → List ℕ
+openDesk row opened worked = 1 ∷ row ∷ 0 ∷ 0 ∷ opened ++ worked
+
+-- "Open (desk, row): both copies become the row."
+unfoldable pub openAt : (d row : ℕ) → List ℕ → List ℕ
+openAt d row s = put s (deskAt d) (openDesk row (part s (rowAt row) rowSize) (part s (rowAt row) rowSize))
+
+unfoldable pub openCall : (d row : ℕ) → List ℕ → Outcome
+openCall d row s =
+    judged
+    ((20 when not (right s))
+    ∷ (21 when not (ltb d deskCount))
+    ∷ (25 when not (ltb row (used s)))
+    ∷ (26 when not (isClosed s d))
+    ∷ [])
+    (done, openAt d row s)
+    s
+
+-- "The desk is cleared."
+unfoldable pub clearDesk : (d : ℕ) → List ℕ → List ℕ
+clearDesk d s = put s (deskAt d) (replicate deskSize 0)
+
+unfoldable pub dropCall : (d : ℕ) → List ℕ → Outcome
+dropCall d s =
+    judged
+    ((20 when not (right s)) ∷ (21 when not (ltb d deskCount)) ∷ (27 when isClosed s d) ∷ [])
+    (done, clearDesk d s)
+    s
+
+-- ---- tick, untick
+
+-- The position of number n in a row's bytes, of which the first is the key's.
+abbrev pub positionIn : List ℕ → ℕ → ℕ
+positionIn row n = position (keyAt row 0) (firstNumberAt row 0) n
+
+-- A tick, where on is true, or an untick of position i in a row's bytes.
+abbrev pub marked : Bool → List ℕ → ℕ → List ℕ
+marked on row i = cond on (setTick row 0 i) (clearTick row 0 i)
+
+-- The refusals that the row itself decides: "29 and 30 are judged on that copy".
+abbrev pub markRows : Bool → List ℕ → ℕ → List Row
+markRows on row i = (28 when not (inRow i)) ∷ (alreadySo on when Bool·beq (tickedAt row 0 i) on) ∷ []
+
+-- A tick or an untick of position i, and of number n, in a row's bytes.
+unfoldable pub markPosition : Bool → ℕ → List ℕ → Outcome
+markPosition on i row = judged (markRows on row i) (done, marked on row i) row
+
+unfoldable pub markRow : Bool → ℕ → List ℕ → Outcome
+markRow on n row = markPosition on (positionIn row n) row
+
+-- The desk's worked copy, "which is lent on as that middle part of the sheet".
+abbrev pub workedCopy : (d : ℕ) → List ℕ → List ℕ
+workedCopy d s = part s (deskAt d + workedAt) rowSize
+
+unfoldable pub markDesk : Bool → (d n : ℕ) → List ℕ → Outcome
+markDesk on d n s =
+    let outcome = markRow on n (workedCopy d s) in
+    (outcome .0, put s (deskAt d + workedAt) (outcome .1))
+
+-- "Tick, untick (desk, number): change one bit of the desk's worked copy." 28, 29 and 30 are judged there.
+unfoldable pub markCall : Bool → (d n : ℕ) → List ℕ → Outcome
+markCall on d n s =
+    judged
+    ((20 when not (right s)) ∷ (21 when not (ltb d deskCount)) ∷ (27 when isClosed s d) ∷ [])
+    (markDesk on d n s)
+    s
+
+abbrev pub tickCall : (d n : ℕ) → List ℕ → Outcome
+tickCall = markCall true
+
+abbrev pub untickCall : (d n : ℕ) → List ℕ → Outcome
+untickCall = markCall false
+
+-- ---- save
+
+-- "If the row equals the opened copy it becomes the worked copy, and the desk is cleared; else 31", which "clears that desk".
+abbrev pub isCurrent : (d : ℕ) → List ℕ → Bool
+isCurrent d s = sameAt s (rowAt (deskRow s d)) s (deskAt d + openedAt) rowSize
+
+abbrev pub stored : (d : ℕ) → List ℕ → List ℕ
+stored d s = put s (rowAt (deskRow s d)) (workedCopy d s)
+
+unfoldable pub saveAt : (d : ℕ) → List ℕ → Outcome
+saveAt d s = cond (isCurrent d s) (done, clearDesk d (stored d s)) (31 ∷ [], clearDesk d s)
+
+unfoldable pub saveCall : (d : ℕ) → List ℕ → Outcome
+saveCall d s =
+    judged
+    ((20 when not (right s)) ∷ (21 when not (ltb d deskCount)) ∷ (27 when isClosed s d) ∷ [])
+    (saveAt d s)
+    s
+
+-- ---- row report, first gap
+
+-- The number at position i of the row at offset a.
+abbrev pub numberAtPosition : List ℕ → ℕ → ℕ → ℕ
+numberAtPosition s a i = numberAt (keyAt s a) (firstNumberAt s a) i
+
+-- The number at the lowest missing position, or no word where none is missing.
+abbrev pub lowestWords : List ℕ → ℕ → Option ℕ → List ℕ
+lowestWords s a none = []
+lowestWords s a (some i) = numberAtPosition s a i ∷ []
+
+-- "Row report (row): ticked count; missing count ..; the number at the lowest missing position, or none."
+unfoldable pub reportWords : List ℕ → ℕ → List ℕ
+reportWords s a =
+    0 ∷ size (ticksOf s a) ∷ size (missing (ticksOf s a)) ∷ lowestWords s a (least (missing (ticksOf s a)))
+
+unfoldable pub reportCall : (row : ℕ) → List ℕ → Outcome
+reportCall row s = judged ((20 when not (right s)) ∷ (25 when not (ltb row (used s))) ∷ []) (reportWords s (rowAt row), s) s
+
+-- "First gap: scanning rows in order and positions in order, the first missing number and its row, or none."
+-- The gap in row i, at the position given, or where there is none the words of the rows after it.
+abbrev pub gapOr : List ℕ → ℕ → Option ℕ → List ℕ → List ℕ
+gapOr s i none rest = rest
+gapOr s i (some at) rest = 0 ∷ numberAtPosition s (rowAt i) at ∷ i ∷ []
+
+-- The first gap of n rows from row i on.
+unfoldable pub gapFrom : List ℕ → ℕ → ℕ → List ℕ
+gapFrom s i zero = 0 ∷ []
+gapFrom s i (suc n) = gapOr s i (least (missing (ticksOf s (rowAt i)))) (gapFrom s (suc i) n)
+
+unfoldable pub gapCall : List ℕ → Outcome
+gapCall s = judged ((20 when not (right s)) ∷ []) (gapFrom s 0 (used s), s) s

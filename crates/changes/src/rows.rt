@@ -1,0 +1,116 @@
+// Rows: as values, by their key, and enrolled.
+use octets::read_be;
+use octets::write_be;
+use sheet::FIRST;
+use sheet::FIRST_AT;
+use sheet::KEY;
+use sheet::NUMBER;
+use sheet::ROW;
+use sheet::ROWS_AT;
+use sheet::Row;
+use sheet::TICKS;
+use sheet::TICKS_AT;
+use sheet::USED_AT;
+use sheet::right::key_at;
+use sheet::right::rows_used;
+ghost use mathlib.Core.Path.{_≡_};
+ghost use Prim.Native.Nat.{_+_, _≤_, _<_};
+ghost use lib.ListN.{length};
+ghost use Rattle.octets.specs.Octets.{part, put};
+ghost use Rattle.sheet.specs.Sheet.{sheetSize, rowSize, rowCount, ticksSize, used, firstNumberAt, Sized};
+ghost use Rattle.changes.specs.Rows.{rowBytes, rowValueAt, blankRow};
+ghost use Rattle.changes.specs.Bytes.{rowWith, hasKey, enrolAt};
+
+// The first number of the row or the copy at offset a.
+pub fn first_at(s: &[u8], a: usize) -> u32
+    requires { ⌜ a + rowSize ≤ length (now s) ⌝ }
+    ensures { λ r. ⌜ r ≡ firstNumberAt (now (s .entry)) a ⌝ }
+{
+    read_be(s, a + FIRST_AT, FIRST) as u32
+}
+
+// A row with no ticks: the blank map is an array of zeros.
+pub fn blank_row(key: u64, first: u32) -> Row
+    ensures { λ r. ⌜ r ≡ blankRow key first ⌝ }
+{
+    Row {
+        key,
+        first,
+        ticks: [0; TICKS],
+    }
+}
+
+// The row or the copy at offset a, as a value.
+pub fn read_row(s: &[u8], a: usize) -> Row
+    requires { ⌜ a + rowSize ≤ length (now s) ⌝ }
+    ensures { λ r. ⌜ r ≡ rowValueAt (now (s .entry)) a ⌝ }
+{
+    let key = key_at(s, a);
+    let first = first_at(s, a);
+    let ticks = read_ticks(s, a + TICKS_AT);
+    Row { key, first, ticks }
+}
+
+fn read_ticks(s: &[u8], a: usize) -> [u8; TICKS]
+    requires { ⌜ a + ticksSize ≤ length (now s) ⌝ }
+    ensures { λ r. ⌜ r ≡ part (now (s .entry)) a ticksSize ⌝ }
+{
+    let mut ticks = [0u8; TICKS];
+    for i in 0..TICKS {
+        ticks[i] = s[a + i];
+    }
+    ticks
+}
+
+// Writes a row at offset a.
+pub fn write_row(s: &mut [u8], a: usize, row: Row)
+    requires { ⌜ (a + rowSize ≤ length (now s)) × (length (row .ticks) ≡ ticksSize) ⌝ }
+    ensures { λ _. ⌜ now (s .exit) ≡ put (now (s .entry)) a (rowBytes (row .key) (row .first) (row .ticks)) ⌝ }
+{
+    let ticks = row.ticks;
+    write_be(s, a, KEY, row.key);
+    write_be(s, a + FIRST_AT, FIRST, row.first as u64);
+    write_ticks(s, a + TICKS_AT, &ticks);
+}
+
+fn write_ticks(s: &mut [u8], a: usize, ticks: &[u8])
+    requires { ⌜ (a + ticksSize ≤ length (now s)) × (length (now ticks) ≡ ticksSize) ⌝ }
+    ensures { λ _. ⌜ now (s .exit) ≡ put (now (s .entry)) a (now (ticks .entry)) ⌝ }
+{
+    for i in 0..TICKS {
+        s[a + i] = ticks[i];
+    }
+}
+
+// The used row with the key, or the count of used rows where there is none.
+pub fn find_row(s: &[u8], key: u64) -> usize
+    requires { ⌜ Sized (now s) ⌝ }
+    ensures { λ r. ⌜ r ≡ rowWith (now (s .entry)) key ⌝ }
+{
+    let used = rows_used(s);
+    for i in 0..used {
+        if key_at(s, ROWS_AT + ROW * i) == key {
+            return i;
+        }
+    }
+    used
+}
+
+// Whether a used row has the key.
+pub fn has_key(s: &[u8], key: u64) -> bool
+    requires { ⌜ Sized (now s) ⌝ }
+    ensures { λ r. ⌜ r ≡ hasKey (now (s .entry)) key ⌝ }
+{
+    find_row(s, key) < rows_used(s)
+}
+
+// Enrols a stream in the next row, and answers the row.
+pub fn enrol_row(s: &mut [u8], key: u64, first: u32) -> u32
+    requires { ⌜ (length (now s) ≡ sheetSize) × (used (now s) < rowCount) ⌝ }
+    ensures { λ r. ⌜ (r ≡ used (now (s .entry))) × (now (s .exit) ≡ enrolAt (used (now (s .entry))) key first (now (s .entry))) ⌝ }
+{
+    let row = rows_used(s);
+    write_row(s, ROWS_AT + ROW * row, blank_row(key, first));
+    write_be(s, USED_AT, NUMBER, row as u64 + 1);
+    row as u32
+}
