@@ -1,4 +1,4 @@
-// Row report and first gap.
+// Row report and first gap, on the bytes of a sheet.
 use changes::rows::first_at;
 use changes::ticks::is_ticked;
 use sheet::BYTE_BITS;

@@ -1,5 +1,5 @@
-// The bytes of the ledger sheet (document 01, "The ledger sheet"): whether a slice is a right sheet, and what each call
-// does to its bytes. Every size and offset has its name here, once.
+// The bytes of the ledger sheet (document 01, "The ledger sheet"): whether a slice is a right sheet. Every size and offset has its
+// name here, once.
 pub mod right;
 
 use refusals::Refusal;
