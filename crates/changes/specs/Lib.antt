@@ -1,2 +1,3 @@
+-- What the contracts of `changes` cite.
 pub mod Rows
 pub mod Bytes
