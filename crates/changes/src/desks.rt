@@ -5,6 +5,7 @@ use octets::is_same;
 use octets::write_be;
 use refusals::Refusal;
 use sheet::Answer;
+use sheet::CLOSED;
 use sheet::DESK;
 use sheet::DESK_COUNT_AT;
 use sheet::DESK_ROW_AT;
@@ -15,6 +16,7 @@ use sheet::DESKS_AT;
 use sheet::DESKS_START_AT;
 use sheet::LENGTH_AT;
 use sheet::NUMBER;
+use sheet::OPEN;
 use sheet::OPENED_AT;
 use sheet::ROW;
 use sheet::ROW_COUNT_AT;
@@ -60,7 +62,7 @@ pub fn is_closed(s: &[u8], d: usize) -> bool
     requires { ⌜ (length (now s) ≡ sheetSize) × (d < deskCount) ⌝ }
     ensures { λ r. ⌜ r ≡ isClosed (now (s .entry)) d ⌝ }
 {
-    s[DESKS_AT + DESK * d] == 0
+    s[DESKS_AT + DESK * d] == CLOSED
 }
 
 // Opens a row at desk d: both copies become the row.
@@ -70,7 +72,7 @@ pub fn open_desk(s: &mut [u8], d: usize, row: usize)
 {
     let a = DESKS_AT + DESK * d;
     let from = ROWS_AT + ROW * row;
-    s[a] = 1;
+    s[a] = OPEN;
     s[a + DESK_ROW_AT] = row as u8;
     clear(s, a + DESK_ZEROS_AT, DESK_ZEROS);
     copy(s, from, a + OPENED_AT, ROW);

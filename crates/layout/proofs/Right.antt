@@ -19,7 +19,7 @@ use Rattle.octets.proofs.Laws.{part-at, all-each}
 use Rattle.octets.proofs.Parts.{part-same}
 use Rattle.sheet.specs.Sheet.{sheetSize, ticksAt, rowSize, rowCount, deskRowAt, deskZerosAt, deskZerosSize, openedAt, workedAt, deskSize, deskCount, rowsStart, desksStart, headerNumberSize, rowAt, deskAt, headerNumber, used, keyAt, deskByte, deskRow, carries, headerRight, validKeys, differentKeys, unusedZero, deskRight, right}
 use Rattle.changes.specs.Bytes.{openDesk}
-use Rattle.sheet.proofs.Clauses.{closed-desk, open-desk, open-parts}
+use Rattle.sheet.proofs.Clauses.{closed-desk, open-desk}
 use Rattle.layout.specs.Layout.{placeBytes, deskBytes, countUsed, layout, placeIn, deskIn, bookOf}
 use Rattle.layout.proofs.Parts.{part-within}
 use Rattle.layout.proofs.Chunks.{table-is}
@@ -213,9 +213,9 @@ module _ (b : Book) (ok : WellFormed b) where
           let byte : deskByte s d ≡ 1 = desk-byte b (shape ok) d 0 (deskAt d) x l q (omega arith) (add-zero (deskAt d)) in
           let zeros = part-zero s (deskAt d + deskZerosAt) deskZerosSize (desk-in b (shape ok) d deskZerosAt deskZerosSize x l q (omega arith) ∙ zeros-in (b .places) r opened worked) in
           let er = row-part b (shape ok) r (omega arith) ∙ ap placeBytes (o .place-is) in
-          sym (open-desk s d byte)
-          ∙ sym (open-parts s d byte)
+          sym (open-desk s d (λ z. omega arith))
           ∙ rw (
+            eq-eqb _ _ byte,
             zeros,
             o .row-named,
             used-is,

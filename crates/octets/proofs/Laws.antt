@@ -1,7 +1,7 @@
--- Laws of the definitions of `specs/Field.antt`, each stated once, over the width or the index.
+-- Laws of the definitions of `specs/Octets.antt`, each stated once, over the width or the index.
 -- Assumes nothing.
 use Prim.Native.Nat.{ℕ, zero, suc, _+_, _*_, _/_, _%_, _^_, _-_, _<_, _≤_}
-use native.Mathlib.Nat.{pow-suc, pow-le-pow-right, not-suc-le-zero, le-of-suc-le-suc, eq-or-lt-of-le, lt-of-lt-of-le, le-add-right, le-refl}
+use native.Mathlib.Nat.{pow-suc, pow-le-pow-right, not-suc-le-zero, le-of-suc-le-suc, eq-or-lt-of-le, lt-of-lt-of-le, le-add-right, le-refl, add-zero, add-suc}
 use native.Mathlib.Numerals.{add-one}
 use native.Mathlib.Omega.{arith}
 use mathlib.Core.Bool.{Bool, true, false, not, _&&_, false≢true}
@@ -15,7 +15,7 @@ use mir.Syntax.{w8}
 use mir.Val.{Fits}
 use lib.ListN.{length, take, drop, getD, set, length-append, length-drop, length-set, List·getD-append}
 use lib.Seq.{paste, paste-zero, paste-suc, length-paste, take-length, take-set-le, drop-cons, drop-set-lt, getD-set-same, length-take-le, append-snoc, getD-take, getD-drop, length-paste-head, getD-append-add}
-use Rattle.octets.specs.Octets.{numberAt, bytesOf, part, put, all}
+use Rattle.octets.specs.Octets.{numberAt, bytesOf, part, put, all, zeroAt}
 
 -- ---- numbers
 
@@ -59,9 +59,22 @@ pub and-split : (a b : Bool) → a && b ≡ true → (a ≡ true) × (b ≡ true
 and-split true b e = (refl, e)
 and-split false b e = absurd (false≢true e)
 
-and-false : (b : Bool) → b && false ≡ false
+pub and-true : (b : Bool) → b && true ≡ b
+and-true true = refl
+and-true false = refl
+
+pub and-false : (b : Bool) → b && false ≡ false
 and-false true = refl
 and-false false = refl
+
+pub and-assoc : (a b c : Bool) → a && (b && c) ≡ a && b && c
+and-assoc true b c = refl
+and-assoc false b c = refl
+
+and-cross : (a b c d : Bool) → a && b && (c && d) ≡ a && c && (b && d)
+and-cross false b c d = refl
+and-cross true true c d = refl
+and-cross true false c d = sym (and-false c)
 
 pub all-none : (p : ℕ → Bool) → all 0 p ≡ true
 unfolding all
@@ -96,6 +109,73 @@ pub all-next : (i : ℕ) (p : ℕ → Bool) → all (i + 1) p ≡ (all i p && p 
 unfolding all
 all-next i p = rw add-one
 
+-- a test of m + n numbers is one of the first m and one of the others
+pub all-join : (m n : ℕ) (p : ℕ → Bool) → all (m + n) p ≡ (all m p && all n (λ i. p (m + i)))
+unfolding all
+all-join m zero p = rw add-zero (sym (and-true (all m p)))
+all-join m (suc n) p = rw (add-suc, all-join m n p, and-assoc)
+
+-- tests that agree below n
+pub all-same : (n : ℕ) (p q : ℕ → Bool) → ((i : ℕ) → i < n → p i ≡ q i) → all n p ≡ all n q
+unfolding all
+all-same zero p q h = refl
+all-same (suc n) p q h = rw (all-same n p q (λ i l. h i (omega arith)), h n (omega arith))
+
+-- two tests made together
+pub all-both : (n : ℕ) (p q : ℕ → Bool) → all n (λ i. p i && q i) ≡ (all n p && all n q)
+unfolding all
+all-both zero p q = refl
+all-both (suc n) p q = rw (all-both n p q, and-cross)
+
+pub zero-join : (s : List ℕ) (a m n : ℕ) → zeroAt s a (m + n) ≡ (zeroAt s a m && zeroAt s (a + m) n)
+unfolding zeroAt
+zero-join s a m n =
+    all-join m n _
+    ∙ ap (λ (b : Bool). all m (λ i. eqb (getD s (a + i) 0) 0) && b)
+    (all-same n _ _ (λ i l. let e : a + (m + i) ≡ a + m + i = omega arith in rw e))
+
+-- a range is zero when its first m and its last k bytes are, which may overlap
+and-twice : (a b c : Bool) → a && b && (b && c) ≡ a && (b && c)
+and-twice false b c = refl
+and-twice true false c = refl
+and-twice true true c = refl
+
+zero-overlap : (s : List ℕ) (a m n k : ℕ) → (zeroAt s a (m + n) && zeroAt s (a + m) (n + k)) ≡ zeroAt s a (m + (n + k))
+zero-overlap s a m n k = rw (zero-join s a m n, zero-join s a m (n + k), zero-join s (a + m) n k, and-twice)
+
+pub zero-cover : (s : List ℕ) (a n m k : ℕ) → m ≤ n → k ≤ n → n ≤ m + k → (zeroAt s a m && zeroAt s (a + (n - k)) k) ≡ zeroAt s a n
+zero-cover s a n m k p q h =
+    let both = m + k - n in
+    let first : n - k + both ≡ m = omega arith in
+    let last : both + (k - both) ≡ k = omega arith in
+    let whole : n - k + k ≡ n = omega arith in
+    rw (first, last, whole) at (zero-overlap s a (n - k) both (k - both))
+
+-- four ranges of n bytes from index a on, tested side by side
+abbrev zeroFrom : List ℕ → (a i : ℕ) → Bool
+zeroFrom s a i = eqb (getD s (a + i) 0) 0
+
+abbrev pub fourZero : List ℕ → (a n i : ℕ) → Bool
+fourZero s a n i = zeroFrom s a i && zeroFrom s (a + n) i && zeroFrom s (a + n + n) i && zeroFrom s (a + n + n + n) i
+
+pub zero-four : (s : List ℕ) (a n : ℕ) → all n (fourZero s a n) ≡ zeroAt s a (4 * n)
+unfolding zeroAt
+zero-four s a n =
+    let e : 4 * n ≡ n + n + n + n = omega arith in
+    let third : a + (n + n) ≡ a + n + n = omega arith in
+    let fourth : a + (n + n + n) ≡ a + n + n + n = omega arith in
+    all-both n (λ i. zeroFrom s a i && zeroFrom s (a + n) i && zeroFrom s (a + n + n) i) (zeroFrom s (a + n + n + n))
+    ∙ rw (
+      all-both n (λ i. zeroFrom s a i && zeroFrom s (a + n) i) (zeroFrom s (a + n + n)),
+      all-both n (zeroFrom s a) (zeroFrom s (a + n)),
+      e,
+      zero-join s a (n + n + n) n,
+      zero-join s a (n + n) n,
+      zero-join s a n n,
+      third,
+      fourth,
+    )
+
 -- ---- bytes gathered by `|`: zero exactly when each of them is
 
 pub or-zero : (x y : ℕ) → eqb (bitOr x y) 0 ≡ (eqb x 0 && eqb y 0)
@@ -115,6 +195,12 @@ xor-zero x y = by (eqb x y) refl
 -- one byte more is gathered
 pub gathered : (p : ℕ → Bool) (i any x : ℕ) → eqb any 0 ≡ all i p → eqb x 0 ≡ p i → eqb (bitOr any x) 0 ≡ all (i + 1) p
 gathered p i any x e f = or-zero any x ∙ rw (e, f, all-next)
+
+-- one byte more of each of four ranges
+pub gathered-four : (s : List ℕ) (a n i any : ℕ) → eqb any 0 ≡ all i (fourZero s a n)
+    → eqb (bitOr any (bitOr (bitOr (bitOr (getD s (a + i) 0) (getD s (a + n + i) 0)) (getD s (a + n + n + i) 0)) (getD s (a + n + n + n + i) 0))) 0
+    ≡ all (i + 1) (fourZero s a n)
+gathered-four s a n i any e = gathered (fourZero s a n) i any _ e (rw (or-zero, or-zero, or-zero))
 
 -- ---- a part replaced, byte by byte
 

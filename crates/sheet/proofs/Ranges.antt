@@ -1,4 +1,4 @@
--- Zero ranges cut and joined, and the zero range of the unused rows. Assumes nothing.
+-- Parts of zero ranges, and the zero range of the unused rows. Assumes nothing.
 use Prim.Native.Nat.{ℕ, zero, suc, _+_, _*_, _-_, _≤_, _<_}
 use native.Mathlib.Nat.{eq-or-lt-of-le, le-add-right, add-zero, add-suc, mul-add, mul-zero, mul-suc}
 use native.Mathlib.Omega.{arith}
@@ -11,39 +11,8 @@ use lib.Seq.{getD-set-same, getD-set-other}
 use mathlib.Core.Logic.{⊎-elim}
 use borrow.Author.Tests.{lt-ltb, le-ltb, eq-eqb}
 use Rattle.octets.specs.Octets.{all, zeroAt}
-use Rattle.octets.proofs.Laws.{all-each}
+use Rattle.octets.proofs.Laws.{all-each, all-same, zero-join}
 use Rattle.octets.proofs.Parts.{zero-at}
-
-pub and-true : (b : Bool) → b && true ≡ b
-and-true true = refl
-and-true false = refl
-
-pub and-assoc : (a b c : Bool) → a && (b && c) ≡ a && b && c
-and-assoc true b c = refl
-and-assoc false b c = refl
-
-pub and-false : (b : Bool) → b && false ≡ false
-and-false true = refl
-and-false false = refl
-
--- a test of m + n numbers is one of the first m and one of the others
-pub all-join : (m n : ℕ) (p : ℕ → Bool) → all (m + n) p ≡ (all m p && all n (λ i. p (m + i)))
-unfolding all
-all-join m zero p = rw add-zero (sym (and-true (all m p)))
-all-join m (suc n) p = rw (add-suc, all-join m n p, and-assoc)
-
--- tests that agree below n
-pub all-same : (n : ℕ) (p q : ℕ → Bool) → ((i : ℕ) → i < n → p i ≡ q i) → all n p ≡ all n q
-unfolding all
-all-same zero p q h = refl
-all-same (suc n) p q h = rw (all-same n p q (λ i l. h i (omega arith)), h n (omega arith))
-
-pub zero-join : (s : List ℕ) (a m n : ℕ) → zeroAt s a (m + n) ≡ (zeroAt s a m && zeroAt s (a + m) n)
-unfolding zeroAt
-zero-join s a m n =
-    all-join m n _
-    ∙ ap (λ (b : Bool). all m (λ i. eqb (getD s (a + i) 0) 0) && b)
-    (all-same n _ _ (λ i l. let e : a + (m + i) ≡ a + m + i = omega arith in rw e))
 
 -- a part of a zero range is zero
 pub zero-within : (s : List ℕ) (a n b m : ℕ) → zeroAt s a n ≡ true → a ≤ b → b + m ≤ a + n → zeroAt s b m ≡ true

@@ -25,6 +25,10 @@ pub const ROWS_AT: usize = 24;
 pub const BYTE_BITS: usize = 8;
 
 // A desk: 1 if open, row, two zeros, the row as opened, the row as worked on. There are eight, behind the rows.
+pub const CLOSED: u8 = 0;
+
+pub const OPEN: u8 = 1;
+
 pub const DESK_ROW_AT: usize = 1;
 
 pub const DESK_ZEROS_AT: usize = 2;

@@ -1,5 +1,6 @@
 // Whether a slice is a right sheet. Every call judges the whole sheet, so bytes and keys are gathered with no early exit
 // and LLVM vectorizes the loops.
+use crate::CLOSED;
 use crate::DESK;
 use crate::DESK_COUNT_AT;
 use crate::DESK_ROW_AT;
@@ -11,6 +12,7 @@ use crate::DESKS_START_AT;
 use crate::KEY;
 use crate::LENGTH_AT;
 use crate::NUMBER;
+use crate::OPEN;
 use crate::OPENED_AT;
 use crate::ROW;
 use crate::ROW_COUNT_AT;
@@ -21,6 +23,7 @@ use crate::SHEET;
 use crate::TICKS_AT;
 use crate::USED_AT;
 use crate::WORKED_AT;
+use octets::is_long_zero;
 use octets::is_same;
 use octets::is_zero;
 use octets::read_be;
@@ -30,7 +33,7 @@ ghost use Prim.Native.Nat.{_+_, _≤_, _<_};
 ghost use lib.Dec.{eqb};
 ghost use lib.ListN.{length, getD};
 ghost use Rattle.octets.specs.Octets.{all};
-ghost use Rattle.sheet.specs.Sheet.{sheetSize, rowSize, rowCount, deskCount, used, keyAt, deskByte, headerRight, validKeys, differentKeys, unusedZero, deskMarked, openNames, deskRight, right, Sized};
+ghost use Rattle.sheet.specs.Sheet.{sheetSize, rowSize, rowCount, deskCount, used, keyAt, deskByte, headerRight, validKeys, differentKeys, unusedZero, deskRight, right, Sized};
 
 // Whether a slice is a right sheet.
 pub fn is_sheet(s: &[u8]) -> bool
@@ -43,9 +46,8 @@ pub fn is_sheet(s: &[u8]) -> bool
         return false;
     }
     let keys = are_keys(s);
-    let unused = is_unused_zero(s);
-    let desks = are_desks(s);
-    keys & unused & desks
+    let rest = is_rest(s);
+    keys & rest
 }
 
 fn is_header(s: &[u8]) -> bool
@@ -107,54 +109,40 @@ fn is_new(keys: &[u64; ROWS], n: usize, key: u64) -> bool
     new
 }
 
-// Whether the unused rows, which stand together, are zero.
-fn is_unused_zero(s: &[u8]) -> bool
+// Whether the unused rows are zero and each desk is right. The desks stand behind the unused rows, so that these and closed desks
+// that follow one another are one range of zeros, tested in one go.
+fn is_rest(s: &[u8]) -> bool
     requires { ⌜ Sized (now s) ⌝ }
-    ensures { λ r. ⌜ r ≡ unusedZero (now (s .entry)) ⌝ }
-{
-    let used = rows_used(s);
-    is_zero(s, ROWS_AT + ROW * used, ROW * (ROWS - used))
-}
-
-fn are_desks(s: &[u8]) -> bool
-    requires { ⌜ Sized (now s) ⌝ }
-    ensures { λ r. ⌜ r ≡ all deskCount (deskRight (now (s .entry))) ⌝ }
+    ensures { λ r. ⌜ r ≡ (unusedZero (now (s .entry)) && all deskCount (deskRight (now (s .entry)))) ⌝ }
 {
     let mut right = true;
+    let mut zeros = ROWS_AT + ROW * rows_used(s);
     for d in 0..DESKS {
-        right &= is_desk(s, d);
+        let desk = DESKS_AT + DESK * d;
+        if s[desk] != CLOSED {
+            right &= is_long_zero(s, zeros, desk - zeros);
+            right &= is_open_desk(s, d);
+            zeros = desk + DESK;
+        }
     }
-    right
+    right & is_long_zero(s, zeros, SHEET - zeros)
 }
 
-fn is_desk(s: &[u8], d: usize) -> bool
-    requires { ⌜ Sized (now s) ⌝ }
-    requires { ⌜ d < deskCount ⌝ }
-    ensures { λ r. ⌜ r ≡ deskRight (now (s .entry)) d ⌝ }
-{
-    let open = s[DESKS_AT + DESK * d];
-    if open == 0 {
-        return is_zero(s, DESKS_AT + DESK * d, DESK);
-    }
-    if open == 1 {
-        return is_open_desk(s, d);
-    }
-    false
-}
-
-// Whether an open desk has its two zeros, names a used row, and both its copies carry that row's key and first number.
+// Whether a desk that is not closed is marked open, has its two zeros, names a used row, and both its copies carry that row's key
+// and first number.
 fn is_open_desk(s: &[u8], d: usize) -> bool
     requires { ⌜ Sized (now s) ⌝ }
-    requires { ⌜ (d < deskCount) × (deskByte (now s) d ≡ 1) ⌝ }
-    ensures { λ r. ⌜ r ≡ (deskMarked (now (s .entry)) d && openNames (now (s .entry)) d) ⌝ }
+    requires { ⌜ (d < deskCount) × (deskByte (now s) d ≡ 0 → ⊥) ⌝ }
+    ensures { λ r. ⌜ r ≡ deskRight (now (s .entry)) d ⌝ }
 {
     let a = DESKS_AT + DESK * d;
     let row = s[a + DESK_ROW_AT] as usize;
     if row >= rows_used(s) {
         return false;
     }
+    let open = s[a] == OPEN;
     let zeros = is_zero(s, a + DESK_ZEROS_AT, DESK_ZEROS);
     let opened = is_same(s, ROWS_AT + ROW * row, s, a + OPENED_AT, TICKS_AT);
     let worked = is_same(s, ROWS_AT + ROW * row, s, a + WORKED_AT, TICKS_AT);
-    zeros & opened & worked
+    open & zeros & opened & worked
 }

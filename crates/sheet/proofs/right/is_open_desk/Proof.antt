@@ -1,7 +1,7 @@
 -- `right::is_open_desk` meets its contract. Assumes nothing.
 use Rattle.sheet.specs.Sheet.{deskAt, deskRowAt}
-use Rattle.sheet.proofs.Ranges.{and-false, and-assoc}
-use Rattle.sheet.proofs.Clauses.{open-parts}
+use Rattle.octets.proofs.Laws.{and-false, and-assoc}
+use Rattle.sheet.proofs.Clauses.{open-desk}
 use Prim.Native.Nat.{_+_}
 use native.Mathlib.Omega.{arith}
 use borrow.Author.Tests.{lt-ltb, le-ltb}
@@ -28,7 +28,10 @@ rows-used-requires : tie.Need-rows-used-requires
 rows-used-requires c κs = search needs
 
 returns : tie.Need-returns
-returns c = rw (← open-parts _ _ (c .before .before .before .before .pre .1 .1), le-ltb _ _ (rw (c .before .rows-used .ensures) at (c .if1 .taken)), and-false)
+returns c = rw (← open-desk _ _ (c .before .before .before .before .pre .1 .1), le-ltb _ _ (rw (c .before .rows-used .ensures) at (c .if1 .taken)), and-false)
+
+shared-slice-read-open : tie.Need-shared-slice-read-open
+shared-slice-read-open c = search needs
 
 add-is-zero : tie.Need-add-is-zero
 add-is-zero c = search needs
@@ -63,8 +66,8 @@ is-same-requires-2 c κs = search needs
 returns-2 : tie.Need-returns-2
 returns-2 c =
     let start = c .before .before .before .before .before .before .before in
-    let used-row = lt-ltb _ _ (rw (c .before .before .before .before .rows-used .ensures) at (c .before .before .before .if1 .left)) in
-    rw (← open-parts _ _ (start .pre .1 .1), used-row, ← c .before .before .is-zero .ensures, ← c .before .is-same .ensures, ← c .is-same2 .ensures, and-assoc)
+    let used-row = lt-ltb _ _ (rw (c .before .before .before .before .before .rows-used .ensures) at (c .before .before .before .before .if1 .left)) in
+    rw (← open-desk _ _ (start .before .pre .1 .1), used-row, ← c .before .before .is-zero .ensures, ← c .before .is-same .ensures, ← c .is-same2 .ensures, and-assoc)
 
 pub is-open-desk-spec : {M : Type 1} → statement M
 is-open-desk-spec =
@@ -77,6 +80,7 @@ is-open-desk-spec =
     cast-row
     rows-used-requires
     returns
+    shared-slice-read-open
     add-is-zero
     is-zero-requires
     mul-is-same

@@ -1,7 +1,7 @@
 -- `right::is_sheet` meets its contract. Assumes nothing.
 use native.Mathlib.Omega.{arith}
 use borrow.Author.Tests.{eq-eqb, ne-eqb}
-use Rattle.octets.proofs.Laws.{failed, passed}
+use Rattle.octets.proofs.Laws.{failed, passed, and-assoc}
 use Rattle.sheet.specs.Sheet.{right}
 use Rattle.sheet.proofs.Clauses.{header-few}
 use borrow.Author.Needs.{needs}
@@ -22,17 +22,14 @@ returns-2 c = rw (eq-eqb _ _ (c .before .before .if1 .left), failed (c .before .
 are-keys-requires : tie.Need-are-keys-requires
 are-keys-requires c κs = record { long = omega arith; few = header-few _ (passed (c .before .is-header .ensures) (c .if2 .left)) }
 
-is-unused-zero-requires : tie.Need-is-unused-zero-requires
-is-unused-zero-requires c κs = record { long = omega arith; few = header-few _ (passed (c .before .before .is-header .ensures) (c .before .if2 .left)) }
-
-are-desks-requires : tie.Need-are-desks-requires
-are-desks-requires c κs = record { long = omega arith; few = header-few _ (passed (c .before .before .before .is-header .ensures) (c .before .before .if2 .left)) }
+is-rest-requires : tie.Need-is-rest-requires
+is-rest-requires c κs = record { long = omega arith; few = header-few _ (passed (c .before .before .is-header .ensures) (c .before .if2 .left)) }
 
 returns-3 : tie.Need-returns-3
 unfolding right
 returns-3 c =
-    let header = c .before .before .before in
-    rw (eq-eqb _ _ (header .before .before .if1 .left), passed (header .before .is-header .ensures) (header .if2 .left), ← c .before .before .are-keys .ensures, ← c .before .is-unused-zero .ensures, ← c .are-desks .ensures)
+    let header = c .before .before in
+    rw (eq-eqb _ _ (header .before .before .if1 .left), passed (header .before .is-header .ensures) (header .if2 .left), ← c .before .are-keys .ensures, ← and-assoc, ← c .is-rest .ensures)
 
 pub is-sheet-spec : {M : Type 1} → statement M
 is-sheet-spec =
@@ -42,6 +39,5 @@ is-sheet-spec =
     is-header-requires
     returns-2
     are-keys-requires
-    is-unused-zero-requires
-    are-desks-requires
+    is-rest-requires
     returns-3)
