@@ -18,7 +18,7 @@ returns : tie.Need-returns
 unfolding saveAt
 returns c =
     let stale = c .before .before .before .before in
-    rw (failed (stale .before .is-current .ensures) (stale .if1 .taken)) (cc)
+    rw (failed (stale .before .is-current .ensures) (stale .if1 .taken), c .before .before .clear-desk .ensures)
 
 store-requires : tie.Need-store-requires
 store-requires c κs = search needs
@@ -33,7 +33,7 @@ returns-2 : tie.Need-returns-2
 unfolding saveAt
 returns-2 c =
     let current = c .before .before .before .before .before .before .before .before in
-    rw (passed (current .before .is-current .ensures) (current .if1 .left)) (cc)
+    rw (passed (current .before .is-current .ensures) (current .if1 .left), c .before .before .clear-desk2 .ensures, c .before .before .before .before .before .before .store .ensures)
 
 pub save-desk-spec : {M : Type 1} → statement M
 save-desk-spec =
