@@ -14,8 +14,8 @@ use Rattle.changes.specs.Bytes.{Outcome, done, rowWith, enrolAt, openAt, clearD
 use Rattle.changes.proofs.Calls.{refuses, passes, accepts}
 use Rattle.layout.specs.Layout.{call, report, onSheet}
 use Rattle.layout.proofs.Sheets.{call-law, report-law, gap-law}
-use Rattle.ledger.proofs.Judged.{Law}
-use Rattle.ledger.specs.Verdicts.{enrolRows, findRows, openRows, deskRows, reportRows}
+use Rattle.verdicts.proofs.Judged.{Law}
+use Rattle.verdicts.specs.Verdicts.{enrolRows, findRows, openRows, deskRows, reportRows}
 
 abbrev pub rowsOf : Call → List ℕ → List Row
 rowsOf (Enrol key first) s = enrolRows key s

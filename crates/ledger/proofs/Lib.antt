@@ -1,4 +1,3 @@
-pub mod Judged
 pub mod Calls
 pub mod ReadBack
 pub mod Demand3

@@ -17,8 +17,8 @@ use Rattle.sheet.specs.declared.Answer.the-variants as A
 use Rattle.sheet.specs.declared.RowAnswer.the-variants as R
 use Rattle.changes.proofs.ReadBack.{enrolled-blank}
 use Rattle.layout.specs.Layout.{call, onSheet}
-use Rattle.ledger.specs.Verdicts.{enrolRows, verdictWords}
-use Rattle.ledger.proofs.Judged.{enrol-fine}
+use Rattle.verdicts.specs.Verdicts.{enrolRows, verdictWords}
+use Rattle.verdicts.proofs.Judged.{enrol-fine}
 use Rattle.ledger.proofs.Calls.{by-rows}
 
 pub enrol-reads-back : (s t : List ℕ) (key first row : ℕ) → Bytes s → key < 256 ^ keySize → first < 256 ^ firstSize

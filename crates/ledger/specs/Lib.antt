@@ -1,3 +1,2 @@
 -- What the contracts of `ledger` cite, and what demand 3 says of its calls.
-pub mod Verdicts
 pub mod Demand3

@@ -1,8 +1,6 @@
 // The receipt ledger: the public calls on a lent sheet (document 01, "The ledger sheet"). Each contract has one shape: the words
 // of the answer, and the sheet as it is left, are the model's call on the book that the sheet holds, laid out again. What is
 // not a right sheet is refused with 20 and left as it was.
-mod verdicts;
-
 use changes::desks::clear_desk;
 use changes::desks::make_fresh;
 use changes::desks::open_desk;

@@ -3,7 +3,7 @@ use native.Mathlib.Omega.{arith}
 use mathlib.Core.Path.{ap, _∙_}
 use Rattle.changes.specs.Bytes.{done}
 use Rattle.model.specs.Step.{Drop}
-use Rattle.ledger.proofs.Judged.{refused-is, accepted-is, desk-fine}
+use Rattle.verdicts.proofs.Judged.{refused-is, accepted-is, desk-fine}
 use Rattle.ledger.proofs.Calls.{by-rows}
 use borrow.Author.Needs.{needs}
 use Rattle.ledger.proofs.drop.Statement.{statement}

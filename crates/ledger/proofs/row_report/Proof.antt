@@ -1,7 +1,7 @@
 -- `row_report` meets its contract. Assumes nothing.
 use native.Mathlib.Omega.{arith}
 use mathlib.Core.Path.{ap, _∙_}
-use Rattle.ledger.proofs.Judged.{refused-is, accepted-is, report-fine}
+use Rattle.verdicts.proofs.Judged.{refused-is, accepted-is, report-fine}
 use Rattle.ledger.proofs.Calls.{report-by-rows}
 use borrow.Author.Needs.{needs}
 use Rattle.ledger.proofs.row_report.Statement.{statement}

@@ -1,5 +1,5 @@
--- What a call is refused for, read on the bytes of a sheet: rows of the refusal table, in the table's order. Only functions within
--- this crate cite these; what a public call promises is said by the model. Assumes nothing.
+-- What a call of the ledger is refused for, read on the bytes of a sheet: rows of the refusal table, in the table's order. What a
+-- public call promises is said by the model, not by these. Assumes nothing.
 use Prim.Native.Nat.{ℕ}
 use mathlib.Core.Bool.{not}
 use mathlib.Core.List.{List, [], _∷_}

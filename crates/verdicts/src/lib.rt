@@ -1,4 +1,4 @@
-// Whether a call is refused, judged in the order of the refusal table. Nothing is changed.
+// Whether a call of the ledger is refused, judged in the order of the refusal table. Nothing is changed.
 use changes::desks::is_closed;
 use changes::rows::has_key;
 use refusals::Refusal;
@@ -9,7 +9,7 @@ use sheet::right::is_sheet;
 use sheet::right::rows_used;
 ghost use mathlib.Core.Path.{_≡_};
 ghost use Rattle.sheet.specs.Words.{answerWords};
-ghost use Rattle.ledger.specs.Verdicts.{enrolRows, findRows, openRows, deskRows, reportRows, verdictWords};
+ghost use Rattle.verdicts.specs.Verdicts.{enrolRows, findRows, openRows, deskRows, reportRows, verdictWords};
 
 pub fn enrol_verdict(s: &[u8], key: u64) -> Answer
     ensures { λ r. ⌜ answerWords r ≡ verdictWords (enrolRows key (now (s .entry))) ⌝ }

@@ -3,10 +3,10 @@ use borrow.Author.Tests.{eq-eqb, ne-eqb}
 use Rattle.octets.proofs.Laws.{failed, passed}
 use Rattle.refusals.specs.Judge.{verdict}
 use Rattle.sheet.proofs.Clauses.{sized}
-use Rattle.ledger.specs.Verdicts.{verdictWords}
+use Rattle.verdicts.specs.Verdicts.{verdictWords}
 use borrow.Author.Needs.{needs}
-use Rattle.ledger.proofs.verdicts.enrol_verdict.Statement.{statement}
-use Rattle.ledger.proofs.verdicts.enrol_verdict.Tie as tie
+use Rattle.verdicts.proofs.enrol_verdict.Statement.{statement}
+use Rattle.verdicts.proofs.enrol_verdict.Tie as tie
 
 is-sheet-requires : tie.Need-is-sheet-requires
 is-sheet-requires c κs = search needs

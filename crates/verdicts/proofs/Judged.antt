@@ -17,7 +17,7 @@ use Rattle.sheet.specs.Words.{answerWords}
 use Rattle.sheet.specs.declared.Answer.{Answer}
 use Rattle.sheet.specs.declared.Answer.the-variants as A
 use Rattle.sheet.proofs.Clauses.{sized, open-row}
-use Rattle.ledger.specs.Verdicts.{enrolRows, findRows, openRows, deskRows, reportRows, verdictWords}
+use Rattle.verdicts.specs.Verdicts.{enrolRows, findRows, openRows, deskRows, reportRows, verdictWords}
 
 -- the number that a verdict gives, or 0
 module _ (rows : List Row) {v : Answer} (e : answerWords v ≡ verdictWords rows) where

@@ -1,0 +1,2 @@
+-- What the contracts of `verdicts` cite.
+pub mod Verdicts
