@@ -1,7 +1,7 @@
 -- Laws of the definitions of `specs/Octets.antt`, each stated once, over the width or the index.
 -- Assumes nothing.
 use Prim.Native.Nat.{ℕ, zero, suc, _+_, _*_, _/_, _%_, _^_, _-_, _<_, _≤_}
-use native.Mathlib.Nat.{pow-suc, pow-le-pow-right, not-suc-le-zero, le-of-suc-le-suc, eq-or-lt-of-le, lt-of-lt-of-le, le-add-right, le-refl, add-zero, add-suc}
+use native.Mathlib.Nat.{pow-suc, pow-le-pow-right, not-suc-le-zero, le-of-suc-le-suc, eq-or-lt-of-le, lt-of-lt-of-le, le-add-right, le-refl, add-zero, add-suc, mul-assoc}
 use native.Mathlib.Numerals.{add-one}
 use native.Mathlib.Omega.{arith}
 use mathlib.Core.Bool.{Bool, true, false, not, _&&_, false≢true}
@@ -40,6 +40,14 @@ number-none s a = refl
 pub number-more : (s : List ℕ) (a i : ℕ) → numberAt s a (i + 1) ≡ numberAt s a i * 256 + getD s (a + i) 0
 unfolding numberAt
 number-more s a i = rw add-one
+
+-- a number is the first m of its bytes, and the others
+pub number-join : (s : List ℕ) (a m n : ℕ) → numberAt s a (m + n) ≡ numberAt s a m * 256 ^ n + numberAt s (a + m) n
+unfolding numberAt
+number-join s a m zero = rw (add-zero m) (omega arith)
+number-join s a m (suc n) =
+    let e : a + (m + n) ≡ a + m + n = omega arith in
+    rw (add-suc, e, number-join s a m n, pow-suc, ← mul-assoc) (omega arith)
 
 pub length-bytesOf : (n v : ℕ) → length (bytesOf n v) ≡ n
 unfolding bytesOf

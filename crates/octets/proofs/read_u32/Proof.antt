@@ -5,14 +5,14 @@ use borrow.Author.Needs.{needs}
 use Rattle.octets.proofs.read_u32.Statement.{statement}
 use Rattle.octets.proofs.read_u32.Tie as tie
 
-read-be-requires : tie.Need-read-be-requires
-read-be-requires c κs = search needs
+read-bytes-requires : tie.Need-read-bytes-requires
+read-bytes-requires c κs = search needs
 
 cast-result : tie.Need-cast-result
-cast-result c = omega (arith, number-lt (c .before .before .args .s .now) (c .before .before .args .a) 4 (c .before .shared-slice-known .given), c .read-be .ensures)
+cast-result c = omega (arith, number-lt (c .before .before .args .s .now) (c .before .before .args .a) 4 (c .before .shared-slice-known .given), c .read-bytes .ensures)
 
 returns : tie.Need-returns
 returns c = search needs
 
 pub read-u32-spec : {M : Type 1} → statement M
-read-u32-spec = tie.close (tie.spec read-be-requires cast-result returns)
+read-u32-spec = tie.close (tie.spec read-bytes-requires cast-result returns)

@@ -1,0 +1,45 @@
+-- `octets::read_long` meets its contract: a number is its upper and its lower half. Assumes nothing.
+use mathlib.Core.Path.{sym}
+use Rattle.octets.proofs.Laws.{number-join}
+use borrow.Author.Needs.{needs}
+use Rattle.octets.proofs.read_long.Statement.{statement}
+use Rattle.octets.proofs.read_long.Tie as tie
+
+read-u32-requires : tie.Need-read-u32-requires
+read-u32-requires c κs = search needs
+
+add-read-u32 : tie.Need-add-read-u32
+add-read-u32 c = search needs
+
+read-u32-requires-2 : tie.Need-read-u32-requires-2
+read-u32-requires-2 c κs = search needs
+
+cast-result : tie.Need-cast-result
+cast-result c = search needs
+
+mul-result : tie.Need-mul-result
+mul-result c = search needs
+
+cast-result-2 : tie.Need-cast-result-2
+cast-result-2 c = search needs
+
+add-result : tie.Need-add-result
+add-result c = search needs
+
+returns : tie.Need-returns
+returns c =
+    let g = c .before .before .before .args in
+    rw (c .before .read-u32 .ensures, c .read-u322 .ensures) (sym (number-join (g .s .now) (g .a) 4 4))
+
+pub read-long-spec : {M : Type 1} → statement M
+read-long-spec =
+    tie.close
+    (tie.spec
+    read-u32-requires
+    add-read-u32
+    read-u32-requires-2
+    cast-result
+    mul-result
+    cast-result-2
+    add-result
+    returns)
