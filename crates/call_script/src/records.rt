@@ -21,7 +21,7 @@ use refusals::Refusal;
 use sfdu::Kind;
 use sfdu::Primary;
 use sfdu::Read;
-use sfdu::Write;
+use sfdu_write::Write;
 use stream::Cursor;
 use stream::Step;
 use stream::Stop;
@@ -197,7 +197,7 @@ pub fn write_one(
     out: &mut [u8],
     at: usize,
 ) -> usize {
-    let answer = sfdu::write_one(f.x, primary_of(f.y), a, b, slice);
+    let answer = sfdu_write::write_one(f.x, primary_of(f.y), a, b, slice);
     let said = written(out, at, answer);
     crc_of(out, said, slice)
 }

@@ -5,7 +5,7 @@ use mathlib.Core.Path.{_≡_, refl}
 use Prim.Native.Nat.{ℕ}
 use lib.ListN.{replicate}
 use Rattle.sfdu.specs.declared.Kind.the-variants.{Telemetry}
-use Rattle.sfdu.specs.Write.{recordBytes, headBytes, labelBytes, primaryBlock, block}
+use Rattle.sfdu_write.specs.Write.{recordBytes, headBytes, labelBytes, primaryBlock, block}
 use Rattle.sfdu.specs.Read.{kindOf, hasKind, recordLength, labelLength, lengthInRange, isBlock, blockType, blockLength, blockEnd, nests}
 use Rattle.octets.specs.Octets.{bytesOf, numberAt, sameAt, all}
 use Rattle.refusals.specs.Judge.{verdict}

@@ -9,11 +9,8 @@ use Rattle.sfdu.specs.declared.Kind.{Kind}
 use Rattle.sfdu.specs.declared.Primary.{Primary}
 use Rattle.sfdu.specs.declared.Read.{Read}
 use Rattle.sfdu.specs.declared.Read.the-variants.{Record, Refused}
-use Rattle.sfdu.specs.declared.Write.{Write}
-use Rattle.sfdu.specs.declared.Write.the-variants.{Written, Refused as WriteRefused}
 use Rattle.sfdu.specs.Nesting.{kindNumber}
 use Rattle.sfdu.specs.Read.{wordsOf, primaryWords}
-use Rattle.sfdu.specs.Write.{wordsOf as writeWordsOf}
 use Rattle.sfdu.proofs.Accepted.{same-kind}
 
 pub same-primary : (p q : Primary) → primaryWords p ≡ primaryWords q → p ≡ q
@@ -35,9 +32,3 @@ same-read (Record k n p) (Record l m q) e =
 same-read (Record k n p) (Refused r) e = let z : _≡_ {A = ℕ} 0 1 = cc in absurd (omega arith)
 same-read (Refused r) (Record k n p) e = let z : _≡_ {A = ℕ} 0 1 = cc in absurd (omega arith)
 same-read (Refused r) (Refused s) e = let n : numberOf r ≡ numberOf s = cc in ap Refused (number-injective r s n)
-
-pub same-write : (a b : Write) → writeWordsOf a ≡ writeWordsOf b → a ≡ b
-same-write (Written n) (Written m) e = cc
-same-write (Written n) (WriteRefused r) e = let z : _≡_ {A = ℕ} 0 1 = cc in absurd (omega arith)
-same-write (WriteRefused r) (Written m) e = let z : _≡_ {A = ℕ} 0 1 = cc in absurd (omega arith)
-same-write (WriteRefused r) (WriteRefused s) e = let n : numberOf r ≡ numberOf s = cc in ap WriteRefused (number-injective r s n)

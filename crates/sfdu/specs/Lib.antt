@@ -1,4 +1,2 @@
 pub mod Nesting
 pub mod Read
-pub mod Write
-pub mod RoundTrip

@@ -7,7 +7,7 @@ use lib.ListN.{getD}
 use Rattle.refusals.specs.Judge.{verdict}
 use Rattle.octets.specs.Octets.{numberAt, bytesOf, part, put, all, sameAt}
 use Rattle.sfdu.specs.Read.{hasKind, kindOf, labelLength, recordLength, blockType, blockLength, blockEnd, lengthInRange, isBlock, nests, accepts, readOne, dataPart}
-use Rattle.sfdu.specs.Write.{labelBytes, block, primaryBlock, headBytes, recordBytes}
+use Rattle.sfdu_write.specs.Write.{labelBytes, block, primaryBlock, headBytes, recordBytes}
 use Rattle.headers.specs.Words.{Word, number}
 use Rattle.headers.specs.Fields.{signedByte, recordNumber}
 use Rattle.headers.specs.Date.{isYear, isDay}

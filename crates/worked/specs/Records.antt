@@ -7,7 +7,7 @@ use Rattle.sfdu.specs.declared.Kind.{Kind}
 use Rattle.sfdu.specs.declared.Kind.the-variants.{Telemetry, Rsr}
 use Rattle.sfdu.specs.declared.Primary.{Primary}
 use Rattle.sfdu.specs.Nesting.{lengthAt, lengthSize, secondaryLength}
-use Rattle.sfdu.specs.Write.{recordBytes}
+use Rattle.sfdu_write.specs.Write.{recordBytes}
 
 -- The primary value of an RSR record; telemetry's is not judged.
 abbrev pub primary : Primary

@@ -1,0 +1,5 @@
+pub mod Written
+pub mod Again
+pub mod Back
+pub mod RoundTrip
+pub mod Words

@@ -1,0 +1,32 @@
+-- `sfdu_write::copy_at` meets its contract. Assumes nothing.
+use native.Mathlib.Omega.{arith}
+use mathlib.Core.Path.{refl}
+use Rattle.octets.proofs.Puts.{copied-in}
+use borrow.Author.Needs.{needs}
+use Rattle.sfdu_write.proofs.copy_at.Statement.{statement}
+use Rattle.sfdu_write.proofs.copy_at.Tie as tie
+use Rattle.sfdu_write.proofs.copy_at.Reads as reads
+use Rattle.sfdu_write.proofs.copy_at.Lts as lts
+use Rattle.bytes.proofs.copy.Reads as copy-reads
+
+sub-copy : tie.Need-sub-copy
+sub-copy c = search needs
+
+part-copy-start : tie.Need-part-copy-start
+part-copy-start c = search needs
+
+part-copy-end : tie.Need-part-copy-end
+part-copy-end c = search needs
+
+copy-requires : tie.Need-copy-requires
+copy-requires c κs = search needs
+
+same-length : tie.Need-same-length
+same-length c = search needs
+
+returns : tie.Need-returns
+returns c = copied-in _ _ _ _ refl (omega arith) (c .before .before .copy .ensures .1)
+
+pub copy-at-spec : {M : Type 1} → statement M
+copy-at-spec =
+    tie.close (tie.spec sub-copy part-copy-start part-copy-end copy-requires same-length returns)

@@ -1,0 +1,66 @@
+-- `sfdu_write::write_kind` meets its contract. Assumes nothing.
+use Prim.Native.Nat.{_≤_, _<_}
+use native.Mathlib.Omega.{arith}
+use mathlib.Core.Path.{sym}
+use lib.ListN.{length}
+use Rattle.octets.proofs.Laws.{failed, passed}
+use Rattle.sfdu_write.specs.Write.{sizeOf}
+use Rattle.sfdu.proofs.Placed.{placed}
+use Rattle.sfdu_write.proofs.Written.{lengths, input-refused, space-refused, written}
+use borrow.Author.Needs.{needs}
+use Rattle.sfdu_write.proofs.write_kind.Statement.{statement}
+use Rattle.sfdu_write.proofs.write_kind.Tie as tie
+use Rattle.sfdu_write.proofs.write_kind.Reads as reads
+use Rattle.sfdu_write.proofs.write_kind.Lts as lts
+use Rattle.sfdu.proofs.data_value_at.Reads as data-value-at-reads
+use Rattle.sfdu_write.proofs.is_input.Reads as is-input-reads
+use Rattle.sfdu_write.proofs.write_record.Reads as write-record-reads
+
+is-input-requires : tie.Need-is-input-requires
+is-input-requires c κs = search needs
+
+returns : tie.Need-returns
+returns c = let g = c .before .before .before .before .before .args in sym (input-refused (g .kind) (g .primary) (g .secondary .now) (g .value .now) (g .out .now) (failed (c .before .is-input .ensures) (c .if1 .taken)))
+
+data-value-at-requires : tie.Need-data-value-at-requires
+data-value-at-requires c κs = search needs
+
+add-size : tie.Need-add-size
+add-size c =
+    let k = placed (c .before .before .before .before .before .before .args .kind) in
+    let l = lengths _ _ _ (passed (c .before .before .is-input .ensures) (c .before .if1 .left)) in
+    omega (arith, c .data-value-at .ensures)
+
+returns-2 : tie.Need-returns-2
+returns-2 c =
+    let g = c .before .before .before .before .before .before .before .args in
+    let l : length (g .out .now) < sizeOf (g .kind) (g .value .now) = omega (arith, c .before .data-value-at .ensures, c .if2 .taken) in
+    sym (space-refused (g .kind) (g .primary) (g .secondary .now) (g .value .now) (g .out .now) (passed (c .before .before .before .is-input .ensures) (c .before .before .if1 .left)) l)
+
+write-record-requires : tie.Need-write-record-requires
+write-record-requires c κs =
+    let l = lengths _ _ _ (passed (c .before .before .before .before .is-input .ensures) (c .before .before .before .if1 .left)) in
+    (l .0, l .1, omega (arith, c .before .before .data-value-at .ensures, c .before .if2 .left))
+
+same-length : tie.Need-same-length
+same-length c = search needs
+
+returns-3 : tie.Need-returns-3
+returns-3 c =
+    let g = c .before .before .before .before .before .before .before .before .before .before .before .args in
+    let l : sizeOf (g .kind) (g .value .now) ≤ length (g .out .now) = omega (arith, c .before .before .before .before .before .data-value-at .ensures, c .before .before .before .before .if2 .left) in
+    rw (c .before .before .before .before .before .data-value-at .ensures, c .before .before .write-record .ensures)
+    (sym (written (g .kind) (g .primary) (g .secondary .now) (g .value .now) (g .out .now) (passed (c .before .before .before .before .before .before .before .is-input .ensures) (c .before .before .before .before .before .before .if1 .left)) l))
+
+pub write-kind-spec : {M : Type 1} → statement M
+write-kind-spec =
+    tie.close
+    (tie.spec
+    is-input-requires
+    returns
+    data-value-at-requires
+    add-size
+    returns-2
+    write-record-requires
+    same-length
+    returns-3)

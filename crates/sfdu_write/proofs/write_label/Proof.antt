@@ -1,0 +1,68 @@
+-- `sfdu_write::write_label` meets its contract. Each piece is put behind the one before. Assumes nothing.
+use native.Mathlib.Omega.{arith}
+use Prim.Native.Nat.{_-_}
+use mathlib.Core.List.{_++_}
+use mathlib.Core.Path.{refl}
+use lib.ListN.{length-append}
+use Rattle.octets.specs.Octets.{bytesOf}
+use Rattle.octets.proofs.Laws.{length-bytesOf}
+use Rattle.octets.proofs.Puts.{put-next}
+use Rattle.sfdu.specs.Nesting.{authority, control, kindBytes, labelSize, lengthSize}
+use Rattle.sfdu_write.specs.Write.{labelBytes}
+use Rattle.sfdu_write.proofs.Written.{length-kind}
+use borrow.Author.Needs.{needs}
+use Rattle.sfdu_write.proofs.write_label.Statement.{statement}
+use Rattle.sfdu_write.proofs.write_label.Tie as tie
+use Rattle.sfdu_write.proofs.write_label.Reads as reads
+use Rattle.sfdu_write.proofs.write_label.Lts as lts
+use Rattle.octets.proofs.write_be.Reads as write-be-reads
+use Rattle.sfdu_write.proofs.copy_at.Reads as copy-at-reads
+use Rattle.sfdu_write.proofs.write_tag.Reads as write-tag-reads
+
+slice-aggregate-copy-at : tie.Need-slice-aggregate-copy-at
+slice-aggregate-copy-at c = search needs
+
+copy-at-requires : tie.Need-copy-at-requires
+copy-at-requires c κs = search needs
+
+slice-aggregate-copy-at-2 : tie.Need-slice-aggregate-copy-at-2
+slice-aggregate-copy-at-2 c = search needs
+
+copy-at-requires-2 : tie.Need-copy-at-requires-2
+copy-at-requires-2 c κs = search needs
+
+write-tag-requires : tie.Need-write-tag-requires
+write-tag-requires c κs = search needs
+
+sub-write-be : tie.Need-sub-write-be
+sub-write-be c = search needs
+
+write-be-requires : tie.Need-write-be-requires
+write-be-requires c κs = search needs
+
+same-length : tie.Need-same-length
+same-length c = search needs
+
+returns : tie.Need-returns
+unfolding labelBytes
+returns c =
+    let g = c .before .before .before .before .before .before .before .before .before .before .before .before .before .before .before .before .before .before .before .args in
+    let k = length-kind (g .kind) in
+    let l = length-bytesOf lengthSize (g .size - labelSize) in
+    let one = put-next (g .out .now) 0 authority _ control (c .before .before .before .before .before .before .before .before .before .before .before .before .before .before .before .copy-at .ensures) (c .before .before .before .before .before .before .before .before .before .before .copy-at2 .ensures) refl (omega arith) in
+    let two = put-next (g .out .now) 0 (authority ++ control) _ (kindBytes (g .kind)) one (c .before .before .before .before .before .before .write-tag .ensures) refl (omega arith) in
+    put-next (g .out .now) 0 (authority ++ control ++ kindBytes (g .kind)) _ (bytesOf lengthSize (g .size - labelSize)) two (c .before .before .write-be .ensures) (simp (length-append, length-kind) refl) (omega arith)
+
+pub write-label-spec : {M : Type 1} → statement M
+write-label-spec =
+    tie.close
+    (tie.spec
+    slice-aggregate-copy-at
+    copy-at-requires
+    slice-aggregate-copy-at-2
+    copy-at-requires-2
+    write-tag-requires
+    sub-write-be
+    write-be-requires
+    same-length
+    returns)

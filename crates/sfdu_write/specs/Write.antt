@@ -1,0 +1,83 @@
+-- Document 01, "Calls on records": write one, and refusals 14 and 13. Assumes nothing.
+use Prim.Native.Nat.{ℕ, _+_, _-_}
+use mathlib.Core.Bool.{Bool, not, cond, _&&_, _||_}
+use mathlib.Core.List.{List, [], _∷_, _++_}
+use lib.ListN.{length, drop}
+use lib.Dec.{eqb, leb, ltb}
+use Rattle.refusals.specs.Judge.{Row, _when_, judge}
+use Rattle.refusals.specs.Table.{numberOf}
+use Rattle.octets.specs.Octets.{bytesOf}
+use Rattle.sfdu.specs.declared.Kind.{Kind}
+use Rattle.sfdu.specs.declared.Kind.the-variants.{Telemetry, Rsr}
+use Rattle.sfdu.specs.declared.Primary.{Primary}
+use Rattle.sfdu_write.specs.declared.Write.{Write}
+use Rattle.sfdu_write.specs.declared.Write.the-variants.{Written, Refused}
+use Rattle.sfdu.specs.Nesting.{
+  kindNumber,
+  authority,
+  control,
+  kindBytes,
+  lengthSize,
+  labelSize,
+  wordSize,
+  dataValueAt,
+  aggregationLength,
+  primaryLength,
+  secondaryLength,
+  aggregationType,
+  primaryType,
+  secondaryType,
+  dataType,
+  mostData,
+}
+use Rattle.sfdu.specs.Read.{primaryWords}
+
+-- Write one: 0 and N, or the refusal's number.
+abbrev pub wordsOf : Write → List ℕ
+wordsOf (Written n) = 0 ∷ n ∷ []
+wordsOf (Refused r) = numberOf r ∷ []
+
+-- ---- the bytes of a record
+
+unfoldable pub labelBytes : Kind → (n : ℕ) → List ℕ
+labelBytes k n = authority ++ control ++ kindBytes k ++ bytesOf lengthSize (n - labelSize)
+
+unfoldable pub block : (type : ℕ) → (size : ℕ) → List ℕ
+block type size = bytesOf wordSize type ++ bytesOf wordSize size
+
+unfoldable pub primaryBlock : Primary → List ℕ
+primaryBlock p = block primaryType primaryLength ++ primaryWords p
+
+-- The bytes before the secondary value.
+unfoldable pub headBytes : Kind → Primary → (n : ℕ) → List ℕ
+headBytes k p n =
+    labelBytes k n ++ block aggregationType (aggregationLength k) ++ primaryBlock p ++ block (secondaryType k) (secondaryLength k)
+
+unfoldable pub recordBytes : Kind → Primary → (secondary value : List ℕ) → List ℕ
+recordBytes k p secondary value =
+    headBytes k p (dataValueAt k + length value) ++ secondary ++ block dataType (length value) ++ value
+
+-- ---- the call
+
+-- The kind that a number names.
+unfoldable pub isKind : ℕ → Bool
+isKind number = eqb number (kindNumber Telemetry) || eqb number (kindNumber Rsr)
+
+unfoldable pub kindNamed : ℕ → Kind
+kindNamed number = cond (eqb number (kindNumber Telemetry)) Telemetry Rsr
+
+-- The secondary bytes are as many as the kind asks, and the data's fit 16 bits.
+unfoldable pub isInput : Kind → (secondary value : List ℕ) → Bool
+isInput k secondary value = eqb (length secondary) (secondaryLength k) && leb (length value) mostData
+
+-- N
+abbrev pub sizeOf : Kind → (value : List ℕ) → ℕ
+sizeOf k value = dataValueAt k + length value
+
+-- The answer and what the lent slice holds after it: the record and then what stood there; a refusal leaves the slice whole.
+unfoldable pub writeOne : (number : ℕ) → Primary → (secondary value out : List ℕ) → List ℕ × List ℕ
+writeOne number p secondary value out =
+    let k = kindNamed number in
+    judge (λ n. (n ∷ [], out))
+    ((14 when not (isKind number && isInput k secondary value)) ∷ (13 when ltb (length out) (sizeOf k value)) ∷ [])
+    (0 ∷ sizeOf k value ∷ [], recordBytes k p secondary value ++ drop (sizeOf k value) out)

@@ -1,0 +1,166 @@
+// Write one: a record from its kind, its primary value and the bytes of its secondary and data values. It judges no field.
+ghost use mathlib.Core.Path.{_≡_};
+ghost use Prim.Native.Nat.{_+_, _≤_};
+ghost use lib.ListN.{length};
+ghost use Rattle.octets.specs.Octets.{put};
+ghost use Rattle.sfdu.specs.Nesting.{kindNumber, labelSize, kindAt, kindBytes, primaryAt, secondaryValueAt, dataValueAt, blockLabelSize, secondaryLength, mostData};
+ghost use Rattle.sfdu_write.specs.Write.{wordsOf, writeOne, isInput, recordBytes, headBytes, labelBytes, primaryBlock, block};
+use octets::write_be;
+use refusals::Refusal;
+use sfdu::AGGREGATION_AT;
+use sfdu::AGGREGATION_TYPE;
+use sfdu::AUTHORITY;
+use sfdu::AUTHORITY_AT;
+use sfdu::CONTROL;
+use sfdu::CONTROL_AT;
+use sfdu::DATA_TYPE;
+use sfdu::KIND_AT;
+use sfdu::Kind;
+use sfdu::LABEL;
+use sfdu::LENGTH;
+use sfdu::LENGTH_AT;
+use sfdu::MOST_DATA;
+use sfdu::PRIMARY_AT;
+use sfdu::PRIMARY_LENGTH;
+use sfdu::PRIMARY_TYPE;
+use sfdu::PRIMARY_VALUE_AT;
+use sfdu::Primary;
+use sfdu::RSR;
+use sfdu::RSR_NUMBER;
+use sfdu::SECONDARY_AT;
+use sfdu::SECONDARY_VALUE_AT;
+use sfdu::TELEMETRY;
+use sfdu::TELEMETRY_NUMBER;
+use sfdu::WORD;
+use sfdu::aggregation_length;
+use sfdu::data_at;
+use sfdu::data_value_at;
+use sfdu::secondary_length;
+use sfdu::secondary_type;
+
+// What writing one record answers: its length in bytes.
+pub enum Write {
+    Written(usize),
+    Refused(Refusal),
+}
+
+// Writes a record at the start of `out` and answers its length; the rest of `out` stays, and all of it where it refuses.
+pub fn write_one(
+    kind: u32,
+    primary: Primary,
+    secondary: &[u8],
+    value: &[u8],
+    out: &mut [u8],
+) -> Write
+    ensures { λ r. ⌜ (wordsOf r, now (out .exit)) ≡ writeOne kind primary (now (secondary .entry)) (now (value .entry)) (now (out .entry)) ⌝ }
+{
+    if kind == TELEMETRY_NUMBER {
+        return write_kind(Kind::Telemetry, primary, secondary, value, out);
+    }
+    if kind == RSR_NUMBER {
+        return write_kind(Kind::Rsr, primary, secondary, value, out);
+    }
+    Write::Refused(Refusal::WriterInput)
+}
+
+// The same for one of the two kinds.
+fn write_kind(kind: Kind, primary: Primary, secondary: &[u8], value: &[u8], out: &mut [u8]) -> Write
+    ensures { λ r. ⌜ (wordsOf r, now (out .exit)) ≡ writeOne (kindNumber kind) primary (now (secondary .entry)) (now (value .entry)) (now (out .entry)) ⌝ }
+{
+    if !is_input(kind, secondary, value) {
+        return Write::Refused(Refusal::WriterInput);
+    }
+    let size = data_value_at(kind) + value.len();
+    if out.len() < size {
+        return Write::Refused(Refusal::WriterSpace);
+    }
+    write_record(kind, primary, secondary, value, out);
+    Write::Written(size)
+}
+
+// Whether the lengths are those that the kind asks for.
+fn is_input(kind: Kind, secondary: &[u8], value: &[u8]) -> bool
+    ensures { λ r. ⌜ r ≡ isInput kind (now (secondary .entry)) (now (value .entry)) ⌝ }
+{
+    (secondary.len() == secondary_length(kind)) & (value.len() <= MOST_DATA)
+}
+
+fn write_record(kind: Kind, primary: Primary, secondary: &[u8], value: &[u8], out: &mut [u8])
+    requires { ⌜ (length (now secondary) ≡ secondaryLength kind) × (length (now value) ≤ mostData) × (dataValueAt kind + length (now value) ≤ length (now out)) ⌝ }
+    ensures { λ _. ⌜ now (out .exit) ≡ put (now (out .entry)) 0 (recordBytes kind primary (now (secondary .entry)) (now (value .entry))) ⌝ }
+{
+    let at = data_value_at(kind);
+    write_head(kind, primary, at + value.len(), out);
+    copy_at(secondary, out, SECONDARY_VALUE_AT);
+    write_block(out, data_at(kind), DATA_TYPE, value.len() as u64);
+    copy_at(value, out, at);
+}
+
+// All that stands before the secondary value, of a record that is `size` bytes long.
+fn write_head(kind: Kind, primary: Primary, size: usize, out: &mut [u8])
+    requires { ⌜ (labelSize ≤ size) × (secondaryValueAt ≤ length (now out)) ⌝ }
+    ensures { λ _. ⌜ now (out .exit) ≡ put (now (out .entry)) 0 (headBytes kind primary size) ⌝ }
+{
+    write_label(kind, size, out);
+    write_block(
+        out,
+        AGGREGATION_AT,
+        AGGREGATION_TYPE,
+        aggregation_length(kind),
+    );
+    write_primary(primary, out);
+    write_block(
+        out,
+        SECONDARY_AT,
+        secondary_type(kind),
+        secondary_length(kind) as u64,
+    );
+}
+
+fn write_label(kind: Kind, size: usize, out: &mut [u8])
+    requires { ⌜ (labelSize ≤ size) × (labelSize ≤ length (now out)) ⌝ }
+    ensures { λ _. ⌜ now (out .exit) ≡ put (now (out .entry)) 0 (labelBytes kind size) ⌝ }
+{
+    copy_at(&AUTHORITY, out, AUTHORITY_AT);
+    copy_at(&CONTROL, out, CONTROL_AT);
+    write_tag(kind, out);
+    write_be(out, LENGTH_AT, LENGTH, (size - LABEL) as u64);
+}
+
+fn write_tag(kind: Kind, out: &mut [u8])
+    requires { ⌜ labelSize ≤ length (now out) ⌝ }
+    ensures { λ _. ⌜ now (out .exit) ≡ put (now (out .entry)) kindAt (kindBytes kind) ⌝ }
+{
+    match kind {
+        Kind::Telemetry => copy_at(&TELEMETRY, out, KIND_AT),
+        Kind::Rsr => copy_at(&RSR, out, KIND_AT),
+    }
+}
+
+// The primary block, label and value.
+fn write_primary(p: Primary, out: &mut [u8])
+    requires { ⌜ secondaryValueAt ≤ length (now out) ⌝ }
+    ensures { λ _. ⌜ now (out .exit) ≡ put (now (out .entry)) primaryAt (primaryBlock p) ⌝ }
+{
+    write_block(out, PRIMARY_AT, PRIMARY_TYPE, PRIMARY_LENGTH);
+    out[PRIMARY_VALUE_AT] = p.major;
+    out[PRIMARY_VALUE_AT + 1] = p.minor;
+    out[PRIMARY_VALUE_AT + 2] = p.mission;
+    out[PRIMARY_VALUE_AT + 3] = p.format;
+}
+
+// The label of a block: its type and its length.
+fn write_block(out: &mut [u8], at: usize, class: u64, size: u64)
+    requires { ⌜ at + blockLabelSize ≤ length (now out) ⌝ }
+    ensures { λ _. ⌜ now (out .exit) ≡ put (now (out .entry)) at (block class size) ⌝ }
+{
+    write_be(out, at, WORD, class);
+    write_be(out, at + WORD, WORD, size);
+}
+
+fn copy_at(source: &[u8], out: &mut [u8], at: usize)
+    requires { ⌜ at + length (now source) ≤ length (now out) ⌝ }
+    ensures { λ _. ⌜ now (out .exit) ≡ put (now (out .entry)) at (now (source .entry)) ⌝ }
+{
+    bytes::copy(source, &mut out[at..]);
+}
