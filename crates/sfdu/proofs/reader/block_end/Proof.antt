@@ -15,7 +15,7 @@ add-result-2 c = search needs
 
 returns : tie.Need-returns
 unfolding blockEnd
-returns c = cc
+returns c = rw (c .block-length .ensures .0)
 
 pub block-end-spec : {M : Type 1} → statement M
 block-end-spec = tie.close (tie.spec add-result block-length-requires add-result-2 returns)

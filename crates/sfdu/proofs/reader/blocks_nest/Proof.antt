@@ -28,7 +28,7 @@ block-end-requires-4 c κs = let k = placed (c .before .before .before .before .
 
 returns : tie.Need-returns
 unfolding nests
-returns c = cc
+returns c = rw (c .before .before .before .before .block-end .ensures, c .before .before .before .block-end2 .ensures, c .before .before .block-end3 .ensures, c .block-end4 .ensures, c .before .data-at .ensures, c .before .before .before .before .before .before .pre .0)
 
 pub blocks-nest-spec : {M : Type 1} → statement M
 blocks-nest-spec =

@@ -12,7 +12,7 @@ is-block-requires : tie.Need-is-block-requires
 is-block-requires c κs = let k = placed (c .before .before .args .kind) in omega arith
 
 returns : tie.Need-returns
-returns c = cc
+returns c = rw (c .before .aggregation-length .ensures) at (c .is-block .ensures)
 
 pub has-aggregation-spec : {M : Type 1} → statement M
 has-aggregation-spec = tie.close (tie.spec aggregation-length-requires is-block-requires returns)

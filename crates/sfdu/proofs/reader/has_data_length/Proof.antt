@@ -18,7 +18,7 @@ block-length-requires : tie.Need-block-length-requires
 block-length-requires c κs = let k = placed (c .before .before .before .args .kind) in omega arith
 
 returns : tie.Need-returns
-returns c = cc
+returns c = rw (c .block-length .ensures .0, c .before .data-at .ensures, c .before .before .data-value-at .ensures, c .before .before .before .before .pre .0)
 
 pub has-data-length-spec : {M : Type 1} → statement M
 has-data-length-spec =

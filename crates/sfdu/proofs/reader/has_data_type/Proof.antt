@@ -15,7 +15,7 @@ read-be-requires c κs = let k = placed (c .before .before .args .kind) in (lit�
 
 returns : tie.Need-returns
 unfolding blockType
-returns c = cc
+returns c = rw (c .read-be .ensures, c .before .data-at .ensures)
 
 pub has-data-type-spec : {M : Type 1} → statement M
 has-data-type-spec = tie.close (tie.spec data-at-requires read-be-requires returns)

@@ -15,7 +15,7 @@ is-block-requires : tie.Need-is-block-requires
 is-block-requires c κs = let k = placed (c .before .before .before .args .kind) in omega arith
 
 returns : tie.Need-returns
-returns c = cc
+returns c = rw (c .before .before .secondary-type .ensures, c .before .secondary-length .ensures) at (c .is-block .ensures)
 
 pub has-secondary-spec : {M : Type 1} → statement M
 has-secondary-spec =

@@ -12,7 +12,7 @@ block-length-requires c κs = search needs
 
 returns : tie.Need-returns
 unfolding isBlock blockType
-returns c = cc
+returns c = rw (c .before .read-be .ensures, c .block-length .ensures .0)
 
 pub is-block-spec : {M : Type 1} → statement M
 is-block-spec = tie.close (tie.spec read-be-requires block-length-requires returns)

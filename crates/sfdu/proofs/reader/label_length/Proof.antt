@@ -9,7 +9,7 @@ read-be-requires c κs = search needs
 
 returns : tie.Need-returns
 unfolding labelLength
-returns c = cc
+returns c = c .read-be .ensures
 
 pub label-length-spec : {M : Type 1} → statement M
 label-length-spec = tie.close (tie.spec read-be-requires returns)
