@@ -1,6 +1,6 @@
 // Where the parts of a record stand. Document 01, "How a record nests".
 ghost use mathlib.Core.Path.{_≡_};
-ghost use Rattle.sfdu.specs.Nesting.{kindNumber, secondaryLength, secondaryType, dataAt, dataValueAt, aggregationLength, leastLabelLength};
+ghost use Rattle.sfdu.specs.Nesting.{kindNumber, kindBytes, secondaryLength, secondaryType, dataAt, dataValueAt, aggregationLength, leastLabelLength};
 use crate::Kind;
 
 // The numbers that name the kinds in calls and answers.
@@ -62,6 +62,16 @@ pub fn kind_number(kind: Kind) -> u32
     match kind {
         Kind::Telemetry => TELEMETRY_NUMBER,
         Kind::Rsr => RSR_NUMBER,
+    }
+}
+
+// What the label spells for the kind.
+pub fn kind_tag(kind: Kind) -> [u8; TAG]
+    ensures { λ r. ⌜ r ≡ kindBytes kind ⌝ }
+{
+    match kind {
+        Kind::Telemetry => TELEMETRY,
+        Kind::Rsr => RSR,
     }
 }
 

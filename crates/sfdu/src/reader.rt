@@ -31,15 +31,14 @@ use crate::nesting::PRIMARY_AT;
 use crate::nesting::PRIMARY_LENGTH;
 use crate::nesting::PRIMARY_TYPE;
 use crate::nesting::PRIMARY_VALUE_AT;
-use crate::nesting::RSR;
 use crate::nesting::SECONDARY_AT;
 use crate::nesting::SECONDARY_VALUE_AT;
 use crate::nesting::TAG;
-use crate::nesting::TELEMETRY;
 use crate::nesting::WORD;
 use crate::nesting::aggregation_length;
 use crate::nesting::data_at;
 use crate::nesting::data_value_at;
+use crate::nesting::kind_tag;
 use crate::nesting::least_label_length;
 use crate::nesting::secondary_length;
 use crate::nesting::secondary_type;
@@ -84,10 +83,7 @@ fn has_kind(s: &[u8], kind: Kind) -> bool
     requires { ⌜ labelSize ≤ length (now s) ⌝ }
     ensures { λ r. ⌜ r ≡ hasKind kind (now (s .entry)) ⌝ }
 {
-    match kind {
-        Kind::Telemetry => is_same(s, KIND_AT, &TELEMETRY, 0, TAG),
-        Kind::Rsr => is_same(s, KIND_AT, &RSR, 0, TAG),
-    }
+    is_same(s, KIND_AT, &kind_tag(kind), 0, TAG)
 }
 
 // Whether the kind is one of the two.

@@ -3,7 +3,7 @@ ghost use mathlib.Core.Path.{_≡_};
 ghost use Prim.Native.Nat.{_+_, _≤_};
 ghost use lib.ListN.{length};
 ghost use Rattle.octets.specs.Octets.{put};
-ghost use Rattle.sfdu.specs.Nesting.{kindNumber, labelSize, kindAt, kindBytes, primaryAt, secondaryValueAt, dataValueAt, blockLabelSize, secondaryLength, mostData};
+ghost use Rattle.sfdu.specs.Nesting.{kindNumber, labelSize, primaryAt, secondaryValueAt, dataValueAt, blockLabelSize, secondaryLength, mostData};
 ghost use Rattle.sfdu_write.specs.Write.{wordsOf, writeOne, isInput, recordBytes, headBytes, labelBytes, primaryBlock, block};
 use octets::write_be;
 use refusals::Refusal;
@@ -25,16 +25,15 @@ use sfdu::PRIMARY_LENGTH;
 use sfdu::PRIMARY_TYPE;
 use sfdu::PRIMARY_VALUE_AT;
 use sfdu::Primary;
-use sfdu::RSR;
 use sfdu::RSR_NUMBER;
 use sfdu::SECONDARY_AT;
 use sfdu::SECONDARY_VALUE_AT;
-use sfdu::TELEMETRY;
 use sfdu::TELEMETRY_NUMBER;
 use sfdu::WORD;
 use sfdu::aggregation_length;
 use sfdu::data_at;
 use sfdu::data_value_at;
+use sfdu::kind_tag;
 use sfdu::secondary_length;
 use sfdu::secondary_type;
 
@@ -123,18 +122,8 @@ fn write_label(kind: Kind, size: usize, out: &mut [u8])
 {
     copy_at(&AUTHORITY, out, AUTHORITY_AT);
     copy_at(&CONTROL, out, CONTROL_AT);
-    write_tag(kind, out);
+    copy_at(&kind_tag(kind), out, KIND_AT);
     write_be(out, LENGTH_AT, LENGTH, (size - LABEL) as u64);
-}
-
-fn write_tag(kind: Kind, out: &mut [u8])
-    requires { ⌜ labelSize ≤ length (now out) ⌝ }
-    ensures { λ _. ⌜ now (out .exit) ≡ put (now (out .entry)) kindAt (kindBytes kind) ⌝ }
-{
-    match kind {
-        Kind::Telemetry => copy_at(&TELEMETRY, out, KIND_AT),
-        Kind::Rsr => copy_at(&RSR, out, KIND_AT),
-    }
 }
 
 // The primary block, label and value.

@@ -9,7 +9,7 @@ secondary-length-requires c κs = search needs
 
 returns : tie.Need-returns
 unfolding isInput
-returns c = cc
+returns c = rw (c .secondary-length .ensures)
 
 pub is-input-spec : {M : Type 1} → statement M
 is-input-spec = tie.close (tie.spec secondary-length-requires returns)

@@ -16,8 +16,8 @@ use Rattle.sfdu_write.proofs.write_label.Tie as tie
 use Rattle.sfdu_write.proofs.write_label.Reads as reads
 use Rattle.sfdu_write.proofs.write_label.Lts as lts
 use Rattle.octets.proofs.write_be.Reads as write-be-reads
+use Rattle.sfdu.proofs.kind_tag.Reads as kind-tag-reads
 use Rattle.sfdu_write.proofs.copy_at.Reads as copy-at-reads
-use Rattle.sfdu_write.proofs.write_tag.Reads as write-tag-reads
 
 slice-aggregate-copy-at : tie.Need-slice-aggregate-copy-at
 slice-aggregate-copy-at c = search needs
@@ -31,8 +31,14 @@ slice-aggregate-copy-at-2 c = search needs
 copy-at-requires-2 : tie.Need-copy-at-requires-2
 copy-at-requires-2 c κs = search needs
 
-write-tag-requires : tie.Need-write-tag-requires
-write-tag-requires c κs = search needs
+kind-tag-requires : tie.Need-kind-tag-requires
+kind-tag-requires c κs = search needs
+
+slice-aggregate-copy-at-3 : tie.Need-slice-aggregate-copy-at-3
+slice-aggregate-copy-at-3 c = search needs
+
+copy-at-requires-3 : tie.Need-copy-at-requires-3
+copy-at-requires-3 c κs = search needs
 
 sub-write-be : tie.Need-sub-write-be
 sub-write-be c = search needs
@@ -46,11 +52,12 @@ same-length c = search needs
 returns : tie.Need-returns
 unfolding labelBytes
 returns c =
-    let g = c .before .before .before .before .before .before .before .before .before .before .before .before .before .before .before .before .before .before .before .args in
+    let g = c .before .before .before .before .before .before .before .before .before .before .before .before .before .before .before .before .before .before .before .before .before .args in
     let k = length-kind (g .kind) in
     let l = length-bytesOf lengthSize (g .size - labelSize) in
-    let one = put-next (g .out .now) 0 authority _ control (c .before .before .before .before .before .before .before .before .before .before .before .before .before .before .before .copy-at .ensures) (c .before .before .before .before .before .before .before .before .before .before .copy-at2 .ensures) refl (omega arith) in
-    let two = put-next (g .out .now) 0 (authority ++ control) _ (kindBytes (g .kind)) one (c .before .before .before .before .before .before .write-tag .ensures) refl (omega arith) in
+    let spelt = rw (c .before .before .before .before .before .before .before .before .before .kind-tag .ensures) at (c .before .before .before .before .before .before .copy-at3 .ensures) in
+    let one = put-next (g .out .now) 0 authority _ control (c .before .before .before .before .before .before .before .before .before .before .before .before .before .before .before .before .before .copy-at .ensures) (c .before .before .before .before .before .before .before .before .before .before .before .before .copy-at2 .ensures) refl (omega arith) in
+    let two = put-next (g .out .now) 0 (authority ++ control) _ (kindBytes (g .kind)) one spelt refl (omega arith) in
     put-next (g .out .now) 0 (authority ++ control ++ kindBytes (g .kind)) _ (bytesOf lengthSize (g .size - labelSize)) two (c .before .before .write-be .ensures) (simp (length-append, length-kind) refl) (omega arith)
 
 pub write-label-spec : {M : Type 1} → statement M
@@ -61,7 +68,9 @@ write-label-spec =
     copy-at-requires
     slice-aggregate-copy-at-2
     copy-at-requires-2
-    write-tag-requires
+    kind-tag-requires
+    slice-aggregate-copy-at-3
+    copy-at-requires-3
     sub-write-be
     write-be-requires
     same-length
