@@ -1,5 +1,10 @@
 -- `sfdu::reader::has_data_length` meets its contract. Assumes nothing.
+use Prim.Native.Nat.{ℕ, _-_}
 use native.Mathlib.Omega.{arith}
+use mathlib.Core.Path.{_≡_, ap}
+use lib.Dec.{eqb}
+use Rattle.sfdu.specs.Nesting.{dataAt, dataValueAt}
+use Rattle.sfdu.specs.Read.{recordLength, blockLength}
 use Rattle.sfdu.proofs.Placed.{placed}
 use borrow.Author.Needs.{needs}
 use Rattle.sfdu.proofs.reader.has_data_length.Statement.{statement}
@@ -18,7 +23,11 @@ block-length-requires : tie.Need-block-length-requires
 block-length-requires c κs = let k = placed (c .before .before .before .args .kind) in omega arith
 
 returns : tie.Need-returns
-returns c = rw (c .block-length .ensures .0, c .before .data-at .ensures, c .before .before .data-value-at .ensures, c .before .before .before .before .pre .0)
+returns c =
+    let g = c .before .before .before .before in
+    let s = g .args .s .now in
+    let rest : g .args .size - c .before .before .data-value-at .result ≡ recordLength s - dataValueAt (g .args .kind) = rw (g .pre .0, c .before .before .data-value-at .ensures) in
+    rw (c .block-length .ensures .0, c .before .data-at .ensures) (ap (λ (n : ℕ). eqb (blockLength s (dataAt (g .args .kind))) n) rest)
 
 pub has-data-length-spec : {M : Type 1} → statement M
 has-data-length-spec =

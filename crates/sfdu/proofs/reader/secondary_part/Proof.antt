@@ -1,5 +1,6 @@
 -- `sfdu::reader::secondary_part` meets its contract. Assumes nothing.
-use mathlib.Core.Path.{ap, sym, _∙_}
+use Prim.Native.Nat.{ℕ, _-_}
+use mathlib.Core.Path.{_≡_, ap, sym, _∙_}
 use native.Mathlib.Omega.{arith}
 use Rattle.refusals.specs.Table.{numberOf}
 use Rattle.octets.specs.Octets.{part}
@@ -7,8 +8,6 @@ use Rattle.sfdu.specs.Read.{wordsOf, primaryWords}
 use Rattle.sfdu.proofs.Placed.{placed}
 use Rattle.sfdu.proofs.Accepted.{found, words-refused}
 use Rattle.sfdu.proofs.Parts.{room, secondary-start, secondary-part, no-parts}
-use Prim.Native.Nat.{_-_}
-use mathlib.Core.Path.{_≡_}
 use Rattle.sfdu.specs.Nesting.{secondaryValueAt, secondaryLength}
 use borrow.Author.Needs.{needs}
 use Rattle.sfdu.proofs.reader.secondary_part.Statement.{statement}
@@ -74,7 +73,7 @@ returns c =
     let f = found s (g .0 .0) (g .0 .1 .0) (primaryWords (g .0 .1 .1 .0)) (sym (ap wordsOf (g .1)) ∙ c .before .before .before .before .before .read-one .ensures) in
     let p = placed (g .0 .0) in
     let n : c .before .data-at .result - secondaryValueAt ≡ secondaryLength (g .0 .0) = omega (arith, c .before .data-at .ensures) in
-    (rw (secondary-part s _ _ _ f, n), omega (arith, secondary-start s _ _ _ f))
+    (rw (secondary-part s _ _ _ f) (ap (λ (m : ℕ). part s secondaryValueAt m) n), omega (arith, secondary-start s _ _ _ f))
 
 returns-2 : tie.Need-returns-2
 returns-2 c =
