@@ -147,8 +147,14 @@ pub fn run() {
         let s = sample::telemetry_stream(records, length);
         compare(name, records as f64, &each, |i| (i.walk)(black_box(&s)));
     }
-    let (empty, full) = (fresh_sheet(), nights::full_sheet(&Rng::new(1)));
-    for (name, s) in [("is it a sheet: fresh", &empty), ("is it a sheet: 32 rows, 8 desks open", &full)] {
+    let full = nights::full_sheet(&Rng::new(1));
+    for (name, s) in [
+        ("is it a sheet: fresh", &fresh_sheet()),
+        ("is it a sheet: one row, one desk open", &one_row_sheet()),
+        ("is it a sheet: 16 rows", &nights::sheet_with(&Rng::new(1), 16, 0)),
+        ("is it a sheet: 32 rows", &nights::sheet_with(&Rng::new(1), 32, 0)),
+        ("is it a sheet: 32 rows, 8 desks open", &full),
+    ] {
         compare(name, 1.0, &each, |i| (i.is_sheet)(black_box(s)));
     }
     ledger_calls("a tick or untick: one row", &mut one_row_sheet(), &each);

@@ -298,7 +298,7 @@ pub fn full_sheet(rng: &Rng) -> Vec<u8> {
     sheet_with(rng, ROW_PLACES, 100)
 }
 
-fn sheet_with(rng: &Rng, used: usize, open_percent: u64) -> Vec<u8> {
+pub fn sheet_with(rng: &Rng, used: usize, open_percent: u64) -> Vec<u8> {
     let mut s = vec![0; SHEET];
     ledger::fresh(&mut s).expect("the length is right");
     while ledger::rows_used(&s) < used {
