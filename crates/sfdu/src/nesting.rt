@@ -17,13 +17,13 @@ pub const KIND_AT: usize = 8;
 
 pub const TAG: usize = 4;
 
-pub const AUTHORITY: [u8; 4] = *b"NJPL";
+pub const AUTHORITY: [u8; TAG] = *b"NJPL";
 
-pub const CONTROL: [u8; 4] = *b"2I00";
+pub const CONTROL: [u8; TAG] = *b"2I00";
 
-pub const TELEMETRY: [u8; 4] = *b"0800";
+pub const TELEMETRY: [u8; TAG] = *b"0800";
 
-pub const RSR: [u8; 4] = *b"C997";
+pub const RSR: [u8; TAG] = *b"C997";
 
 pub const LENGTH_AT: usize = 12;
 
@@ -56,6 +56,15 @@ pub const DATA_TYPE: u64 = 10;
 
 pub const MOST_DATA: usize = 65535;
 
+// The secondary block of each kind.
+const TELEMETRY_SECONDARY: usize = 80;
+
+const RSR_SECONDARY: usize = 220;
+
+const TELEMETRY_SECONDARY_TYPE: u64 = 78;
+
+const RSR_SECONDARY_TYPE: u64 = 104;
+
 pub fn kind_number(kind: Kind) -> u32
     ensures { λ r. ⌜ r ≡ kindNumber kind ⌝ }
 {
@@ -79,8 +88,8 @@ pub fn secondary_length(kind: Kind) -> usize
     ensures { λ r. ⌜ r ≡ secondaryLength kind ⌝ }
 {
     match kind {
-        Kind::Telemetry => 80,
-        Kind::Rsr => 220,
+        Kind::Telemetry => TELEMETRY_SECONDARY,
+        Kind::Rsr => RSR_SECONDARY,
     }
 }
 
@@ -88,8 +97,8 @@ pub fn secondary_type(kind: Kind) -> u64
     ensures { λ r. ⌜ r ≡ secondaryType kind ⌝ }
 {
     match kind {
-        Kind::Telemetry => 78,
-        Kind::Rsr => 104,
+        Kind::Telemetry => TELEMETRY_SECONDARY_TYPE,
+        Kind::Rsr => RSR_SECONDARY_TYPE,
     }
 }
 

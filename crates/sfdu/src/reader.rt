@@ -267,7 +267,7 @@ fn block_end(s: &[u8], at: usize) -> u64
 
 // The value of the secondary block, that very part of the slice; the empty part at its start where read one refuses.
 pub fn secondary_part(s: &[u8]) -> &[u8]
-    ensures { λ r. ⌜ (now r ≡ secondaryPart (now (s .entry))) × (ptr r .1 ≡ ptr (s .entry) .1 + secondaryStart (now (s .entry))) ⌝ }
+    ensures { λ r. ⌜ (now r ≡ secondaryPart (now (s .entry))) × (ptr r .0 ≡ ptr (s .entry) .0) × (ptr r .1 ≡ ptr (s .entry) .1 + secondaryStart (now (s .entry))) ⌝ }
 {
     let found = read_one(s);
     match found {
@@ -285,7 +285,7 @@ pub fn secondary_part(s: &[u8]) -> &[u8]
 
 // The value of the data block, that very part of the slice; the empty part at its start where read one refuses.
 pub fn data_part(s: &[u8]) -> &[u8]
-    ensures { λ r. ⌜ (now r ≡ dataPart (now (s .entry))) × (ptr r .1 ≡ ptr (s .entry) .1 + dataStart (now (s .entry))) ⌝ }
+    ensures { λ r. ⌜ (now r ≡ dataPart (now (s .entry))) × (ptr r .0 ≡ ptr (s .entry) .0) × (ptr r .1 ≡ ptr (s .entry) .1 + dataStart (now (s .entry))) ⌝ }
 {
     let found = read_one(s);
     match found {

@@ -1,5 +1,5 @@
 -- `sfdu::reader::data_part` meets its contract. Assumes nothing.
-use mathlib.Core.Path.{ap, sym, _∙_}
+use mathlib.Core.Path.{refl, ap, sym, _∙_}
 use native.Mathlib.Omega.{arith}
 use Rattle.refusals.specs.Table.{numberOf}
 use Rattle.octets.specs.Octets.{part}
@@ -62,14 +62,14 @@ returns c =
     let s = c .before .before .before .before .before .before .before .args .s .now in
     let g = c .before .before .before .found .given in
     let f = found s (g .0 .0) (g .0 .1 .0) (primaryWords (g .0 .1 .1 .0)) (sym (ap wordsOf (g .1)) ∙ c .before .before .before .before .before .read-one .ensures) in
-    (rw (data-part s _ _ _ f, c .before .data-value-at .ensures), omega (arith, data-start s _ _ _ f, c .before .data-value-at .ensures))
+    (rw (data-part s _ _ _ f, c .before .data-value-at .ensures), refl, omega (arith, data-start s _ _ _ f, c .before .data-value-at .ensures))
 
 returns-2 : tie.Need-returns-2
 returns-2 c =
     let s = c .before .before .before .before .before .args .s .now in
     let g = c .before .enum-told .given in
     let e = no-parts s (words-refused s (numberOf (g .0 .0)) (sym (c .before .before .before .read-one .ensures) ∙ ap wordsOf (g .1))) in
-    (sym (e .no-data), omega (arith, e .data-at))
+    (sym (e .no-data), refl, omega (arith, e .data-at))
 
 pub data-part-spec : {M : Type 1} → statement M
 data-part-spec =

@@ -1,6 +1,6 @@
 -- `sfdu::reader::secondary_part` meets its contract. Assumes nothing.
 use Prim.Native.Nat.{ℕ, _-_}
-use mathlib.Core.Path.{_≡_, ap, sym, _∙_}
+use mathlib.Core.Path.{_≡_, refl, ap, sym, _∙_}
 use native.Mathlib.Omega.{arith}
 use Rattle.refusals.specs.Table.{numberOf}
 use Rattle.octets.specs.Octets.{part}
@@ -73,14 +73,14 @@ returns c =
     let f = found s (g .0 .0) (g .0 .1 .0) (primaryWords (g .0 .1 .1 .0)) (sym (ap wordsOf (g .1)) ∙ c .before .before .before .before .before .read-one .ensures) in
     let p = placed (g .0 .0) in
     let n : c .before .data-at .result - secondaryValueAt ≡ secondaryLength (g .0 .0) = omega (arith, c .before .data-at .ensures) in
-    (rw (secondary-part s _ _ _ f) (ap (λ (m : ℕ). part s secondaryValueAt m) n), omega (arith, secondary-start s _ _ _ f))
+    (rw (secondary-part s _ _ _ f) (ap (λ (m : ℕ). part s secondaryValueAt m) n), refl, omega (arith, secondary-start s _ _ _ f))
 
 returns-2 : tie.Need-returns-2
 returns-2 c =
     let s = c .before .before .before .before .before .args .s .now in
     let g = c .before .enum-told .given in
     let e = no-parts s (words-refused s (numberOf (g .0 .0)) (sym (c .before .before .before .read-one .ensures) ∙ ap wordsOf (g .1))) in
-    (sym (e .no-secondary), omega (arith, e .secondary-at))
+    (sym (e .no-secondary), refl, omega (arith, e .secondary-at))
 
 pub secondary-part-spec : {M : Type 1} → statement M
 secondary-part-spec =
