@@ -1,5 +1,5 @@
--- What each call of the ledger does to the bytes of a sheet, and its answer, refusals too (document 01, "The ledger sheet").
--- An outcome is the answer's words, 0 and its values or the refusal's number, with the sheet as it is left.
+-- What each call of the ledger does to the bytes of a sheet, and its answer (document 01, "The ledger sheet"). An outcome is the
+-- answer's words, 0 and its values or the refusal's number, with the sheet as it is left.
 -- Assumes nothing.
 use Prim.Native.Nat.{ℕ, zero, suc, _+_, _-_}
 use mathlib.Core.Bool.{Bool, true, false, not, cond, Bool·beq}
@@ -37,10 +37,6 @@ headerBytes n =
 unfoldable pub freshSheet : List ℕ
 freshSheet = headerBytes 0 ++ replicate (sheetSize - rowsStart) 0
 
--- "The call that makes a fresh sheet judges only the slice's length (20)."
-unfoldable pub freshCall : List ℕ → Outcome
-freshCall s = judged ((20 when not (eqb (length s) sheetSize)) ∷ []) (done, freshSheet) s
-
 -- ---- enrol, find
 
 -- The lowest number below n of which p holds, or n where there is none.
@@ -64,26 +60,6 @@ hasKey s key = ltb (rowWith s key) (used s)
 unfoldable pub enrolAt : ℕ → (key first : ℕ) → List ℕ → List ℕ
 enrolAt i key first s = put (put s (rowAt i) (rowBytes key first blankTicks)) usedAt (bytesOf headerNumberSize (i + 1))
 
--- "Enrol (key, first): the next row, no ticks; answers the row."
-unfoldable pub enrolCall : (key first : ℕ) → List ℕ → Outcome
-enrolCall key first s =
-    judged
-    ((20 when not (right s))
-    ∷ (22 when not (validKey key))
-    ∷ (23 when hasKey s key)
-    ∷ (24 when eqb (used s) rowCount)
-    ∷ [])
-    (0 ∷ used s ∷ [], enrolAt (used s) key first s)
-    s
-
--- "Find (key): answers the row with it."
-unfoldable pub findCall : (key : ℕ) → List ℕ → Outcome
-findCall key s =
-    judged
-    ((20 when not (right s)) ∷ (22 when not (validKey key)) ∷ (25 when not (hasKey s key)) ∷ [])
-    (0 ∷ rowWith s key ∷ [], s)
-    s
-
 -- ---- open, drop
 
 -- An open desk: "1 if open, row, two zeros, the row as opened, the row as worked on".
@@ -94,27 +70,9 @@ openDesk row opened worked = 1 ∷ row ∷ 0 ∷ 0 ∷ opened ++ worked
 unfoldable pub openAt : (d row : ℕ) → List ℕ → List ℕ
 openAt d row s = put s (deskAt d) (openDesk row (part s (rowAt row) rowSize) (part s (rowAt row) rowSize))
 
-unfoldable pub openCall : (d row : ℕ) → List ℕ → Outcome
-openCall d row s =
-    judged
-    ((20 when not (right s))
-    ∷ (21 when not (ltb d deskCount))
-    ∷ (25 when not (ltb row (used s)))
-    ∷ (26 when not (isClosed s d))
-    ∷ [])
-    (done, openAt d row s)
-    s
-
 -- "The desk is cleared."
 unfoldable pub clearDesk : (d : ℕ) → List ℕ → List ℕ
 clearDesk d s = put s (deskAt d) (replicate deskSize 0)
-
-unfoldable pub dropCall : (d : ℕ) → List ℕ → Outcome
-dropCall d s =
-    judged
-    ((20 when not (right s)) ∷ (21 when not (ltb d deskCount)) ∷ (27 when isClosed s d) ∷ [])
-    (done, clearDesk d s)
-    s
 
 -- ---- tick, untick
 
@@ -146,20 +104,6 @@ markDesk on d n s =
     let outcome = markRow on n (workedCopy d s) in
     (outcome .0, put s (deskAt d + workedAt) (outcome .1))
 
--- "Tick, untick (desk, number): change one bit of the desk's worked copy." 28, 29 and 30 are judged there.
-unfoldable pub markCall : Bool → (d n : ℕ) → List ℕ → Outcome
-markCall on d n s =
-    judged
-    ((20 when not (right s)) ∷ (21 when not (ltb d deskCount)) ∷ (27 when isClosed s d) ∷ [])
-    (markDesk on d n s)
-    s
-
-abbrev pub tickCall : (d n : ℕ) → List ℕ → Outcome
-tickCall = markCall true
-
-abbrev pub untickCall : (d n : ℕ) → List ℕ → Outcome
-untickCall = markCall false
-
 -- ---- save
 
 -- "If the row equals the opened copy it becomes the worked copy, and the desk is cleared; else 31", which "clears that desk".
@@ -171,13 +115,6 @@ stored d s = put s (rowAt (deskRow s d)) (workedCopy d s)
 
 unfoldable pub saveAt : (d : ℕ) → List ℕ → Outcome
 saveAt d s = cond (isCurrent d s) (done, clearDesk d (stored d s)) (31 ∷ [], clearDesk d s)
-
-unfoldable pub saveCall : (d : ℕ) → List ℕ → Outcome
-saveCall d s =
-    judged
-    ((20 when not (right s)) ∷ (21 when not (ltb d deskCount)) ∷ (27 when isClosed s d) ∷ [])
-    (saveAt d s)
-    s
 
 -- ---- row report, first gap
 
@@ -195,9 +132,6 @@ unfoldable pub reportWords : List ℕ → ℕ → List ℕ
 reportWords s a =
     0 ∷ size (ticksOf s a) ∷ size (missing (ticksOf s a)) ∷ lowestWords s a (least (missing (ticksOf s a)))
 
-unfoldable pub reportCall : (row : ℕ) → List ℕ → Outcome
-reportCall row s = judged ((20 when not (right s)) ∷ (25 when not (ltb row (used s))) ∷ []) (reportWords s (rowAt row), s) s
-
 -- "First gap: scanning rows in order and positions in order, the first missing number and its row, or none."
 -- The gap in row i, at the position given, or where there is none the words of the rows after it.
 abbrev pub gapOr : List ℕ → ℕ → Option ℕ → List ℕ → List ℕ
@@ -208,6 +142,3 @@ gapOr s i (some at) rest = 0 ∷ numberAtPosition s (rowAt i) at ∷ i ∷ []
 unfoldable pub gapFrom : List ℕ → ℕ → ℕ → List ℕ
 gapFrom s i zero = 0 ∷ []
 gapFrom s i (suc n) = gapOr s i (least (missing (ticksOf s (rowAt i)))) (gapFrom s (suc i) n)
-
-unfoldable pub gapCall : List ℕ → Outcome
-gapCall s = judged ((20 when not (right s)) ∷ []) (gapFrom s 0 (used s), s) s

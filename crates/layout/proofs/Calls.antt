@@ -24,7 +24,8 @@ use Rattle.octets.specs.Octets.{bytesOf, part, put, sameAt}
 use Rattle.octets.proofs.Parts.{same-part, part-same}
 use Rattle.sheet.specs.Sheet.{sheetSize, rowSize, rowCount, openedAt, workedAt, deskCount, headerNumberSize, usedAt, rowAt, deskAt, used, isClosed, right}
 use Rattle.changes.specs.Rows.{rowBytes, blankTicks}
-use Rattle.changes.specs.Bytes.{Outcome, judged, rowWith, enrolAt, enrolCall, findCall, openDesk, openAt, openCall, clearDesk, dropCall, markDesk, markCall, isCurrent, stored, saveAt, saveCall, reportCall, gapCall}
+use Rattle.changes.specs.Bytes.{Outcome, judged, rowWith, enrolAt, openDesk, openAt, clearDesk, markDesk, isCurrent, stored, saveAt}
+use Rattle.verdicts.specs.Calls.{enrolCall, findCall, openCall, dropCall, markCall, saveCall, reportCall, gapCall}
 use Rattle.changes.specs.Bytes as Bytes
 use Rattle.changes.proofs.Puts.{put-same}
 use Rattle.changes.proofs.Calls.{refuses}

@@ -15,7 +15,8 @@ use Rattle.model.proofs.Outcome.{outcome}
 use Rattle.model.proofs.WellFormed.{well-formed}
 use Rattle.octets.proofs.Laws.{Bytes}
 use Rattle.sheet.specs.Sheet.{sheetSize, rowSize, rowCount, deskSize, deskCount, right}
-use Rattle.changes.specs.Bytes.{Outcome, judged, headerBytes, freshSheet, freshCall, enrolCall, findCall, openCall, dropCall, markCall, saveCall, reportCall, gapCall}
+use Rattle.changes.specs.Bytes.{Outcome, judged, headerBytes, freshSheet}
+use Rattle.verdicts.specs.Calls.{freshCall, enrolCall, findCall, openCall, dropCall, markCall, saveCall, reportCall, gapCall}
 use Rattle.layout.specs.Layout.{placeBytes, deskBytes, countUsed, laid, layout, bookOf, call, report, laidOut, onSheet, freshOn}
 use Rattle.layout.proofs.Chunks.{laid-zeros}
 use Rattle.layout.proofs.Right.{reads-back, layout-right}

@@ -10,7 +10,8 @@ use Rattle.model.specs.Step.{Call, Enrol, Find, Open, Mark, Save, Drop}
 use Rattle.model.specs.Counts.{rowReport, firstGap}
 use Rattle.octets.proofs.Laws.{Bytes}
 use Rattle.sheet.specs.Sheet.{rowAt, used, right}
-use Rattle.changes.specs.Bytes.{Outcome, done, rowWith, enrolAt, openAt, clearDesk, markDesk, saveAt, reportWords, enrolCall, findCall, openCall, markCall, saveCall, dropCall, reportCall, gapCall, gapFrom}
+use Rattle.changes.specs.Bytes.{Outcome, done, rowWith, enrolAt, openAt, clearDesk, markDesk, saveAt, reportWords, gapFrom}
+use Rattle.verdicts.specs.Calls.{enrolCall, findCall, openCall, markCall, saveCall, dropCall, reportCall, gapCall}
 use Rattle.changes.proofs.Calls.{refuses, passes, accepts}
 use Rattle.layout.specs.Layout.{call, report, onSheet}
 use Rattle.layout.proofs.Sheets.{call-law, report-law, gap-law}

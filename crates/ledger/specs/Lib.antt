@@ -1,2 +1,2 @@
--- What the contracts of `ledger` cite, and what demand 3 says of its calls.
+-- What demand 3 says of the ledger's calls.
 pub mod Demand3

@@ -1,3 +1,3 @@
--- What the contracts of `sheet` cite.
+-- What the contracts of `sheet` cite, and the words of the ledger's answers.
 pub mod Sheet
 pub mod Words

@@ -1,2 +1,3 @@
--- What the contracts of `verdicts` cite.
+-- What the contracts of `verdicts` cite, and each call on the bytes of a sheet, which the laws between bytes and model speak of.
 pub mod Verdicts
+pub mod Calls
