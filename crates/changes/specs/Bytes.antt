@@ -2,17 +2,16 @@
 -- answer's words, 0 and its values or the refusal's number, with the sheet as it is left.
 -- Assumes nothing.
 use Prim.Native.Nat.{ℕ, zero, suc, _+_, _-_}
-use mathlib.Core.Bool.{Bool, true, false, not, cond, Bool·beq}
+use mathlib.Core.Bool.{Bool, not, cond, Bool·beq}
 use mathlib.Core.List.{List, [], _∷_, _++_}
 use mathlib.Core.Option.{Option, none, some}
 use lib.Dec.{eqb, ltb}
-use lib.ListN.{length, replicate}
-use Rattle.keys.specs.Key.{validKey}
+use lib.ListN.{replicate}
 use Rattle.octets.specs.Octets.{bytesOf, part, put, sameAt}
 use Rattle.refusals.specs.Judge.{Row, _when_, verdict}
 use Rattle.model.specs.Positions.{position, numberAt, inRow, size, missing, least}
 use Rattle.model.specs.Step.{alreadySo}
-use Rattle.sheet.specs.Sheet.{sheetSize, rowSize, rowCount, rowsStart, openedAt, workedAt, deskSize, deskCount, desksStart, headerNumberSize, usedAt, rowAt, deskAt, used, keyAt, firstNumberAt, deskRow, isClosed, right}
+use Rattle.sheet.specs.Sheet.{sheetSize, rowSize, rowCount, rowsStart, openedAt, workedAt, deskSize, deskCount, desksStart, headerNumberSize, usedAt, rowAt, deskAt, used, keyAt, firstNumberAt, deskRow}
 use Rattle.changes.specs.Rows.{tickedAt, setTick, clearTick, ticksOf, rowBytes, blankTicks}
 
 abbrev pub Outcome : Type 0

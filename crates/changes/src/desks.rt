@@ -27,12 +27,11 @@ use sheet::SHEET;
 use sheet::USED_AT;
 use sheet::WORKED_AT;
 ghost use mathlib.Core.Path.{_≡_};
-ghost use mathlib.Core.Bool.{not};
 ghost use Prim.Native.Nat.{_+_, _≤_, _<_};
 ghost use lib.ListN.{length};
-ghost use Rattle.octets.specs.Octets.{part, put};
-ghost use Rattle.sheet.specs.Sheet.{sheetSize, rowsStart, rowSize, rowCount, deskSize, deskCount, rowAt, deskAt, deskRow, isClosed};
-ghost use Rattle.changes.specs.Bytes.{headerBytes, freshSheet, openDesk, openAt, clearDesk, isCurrent, stored, saveAt};
+ghost use Rattle.octets.specs.Octets.{put};
+ghost use Rattle.sheet.specs.Sheet.{sheetSize, rowsStart, rowCount, deskCount, deskRow, isClosed};
+ghost use Rattle.changes.specs.Bytes.{headerBytes, freshSheet, openAt, clearDesk, isCurrent, stored, saveAt};
 ghost use Rattle.sheet.specs.Words.{answerWords};
 
 // Makes a slice of a sheet's length a fresh sheet.

@@ -2,14 +2,14 @@
 use Prim.Native.Nat.{ℕ}
 use native.Mathlib.Omega.{arith}
 use mathlib.Core.Bool.{Bool, true, false, not}
-use mathlib.Core.List.{List, [], _∷_, _++_}
-use mathlib.Core.Path.{_≡_, refl, sym, _∙_}
+use mathlib.Core.List.{List, [], _∷_}
+use mathlib.Core.Path.{_≡_, refl}
 use borrow.Author.Tests.{eq-eqb, ne-eqb, eqb-false}
 use lib.Dec.{eqb}
 use Rattle.refusals.specs.Judge.{_when_, verdict}
 use Rattle.refusals.proofs.Judged.{verdict-first, verdict-append}
 use Rattle.sfdu.specs.Nesting.{kindNumber}
-use Rattle.sfdu.specs.Read.{kindOf, readRows, accepts, recordWords, readOne}
+use Rattle.sfdu.specs.Read.{kindOf, readRows, accepts, readOne}
 use Rattle.sfdu.proofs.Accepted.{none-holds, accepted-words}
 use Rattle.headers.specs.Words.{number}
 use Rattle.headers.specs.Headers.{judgedFields, readHeaders}

@@ -17,7 +17,7 @@ use Rattle.headers.specs.declared.RsrSignal.{RsrSignal}
 use Rattle.headers.specs.declared.RsrTime.{RsrTime}
 use Rattle.headers.specs.declared.Headers.{Headers}
 use Rattle.headers.specs.declared.Headers.the-variants.{Telemetry, Rsr, OutOfRange, Refused}
-use Rattle.headers.specs.Words.{Word, number, signed, none}
+use Rattle.headers.specs.Words.{Word, number}
 use Rattle.headers.specs.Headers.{bandWord, telemetryFieldWords, sourceWords, signalWords, timeWords, wordsOf}
 
 same-band : (a b : Band) → bandWord a ≡ bandWord b → a ≡ b

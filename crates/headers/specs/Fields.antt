@@ -1,9 +1,9 @@
 -- Document 01, "Telemetry secondary" and "RSR secondary": where the fields stand. Offsets count from the secondary block's start,
 -- as the paper gives them. s is a record. Assumes nothing.
 use Prim.Native.Nat.{ℕ, _+_, _*_, _%_}
-use mathlib.Core.Bool.{Bool, cond, _||_}
+use mathlib.Core.Bool.{Bool, cond}
 use mathlib.Core.List.{List}
-use lib.Dec.{eqb, ltb, leb}
+use lib.Dec.{ltb, leb}
 use lib.IntN.{ℤ, pos, _-ℤ_}
 use lib.ListN.{getD}
 use Rattle.octets.specs.Octets.{numberAt}

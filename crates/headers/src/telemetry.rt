@@ -6,7 +6,7 @@ ghost use lib.ListN.{length};
 ghost use Rattle.sfdu.specs.declared.Kind.the-variants.{Telemetry};
 ghost use Rattle.sfdu.specs.Nesting.{dataValueAt};
 ghost use Rattle.sfdu.specs.Read.{primaryWords, primaryOf, recordLength};
-ghost use Rattle.headers.specs.Fields.{recordNumber, spacecraft, predictsMode, hasBand, uplink};
+ghost use Rattle.headers.specs.Fields.{recordNumber, spacecraft, hasBand, uplink};
 ghost use Rattle.headers.specs.Headers.{wordsOf, judgedFields, telemetryFieldWords, fieldsOf, bandWord};
 ghost use Rattle.headers.specs.Ranges.{fault, isBand};
 ghost use Rattle.headers.specs.Words.{number, none};

@@ -9,7 +9,7 @@ use lib.Dec.{leb, ltb}
 use borrow.Author.Tests.{ltb-true, ltb-false, lt-ltb, le-leb}
 use Rattle.refusals.specs.Judge.{_when_, verdict}
 use Rattle.refusals.proofs.Laws.{number-injective}
-use Rattle.keys.specs.Key.{rsrStart, rsrEnd, validKey, telemetryKey, rsrKey, telemetryFits, rsrFits, made, telemetryKeyCall, rsrKeyCall}
+use Rattle.keys.specs.Key.{rsrStart, rsrEnd, validKey, telemetryKey, rsrKey, made, telemetryKeyCall, rsrKeyCall}
 use Rattle.keys.specs.declared.KeyAnswer.{KeyAnswer}
 use Rattle.keys.specs.declared.KeyAnswer.the-variants.{Key, Refused}
 use Rattle.keys.specs.Words.{wordsOf}

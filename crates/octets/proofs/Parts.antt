@@ -1,16 +1,16 @@
 -- Numbers read where they were laid out, and parts of a list of bytes: joined, zero, equal. Each law once, over the width.
 -- Assumes nothing.
 use Prim.Native.Nat.{ℕ, zero, suc, _+_, _*_, _/_, _%_, _^_, _<_, _≤_}
-use native.Mathlib.Nat.{zero-add, pow-suc, div-add-mod', div-lt-iff-lt-mul, le-refl}
+use native.Mathlib.Nat.{zero-add, pow-suc, div-add-mod', div-lt-iff-lt-mul}
 use native.Mathlib.Omega.{arith}
 use mathlib.Core.Bool.{true}
 use mathlib.Core.List.{List, [], _∷_, _++_}
 use mathlib.Core.Path.{_≡_, refl, sym, ap, _∙_}
 use lib.Dec.{eqb, lit<}
-use lib.ListN.{length, getD, take, drop, replicate, length-replicate, getD-replicate, length-drop, length-append, List·getD-append}
-use lib.Seq.{take-add, drop-drop, take-suc, take-at, drop-at, ext-getD, getD-drop, take-length, getD-append-add, getD-at, take-append-le, drop-append-le, drop-append-add, length-take-le}
+use lib.ListN.{length, getD, take, drop, replicate, length-replicate, getD-replicate, length-drop, List·getD-append}
+use lib.Seq.{take-add, drop-drop, take-suc, ext-getD, getD-drop, take-length, getD-append-add, getD-at, take-append-le, drop-append-le, drop-append-add}
 use borrow.Author.Tests.{eqb-true, eq-eqb}
-use Rattle.octets.specs.Octets.{numberAt, bytesOf, part, put, zeroAt, sameAt}
+use Rattle.octets.specs.Octets.{numberAt, bytesOf, part, zeroAt, sameAt}
 use Rattle.octets.proofs.Laws.{Bytes, length-bytesOf, length-part, part-at, all-at, all-each}
 
 -- ---- numbers

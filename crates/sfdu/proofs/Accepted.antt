@@ -1,13 +1,12 @@
 -- What is known of a slice that read one accepts. Assumes nothing.
 use Prim.Native.Nat.{ℕ, _+_, _-_, _≤_}
 use native.Mathlib.Omega.{arith}
-use mathlib.Core.Bool.{Bool, true, false, not, _&&_, _||_}
+use mathlib.Core.Bool.{Bool, true, false, _&&_, _||_}
 use mathlib.Core.List.{List, [], _∷_}
-use mathlib.Core.Path.{_≡_, refl, sym, ap, _∙_}
+use mathlib.Core.Path.{_≡_, refl, sym, _∙_}
 use borrow.Author.Tests.{leb-true, ltb-false, eqb-true, eq-eqb, not-false}
 use lib.Dec.{leb, lit<}
 use lib.ListN.{length}
-use Rattle.refusals.specs.Judge.{verdict}
 use Rattle.refusals.proofs.Judged.{NoneHolds, Numbered, none-verdict, verdict-none, answered-none}
 use Rattle.octets.specs.Octets.{sameAt}
 use Rattle.octets.proofs.Laws.{and-split}

@@ -1,9 +1,9 @@
 -- The parts of an accepted record, by the kind and the length that read one answered. Assumes nothing.
 use Prim.Native.Nat.{ℕ, _-_, _≤_}
 use native.Mathlib.Omega.{arith}
-use mathlib.Core.Bool.{true, false}
+use mathlib.Core.Bool.{false}
 use mathlib.Core.List.{List, []}
-use mathlib.Core.Path.{_≡_, refl, sym, subst}
+use mathlib.Core.Path.{_≡_, sym, subst}
 use lib.ListN.{length}
 use Rattle.octets.specs.Octets.{part}
 use Rattle.sfdu.specs.declared.Kind.{Kind}

@@ -1,5 +1,5 @@
 -- How the offsets and lengths of a kind hang together: one record of facts that holds for both kinds. Assumes nothing.
-use Prim.Native.Nat.{ℕ, _+_, _-_, _≤_}
+use Prim.Native.Nat.{_+_, _-_, _≤_}
 use mathlib.Core.Path.{_≡_, refl}
 use lib.Dec.{lit≤}
 use Rattle.sfdu.specs.declared.Kind.{Kind}

@@ -4,49 +4,17 @@ use Prim.Native.Nat.{ℕ, _+_, _-_, _≤_, _<_}
 use native.Mathlib.Nat.{zero-add}
 use native.Mathlib.Omega.{arith}
 use mathlib.Core.Bool.{true}
-use mathlib.Core.List.{List, [], _∷_, _++_}
-use mathlib.Core.Path.{_≡_, refl, sym, ap, subst, _∙_}
+use mathlib.Core.List.{List, _++_}
+use mathlib.Core.Path.{_≡_, refl, sym, ap, _∙_}
 use borrow.Author.Tests.{eq-eqb}
-use lib.Dec.{lit≤}
 use lib.Seq.{drop-cons}
-use lib.ListN.{length, getD, take, drop}
-use Rattle.octets.specs.Octets.{numberAt, bytesOf, part, put, sameAt}
+use lib.ListN.{length}
+use Rattle.octets.specs.Octets.{bytesOf, part, sameAt}
 use Rattle.octets.proofs.Laws.{Bytes, length-part}
 use Rattle.octets.proofs.Parts.{bytes-number, part-join, part-whole, same-part}
-use Rattle.octets.proofs.Puts.{put-start}
-use Rattle.sfdu.specs.declared.Kind.{Kind}
-use Rattle.sfdu.specs.declared.Kind.the-variants.{Telemetry, Rsr}
 use Rattle.sfdu.specs.declared.Primary.{Primary}
-use Rattle.sfdu.specs.Nesting.{
-  kindNumber,
-  authority,
-  control,
-  kindBytes,
-  authorityAt,
-  controlAt,
-  kindAt,
-  tagSize,
-  lengthAt,
-  lengthSize,
-  labelSize,
-  wordSize,
-  blockLabelSize,
-  aggregationAt,
-  primaryAt,
-  primaryValueAt,
-  secondaryAt,
-  secondaryValueAt,
-  dataAt,
-  dataValueAt,
-  aggregationLength,
-  primaryLength,
-  secondaryLength,
-  aggregationType,
-  primaryType,
-  secondaryType,
-  dataType,
-}
-use Rattle.sfdu.specs.Read.{primaryWords, primaryOf, hasKind, kindOf, labelLength, recordLength, blockType, blockLength, isBlock, accepts, readOne, secondaryPart, dataPart}
+use Rattle.sfdu.specs.Nesting.{authority, control, kindBytes, authorityAt, controlAt, kindAt, tagSize, lengthAt, lengthSize, labelSize, wordSize, blockLabelSize, aggregationAt, primaryAt, primaryValueAt, secondaryAt, secondaryValueAt, dataAt, dataValueAt, aggregationLength, primaryLength, secondaryLength, aggregationType, primaryType, secondaryType, dataType}
+use Rattle.sfdu.specs.Read.{primaryWords, primaryOf, hasKind, kindOf, labelLength, recordLength, blockType, blockLength, isBlock}
 use Rattle.sfdu_write.specs.Write.{labelBytes, block, primaryBlock, headBytes, recordBytes}
 use Rattle.sfdu.proofs.Placed.{placed}
 use Rattle.sfdu_write.proofs.Written.{length-kind}

@@ -1,14 +1,12 @@
 -- What the writer makes the reader gives back: every piece of a written record is read where it was put. Assumes nothing.
 use Prim.Native.Nat.{ℕ, _+_, _-_, _^_, _≤_, _<_}
-use native.Mathlib.Nat.{zero-add}
 use native.Mathlib.Omega.{arith}
-use mathlib.Core.Bool.{Bool, true, false, not, _&&_, _||_, false≢true}
-use mathlib.Core.List.{List, [], _∷_, _++_, append-assoc, append-nil}
+use mathlib.Core.Bool.{Bool, true, false, not, _||_}
+use mathlib.Core.List.{List, [], _∷_, _++_, append-assoc}
 use mathlib.Core.Path.{_≡_, refl, sym, ap, _∙_}
 use borrow.Author.Tests.{eq-eqb, le-leb, le-ltb}
-use lib.Dec.{eqb, leb, ltb, lit<, lit≤}
+use lib.Dec.{lit<, lit≤}
 use lib.ListN.{length, getD, length-append}
-use lib.Seq.{getD-append-add}
 use Rattle.refusals.proofs.Judged.{NoneHolds, none-verdict}
 use Rattle.octets.specs.Octets.{numberAt, bytesOf, part, sameAt}
 use Rattle.octets.proofs.Laws.{length-bytesOf, part-at}

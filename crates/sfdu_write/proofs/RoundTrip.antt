@@ -1,27 +1,24 @@
 -- The round trip, both ways. Assumes nothing.
-use Prim.Native.Nat.{ℕ, _-_, _≤_, _<_}
-use native.Mathlib.Nat.{zero-add}
+use Prim.Native.Nat.{ℕ, _-_, _≤_}
 use native.Mathlib.Omega.{arith}
-use mathlib.Core.Bool.{Bool, true, false, not, _&&_, false≢true}
+use mathlib.Core.Bool.{Bool, true, false}
 use mathlib.Core.List.{List, [], _∷_, _++_}
 use mathlib.Core.Path.{_≡_, refl, sym, ap, subst, _∙_}
 use borrow.Author.Tests.{eq-eqb, le-leb, eqb-true, eqb-false, ltb-false, ltb-true}
-use lib.Dec.{eqb, ltb, leb}
-use lib.ListN.{length, getD, take, drop}
-use Rattle.refusals.specs.Judge.{verdict}
-use Rattle.octets.specs.Octets.{part, put}
-use Rattle.octets.proofs.Laws.{Bytes, and-split, length-part}
+use lib.Dec.{eqb, ltb}
+use lib.ListN.{length, take, drop}
+use Rattle.octets.specs.Octets.{part}
+use Rattle.octets.proofs.Laws.{Bytes, length-part}
 use Rattle.octets.proofs.Puts.{put-start}
 use Rattle.sfdu.specs.declared.Kind.{Kind}
 use Rattle.sfdu.specs.declared.Kind.the-variants.{Telemetry, Rsr}
 use Rattle.sfdu.specs.declared.Primary.{Primary}
 use Rattle.sfdu.specs.Nesting.{kindNumber, dataValueAt, secondaryLength, secondaryValueAt, mostData}
-use Rattle.sfdu.specs.Read.{primaryWords, primaryOf, kindOf, recordLength, accepts, recordWords, readOne, secondaryPart, dataPart}
-use Rattle.sfdu_write.specs.Write.{recordBytes, isKind, kindNamed, isInput, sizeOf, writeOne}
-use Rattle.sfdu_write.specs.RoundTrip.{ReadsBack, WrittenReadsBack, ReadWritesAgain}
+use Rattle.sfdu.specs.Read.{primaryWords, primaryOf, kindOf, recordLength, accepts, recordWords, secondaryPart, dataPart}
+use Rattle.sfdu_write.specs.Write.{recordBytes, isInput, sizeOf, writeOne}
+use Rattle.sfdu_write.specs.RoundTrip.{WrittenReadsBack, ReadWritesAgain}
 use Rattle.sfdu.proofs.Placed.{placed}
-use Rattle.sfdu.proofs.Accepted.{Found, found, accepted, accepted-words, words-accepted}
-use Rattle.sfdu.proofs.Parts.{secondary-part, data-part}
+use Rattle.sfdu.proofs.Accepted.{accepted, accepted-words, words-accepted}
 use Rattle.sfdu_write.proofs.Written.{lengths, input-refused, space-refused, written, kind-refused, length-record}
 use Rattle.sfdu_write.proofs.Back.{slice, record-read, secondary-read, data-read}
 use Rattle.sfdu_write.proofs.Again.{record-part}

@@ -2,7 +2,7 @@
 use Prim.Native.Nat.{ℕ, _+_, _≤_, _<_}
 use native.Mathlib.Omega.{arith}
 use mathlib.Core.Bool.{true, false}
-use mathlib.Core.List.{List, [], _∷_, _++_}
+use mathlib.Core.List.{List, [], _∷_}
 use mathlib.Core.Path.{_≡_, refl}
 use lib.ListN.{length, length-append}
 use borrow.Author.Tests.{lt-ltb, le-ltb, ne-eqb, eqb-true, leb-true}
@@ -13,7 +13,7 @@ use Rattle.octets.proofs.Puts.{put-start}
 use Rattle.sfdu.specs.declared.Kind.{Kind}
 use Rattle.sfdu.specs.declared.Kind.the-variants.{Telemetry, Rsr}
 use Rattle.sfdu.specs.declared.Primary.{Primary}
-use Rattle.sfdu.specs.Nesting.{kindNumber, kindBytes, tagSize, labelSize, blockLabelSize, secondaryValueAt, dataAt, dataValueAt, secondaryLength, mostData}
+use Rattle.sfdu.specs.Nesting.{kindNumber, kindBytes, tagSize, labelSize, blockLabelSize, secondaryValueAt, dataValueAt, secondaryLength, mostData}
 use Rattle.sfdu_write.specs.Write.{labelBytes, block, primaryBlock, headBytes, recordBytes, isKind, kindNamed, isInput, sizeOf, writeOne}
 use Rattle.sfdu.proofs.Placed.{placed}
 

@@ -4,7 +4,7 @@ use mathlib.Core.Bool.{Bool, not, cond, _&&_, _||_}
 use mathlib.Core.List.{List, [], _∷_, _++_}
 use lib.ListN.{length, drop}
 use lib.Dec.{eqb, leb, ltb}
-use Rattle.refusals.specs.Judge.{Row, _when_, judge}
+use Rattle.refusals.specs.Judge.{_when_, judge}
 use Rattle.refusals.specs.Table.{numberOf}
 use Rattle.octets.specs.Octets.{bytesOf}
 use Rattle.sfdu.specs.declared.Kind.{Kind}

@@ -2,7 +2,7 @@
 ghost use mathlib.Core.Path.{_≡_};
 ghost use Prim.Native.Nat.{min};
 ghost use Rattle.stream.specs.Walk.{wordsOf};
-ghost use Rattle.stream.specs.Listing.{entryAt, Columns, listNumbers, listEntries};
+ghost use Rattle.stream.specs.Listing.{entryAt, listNumbers, listEntries};
 ghost use Rattle.stream.specs.Turn.{RecordAt, TurnAt, noTurn};
 use crate::Cursor;
 use crate::Entry;

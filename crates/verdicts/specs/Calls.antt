@@ -5,7 +5,7 @@ use mathlib.Core.Bool.{Bool, not}
 use mathlib.Core.List.{List, [], _∷_}
 use lib.Dec.{eqb}
 use lib.ListN.{length}
-use Rattle.refusals.specs.Judge.{Row, _when_}
+use Rattle.refusals.specs.Judge.{_when_}
 use Rattle.sheet.specs.Sheet.{sheetSize, rowAt, used, right}
 use Rattle.changes.specs.Bytes.{Outcome, judged, done, freshSheet, rowWith, enrolAt, openAt, clearDesk, markDesk, saveAt, reportWords, gapFrom}
 use Rattle.verdicts.specs.Verdicts.{enrolRows, findRows, openRows, deskRows, reportRows}

@@ -3,12 +3,12 @@ use Prim.Native.Nat.{ℕ}
 use mathlib.Core.List.{List, [], _∷_, map}
 use mathlib.Core.Path.{_≡_, refl, ap, _∙_}
 use Rattle.model.specs.Book.{Book, fresh}
-use Rattle.model.specs.Step.{Call, Answer, answerWords, step, Entry, _⇒_, run}
+use Rattle.model.specs.Step.{Call, answerWords, step, Entry, _⇒_, run}
 use Rattle.model.specs.WellFormed.{WellFormed, AllInRange}
 use Rattle.model.proofs.Outcome.{outcome}
 use Rattle.model.proofs.WellFormed.{well-formed, fresh-well-formed}
 use Rattle.changes.specs.Bytes.{freshSheet}
-use Rattle.layout.specs.Layout.{layout, call, onSheet}
+use Rattle.layout.specs.Layout.{layout, call}
 use Rattle.layout.proofs.Sheets.{on-layout, fresh-layout}
 use Rattle.worked.specs.Calls.{answersOn, sheetAfter}
 

@@ -1,14 +1,14 @@
 -- The worked examples hold: by computation, and on sheets by the law that takes a list of calls to the model. Assumes nothing.
 use Prim.Native.Nat.{ℕ, _+_}
 use mathlib.Core.List.{List, [], _∷_, _++_, map}
-use mathlib.Core.Path.{_≡_, refl, sym, ap, _∙_}
+use mathlib.Core.Path.{_≡_, refl, ap, _∙_}
 use lib.Dec.{lit<}
 use lib.ListN.{getD}
 use Rattle.refusals.specs.Judge.{verdict}
 use Rattle.octets.specs.Octets.{numberAt, bytesOf, part, put, all, sameAt}
 use Rattle.sfdu.specs.Read.{hasKind, kindOf, labelLength, recordLength, blockType, blockLength, blockEnd, lengthInRange, isBlock, nests, accepts, readOne, dataPart}
 use Rattle.sfdu_write.specs.Write.{labelBytes, block, primaryBlock, headBytes, recordBytes}
-use Rattle.headers.specs.Words.{Word, number}
+use Rattle.headers.specs.Words.{number}
 use Rattle.headers.specs.Fields.{signedByte, recordNumber}
 use Rattle.headers.specs.Date.{isYear, isDay}
 use Rattle.headers.specs.Ranges.{isRsrBand, isBand, inRange, judgedBytes, fault}
@@ -16,17 +16,16 @@ use Rattle.headers.specs.Headers.{readHeaders}
 use Rattle.keys.specs.Key.{validKey, telemetryKeyCall}
 use Rattle.model.specs.Positions.{position, noTicks, same, size, anyTicked, missing, least}
 use Rattle.model.specs.Positions.{numberAt as numberAtPosition}
-use Rattle.model.specs.Book.{Book, fresh, hasKey, placeWith, allUsed, lowestFree}
+use Rattle.model.specs.Book.{fresh, hasKey, placeWith, allUsed, lowestFree}
 use Rattle.model.specs.Step.{Call, refusals, effect, afterRefusal, step, run}
 use Rattle.model.specs.Counts.{rowReport}
 use Rattle.model.specs.WellFormed.{AllInRange}
 use Rattle.model.proofs.WellFormed.{run-well-formed}
 use Rattle.sheet.specs.Sheet.{rowAt, ticksAt}
 use Rattle.changes.specs.Rows.{rowBytes}
-use Rattle.changes.specs.Bytes.{freshSheet, headerBytes}
+use Rattle.changes.specs.Bytes.{headerBytes}
 use Rattle.layout.specs.Layout.{bitsValue, tickBytes, placeBytes, countUsed, laid, layout, report, onSheet}
 use Rattle.layout.proofs.Sheets.{on-layout}
-use Rattle.worked.specs.Calls.{answersOn, sheetAfter}
 use Rattle.worked.specs.Worked.{Agree, table, p7, p8-empty, p8, p9-stale, p9, p10, verdicts, reportAfter, tickByteAfter}
 use Rattle.worked.proofs.Sheet.{wordsIn, answers-fresh, after-fresh}
 

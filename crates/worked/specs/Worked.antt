@@ -3,11 +3,11 @@
 use Prim.Native.Nat.{ℕ, _+_}
 use mathlib.Core.List.{List, [], _∷_, _++_, map}
 use mathlib.Core.Path.{_≡_}
-use lib.IntN.{ℤ, pos, negsuc}
+use lib.IntN.{pos, negsuc}
 use lib.ListN.{length, getD, take, drop}
 use Rattle.sfdu.specs.declared.Kind.the-variants.{Telemetry, Rsr}
 use Rattle.sfdu.specs.Read.{readOne, dataPart}
-use Rattle.headers.specs.Words.{Word, number, signed, none}
+use Rattle.headers.specs.Words.{Word, number, signed}
 use Rattle.headers.specs.Headers.{readHeaders}
 use Rattle.keys.specs.Key.{telemetryKeyCall}
 use Rattle.model.specs.Positions.{position}

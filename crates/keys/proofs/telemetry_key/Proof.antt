@@ -1,6 +1,5 @@
 -- `telemetry_key` meets its contract. Assumes nothing.
 use Prim.Native.Nat.{ℕ, _<_}
-use native.Mathlib.Omega.{arith}
 use mathlib.Core.Path.{_≡_, sym, _∙_}
 use mathlib.Core.Bool.{Bool, false, not, _&&_}
 use lib.Dec.{ltb}

@@ -1,6 +1,6 @@
 -- `octets::are_zero` meets its contract. The invariant: what is gathered is zero exactly when the first i bytes of each range are.
 -- Assumes nothing.
-use Prim.Native.Nat.{_≤_, _+_, _-_}
+use Prim.Native.Nat.{_≤_, _-_}
 use mathlib.Core.Path.{_≡_, sym, _∙_}
 use native.Mathlib.Omega.{arith}
 use lib.Dec.{eqb}

@@ -5,9 +5,6 @@ use Rattle.octets.proofs.Puts.{copied-in}
 use borrow.Author.Needs.{needs}
 use Rattle.sfdu_write.proofs.copy_at.Statement.{statement}
 use Rattle.sfdu_write.proofs.copy_at.Tie as tie
-use Rattle.sfdu_write.proofs.copy_at.Reads as reads
-use Rattle.sfdu_write.proofs.copy_at.Lts as lts
-use Rattle.bytes.proofs.copy.Reads as copy-reads
 
 sub-copy : tie.Need-sub-copy
 sub-copy c = search needs

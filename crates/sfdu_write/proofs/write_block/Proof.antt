@@ -7,9 +7,6 @@ use Rattle.sfdu_write.specs.Write.{block}
 use borrow.Author.Needs.{needs}
 use Rattle.sfdu_write.proofs.write_block.Statement.{statement}
 use Rattle.sfdu_write.proofs.write_block.Tie as tie
-use Rattle.sfdu_write.proofs.write_block.Reads as reads
-use Rattle.sfdu_write.proofs.write_block.Lts as lts
-use Rattle.octets.proofs.write_be.Reads as write-be-reads
 
 write-be-requires : tie.Need-write-be-requires
 write-be-requires c κs = search needs

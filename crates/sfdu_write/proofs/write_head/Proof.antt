@@ -9,14 +9,6 @@ use Rattle.sfdu_write.proofs.Written.{length-label, length-block, lengt
 use borrow.Author.Needs.{needs}
 use Rattle.sfdu_write.proofs.write_head.Statement.{statement}
 use Rattle.sfdu_write.proofs.write_head.Tie as tie
-use Rattle.sfdu_write.proofs.write_head.Reads as reads
-use Rattle.sfdu_write.proofs.write_head.Lts as lts
-use Rattle.sfdu.proofs.aggregation_length.Reads as aggregation-length-reads
-use Rattle.sfdu.proofs.secondary_length.Reads as secondary-length-reads
-use Rattle.sfdu.proofs.secondary_type.Reads as secondary-type-reads
-use Rattle.sfdu_write.proofs.write_block.Reads as write-block-reads
-use Rattle.sfdu_write.proofs.write_label.Reads as write-label-reads
-use Rattle.sfdu_write.proofs.write_primary.Reads as write-primary-reads
 
 write-label-requires : tie.Need-write-label-requires
 write-label-requires c κs = search needs

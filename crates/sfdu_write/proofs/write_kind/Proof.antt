@@ -10,11 +10,6 @@ use Rattle.sfdu_write.proofs.Written.{lengths, input-refused, space-ref
 use borrow.Author.Needs.{needs}
 use Rattle.sfdu_write.proofs.write_kind.Statement.{statement}
 use Rattle.sfdu_write.proofs.write_kind.Tie as tie
-use Rattle.sfdu_write.proofs.write_kind.Reads as reads
-use Rattle.sfdu_write.proofs.write_kind.Lts as lts
-use Rattle.sfdu.proofs.data_value_at.Reads as data-value-at-reads
-use Rattle.sfdu_write.proofs.is_input.Reads as is-input-reads
-use Rattle.sfdu_write.proofs.write_record.Reads as write-record-reads
 
 is-input-requires : tie.Need-is-input-requires
 is-input-requires c κs = search needs

@@ -13,11 +13,6 @@ use Rattle.sfdu_write.proofs.Written.{length-kind}
 use borrow.Author.Needs.{needs}
 use Rattle.sfdu_write.proofs.write_label.Statement.{statement}
 use Rattle.sfdu_write.proofs.write_label.Tie as tie
-use Rattle.sfdu_write.proofs.write_label.Reads as reads
-use Rattle.sfdu_write.proofs.write_label.Lts as lts
-use Rattle.octets.proofs.write_be.Reads as write-be-reads
-use Rattle.sfdu.proofs.kind_tag.Reads as kind-tag-reads
-use Rattle.sfdu_write.proofs.copy_at.Reads as copy-at-reads
 
 slice-aggregate-copy-at : tie.Need-slice-aggregate-copy-at
 slice-aggregate-copy-at c = search needs

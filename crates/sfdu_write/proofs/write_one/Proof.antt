@@ -4,9 +4,6 @@ use Rattle.sfdu_write.proofs.Written.{kind-refused}
 use borrow.Author.Needs.{needs}
 use Rattle.sfdu_write.proofs.write_one.Statement.{statement}
 use Rattle.sfdu_write.proofs.write_one.Tie as tie
-use Rattle.sfdu_write.proofs.write_one.Reads as reads
-use Rattle.sfdu_write.proofs.write_one.Lts as lts
-use Rattle.sfdu_write.proofs.write_kind.Reads as write-kind-reads
 
 write-kind-requires : tie.Need-write-kind-requires
 write-kind-requires c κs = search needs

@@ -9,9 +9,6 @@ use Rattle.sfdu_write.proofs.Written.{length-block}
 use borrow.Author.Needs.{needs}
 use Rattle.sfdu_write.proofs.write_primary.Statement.{statement}
 use Rattle.sfdu_write.proofs.write_primary.Tie as tie
-use Rattle.sfdu_write.proofs.write_primary.Reads as reads
-use Rattle.sfdu_write.proofs.write_primary.Lts as lts
-use Rattle.sfdu_write.proofs.write_block.Reads as write-block-reads
 
 write-block-requires : tie.Need-write-block-requires
 write-block-requires c κs = search needs

@@ -11,13 +11,6 @@ use Rattle.sfdu_write.proofs.Written.{length-head, length-block}
 use borrow.Author.Needs.{needs}
 use Rattle.sfdu_write.proofs.write_record.Statement.{statement}
 use Rattle.sfdu_write.proofs.write_record.Tie as tie
-use Rattle.sfdu_write.proofs.write_record.Reads as reads
-use Rattle.sfdu_write.proofs.write_record.Lts as lts
-use Rattle.sfdu.proofs.data_at.Reads as data-at-reads
-use Rattle.sfdu.proofs.data_value_at.Reads as data-value-at-reads
-use Rattle.sfdu_write.proofs.copy_at.Reads as copy-at-reads
-use Rattle.sfdu_write.proofs.write_block.Reads as write-block-reads
-use Rattle.sfdu_write.proofs.write_head.Reads as write-head-reads
 
 data-value-at-requires : tie.Need-data-value-at-requires
 data-value-at-requires c κs = search needs

@@ -15,12 +15,6 @@ use Rattle.headers.proofs.Reading.{refused-first, wrong-kind, right-kin
 use borrow.Author.Needs.{needs}
 use Rattle.headers.proofs.call.read_headers.Statement.{statement}
 use Rattle.headers.proofs.call.read_headers.Tie as tie
-use Rattle.headers.proofs.call.read_headers.Reads as reads
-use Rattle.headers.proofs.call.read_headers.Lts as lts
-use Rattle.headers.proofs.rsr.fields.Reads as rsr-fields-reads
-use Rattle.headers.proofs.telemetry.fields.Reads as telemetry-fields-reads
-use Rattle.sfdu.proofs.kind_number.Reads as kind-number-reads
-use Rattle.sfdu.proofs.read_one.Reads as read-one-reads
 
 read-one-requires : tie.Need-read-one-requires
 read-one-requires c κs = search needs

@@ -2,10 +2,6 @@
 use borrow.Author.Needs.{needs}
 use Rattle.headers.proofs.call.record_number.Statement.{statement}
 use Rattle.headers.proofs.call.record_number.Tie as tie
-use Rattle.headers.proofs.call.record_number.Reads as reads
-use Rattle.headers.proofs.call.record_number.Lts as lts
-use Rattle.headers.proofs.rsr.number.Reads as rsr-number-reads
-use Rattle.headers.proofs.telemetry.number.Reads as telemetry-number-reads
 
 enum-told : tie.Need-enum-told
 enum-told c = search needs

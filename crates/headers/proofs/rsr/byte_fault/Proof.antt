@@ -9,9 +9,6 @@ use Rattle.headers.specs.Ranges.{judgedBytes, byteRows}
 use Rattle.headers.proofs.Table.{entries, faultFrom, from-start, from-end, fault-here, fault-past, at-low}
 use Rattle.headers.proofs.rsr.byte_fault.Statement.{statement}
 use Rattle.headers.proofs.rsr.byte_fault.Tie as tie
-use Rattle.headers.proofs.rsr.byte_fault.Reads as reads
-use Rattle.headers.proofs.rsr.byte_fault.Lts as lts
-use Rattle.headers.proofs.rsr.in_range.Reads as in-range-reads
 
 abbrev Inv-loop : tie.InvT-loop
 Inv-loop s table i₀ i = (i ≤ entries) × (table ≡ judgedBytes) × (verdict (byteRows s) ≡ faultFrom s i)

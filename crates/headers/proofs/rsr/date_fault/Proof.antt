@@ -4,11 +4,6 @@ use Rattle.octets.proofs.Laws.{failed, passed}
 use borrow.Author.Needs.{needs}
 use Rattle.headers.proofs.rsr.date_fault.Statement.{statement}
 use Rattle.headers.proofs.rsr.date_fault.Tie as tie
-use Rattle.headers.proofs.rsr.date_fault.Reads as reads
-use Rattle.headers.proofs.rsr.date_fault.Lts as lts
-use Rattle.headers.proofs.rsr.is_day.Reads as is-day-reads
-use Rattle.headers.proofs.rsr.is_year.Reads as is-year-reads
-use Rattle.octets.proofs.read_u16.Reads as read-u16-reads
 
 read-u16-requires : tie.Need-read-u16-requires
 read-u16-requires c κs = search needs

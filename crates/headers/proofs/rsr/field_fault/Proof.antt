@@ -6,10 +6,6 @@ use Rattle.headers.proofs.Table.{numbered}
 use borrow.Author.Needs.{needs}
 use Rattle.headers.proofs.rsr.field_fault.Statement.{statement}
 use Rattle.headers.proofs.rsr.field_fault.Tie as tie
-use Rattle.headers.proofs.rsr.field_fault.Reads as reads
-use Rattle.headers.proofs.rsr.field_fault.Lts as lts
-use Rattle.headers.proofs.rsr.byte_fault.Reads as byte-fault-reads
-use Rattle.headers.proofs.rsr.date_fault.Reads as date-fault-reads
 
 byte-fault-requires : tie.Need-byte-fault-requires
 byte-fault-requires c κs = search needs

@@ -3,10 +3,6 @@ use borrow.Author.Tests.{eq-eqb, ne-eqb}
 use borrow.Author.Needs.{needs}
 use Rattle.headers.proofs.rsr.fields.Statement.{statement}
 use Rattle.headers.proofs.rsr.fields.Tie as tie
-use Rattle.headers.proofs.rsr.fields.Reads as reads
-use Rattle.headers.proofs.rsr.fields.Lts as lts
-use Rattle.headers.proofs.rsr.field_fault.Reads as field-fault-reads
-use Rattle.headers.proofs.rsr.read_fields.Reads as read-fields-reads
 
 field-fault-requires : tie.Need-field-fault-requires
 field-fault-requires c κs = search needs

@@ -5,9 +5,6 @@ use Rattle.headers.specs.Ranges.{inRange}
 use borrow.Author.Needs.{needs}
 use Rattle.headers.proofs.rsr.in_range.Statement.{statement}
 use Rattle.headers.proofs.rsr.in_range.Tie as tie
-use Rattle.headers.proofs.rsr.in_range.Reads as reads
-use Rattle.headers.proofs.rsr.in_range.Lts as lts
-use Rattle.headers.proofs.rsr.is_band.Reads as is-band-reads
 
 enum-known-allowed : tie.Need-enum-known-allowed
 enum-known-allowed c = search needs

@@ -3,8 +3,6 @@ use mathlib.Core.Path.{refl}
 use Rattle.headers.specs.Ranges.{isRsrBand}
 use Rattle.headers.proofs.rsr.is_band.Statement.{statement}
 use Rattle.headers.proofs.rsr.is_band.Tie as tie
-use Rattle.headers.proofs.rsr.is_band.Reads as reads
-use Rattle.headers.proofs.rsr.is_band.Lts as lts
 
 returns : tie.Need-returns
 unfolding isRsrBand

@@ -3,8 +3,6 @@ use mathlib.Core.Path.{refl}
 use Rattle.headers.specs.Date.{isDay}
 use Rattle.headers.proofs.rsr.is_day.Statement.{statement}
 use Rattle.headers.proofs.rsr.is_day.Tie as tie
-use Rattle.headers.proofs.rsr.is_day.Reads as reads
-use Rattle.headers.proofs.rsr.is_day.Lts as lts
 
 returns : tie.Need-returns
 unfolding isDay

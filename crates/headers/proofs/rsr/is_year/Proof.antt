@@ -3,8 +3,6 @@ use mathlib.Core.Path.{refl}
 use Rattle.headers.specs.Date.{isYear}
 use Rattle.headers.proofs.rsr.is_year.Statement.{statement}
 use Rattle.headers.proofs.rsr.is_year.Tie as tie
-use Rattle.headers.proofs.rsr.is_year.Reads as reads
-use Rattle.headers.proofs.rsr.is_year.Lts as lts
 
 returns : tie.Need-returns
 unfolding isYear

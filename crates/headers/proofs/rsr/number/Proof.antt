@@ -3,9 +3,6 @@ use Rattle.headers.specs.Fields.{recordNumber}
 use borrow.Author.Needs.{needs}
 use Rattle.headers.proofs.rsr.number.Statement.{statement}
 use Rattle.headers.proofs.rsr.number.Tie as tie
-use Rattle.headers.proofs.rsr.number.Reads as reads
-use Rattle.headers.proofs.rsr.number.Lts as lts
-use Rattle.octets.proofs.read_u16.Reads as read-u16-reads
 
 read-u16-requires : tie.Need-read-u16-requires
 read-u16-requires c κs = search needs

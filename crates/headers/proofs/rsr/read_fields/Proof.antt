@@ -1,6 +1,5 @@
 -- `headers::rsr::read_fields` meets its contract. Assumes nothing.
-use mathlib.Core.List.{List, _++_}
-use mathlib.Core.Path.{_≡_}
+use mathlib.Core.List.{_++_}
 use Rattle.sfdu.specs.declared.Kind.the-variants.{Rsr}
 use Rattle.sfdu.specs.Read.{primaryWords}
 use Rattle.headers.specs.Headers.{sourceWords, signalWords, timeWords, fieldsOf}
@@ -8,12 +7,6 @@ use Rattle.headers.proofs.Accept.{same-accepted, rsr-key, joined}
 use borrow.Author.Needs.{needs}
 use Rattle.headers.proofs.rsr.read_fields.Statement.{statement}
 use Rattle.headers.proofs.rsr.read_fields.Tie as tie
-use Rattle.headers.proofs.rsr.read_fields.Reads as reads
-use Rattle.headers.proofs.rsr.read_fields.Lts as lts
-use Rattle.headers.proofs.rsr.read_signal.Reads as read-signal-reads
-use Rattle.headers.proofs.rsr.read_source.Reads as read-source-reads
-use Rattle.headers.proofs.rsr.read_time.Reads as read-time-reads
-use Rattle.keys.proofs.rsr_key_of.Reads as rsr-key-of-reads
 
 read-source-requires : tie.Need-read-source-requires
 read-source-requires c κs = search needs

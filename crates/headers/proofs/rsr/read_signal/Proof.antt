@@ -5,9 +5,6 @@ use mir.Syntax.{w8}
 use mir.ValLaws.{toZ-ofZ}
 use Rattle.headers.proofs.rsr.read_signal.Statement.{statement}
 use Rattle.headers.proofs.rsr.read_signal.Tie as tie
-use Rattle.headers.proofs.rsr.read_signal.Reads as reads
-use Rattle.headers.proofs.rsr.read_signal.Lts as lts
-use Rattle.headers.proofs.rsr.signed.Reads as signed-reads
 
 shared-slice-read-signed : tie.Need-shared-slice-read-signed
 shared-slice-read-signed c = search needs

@@ -2,10 +2,6 @@
 use borrow.Author.Needs.{needs}
 use Rattle.headers.proofs.rsr.read_source.Statement.{statement}
 use Rattle.headers.proofs.rsr.read_source.Tie as tie
-use Rattle.headers.proofs.rsr.read_source.Reads as reads
-use Rattle.headers.proofs.rsr.read_source.Lts as lts
-use Rattle.headers.proofs.rsr.number.Reads as number-reads
-use Rattle.octets.proofs.read_u16.Reads as read-u16-reads
 
 read-u16-requires : tie.Need-read-u16-requires
 read-u16-requires c κs = search needs

@@ -4,7 +4,7 @@ use Prim.Native.Nat.{ℕ, suc, _-_, _≤_, _<_}
 use mathlib.Core.Path.{_≡_}
 use borrow.Author.Needs.{sfits-of}
 use borrow.Author.Tests.{lt-ltb, le-ltb}
-use lib.IntN.{ℤ, pos, negsuc, _-ℤ_}
+use lib.IntN.{pos, negsuc, _-ℤ_}
 use mir.Syntax.{w8, w16}
 use mir.Val.{SFits, toZ}
 use mir.ValLaws.{toZ-pos, toZ-ofZ}
@@ -12,8 +12,6 @@ use Rattle.headers.specs.Fields.{signedByte}
 use borrow.Author.Needs.{needs}
 use Rattle.headers.proofs.rsr.signed.Statement.{statement}
 use Rattle.headers.proofs.rsr.signed.Tie as tie
-use Rattle.headers.proofs.rsr.signed.Reads as reads
-use Rattle.headers.proofs.rsr.signed.Lts as lts
 
 wide16 : (b : ℕ) → b < 256 → toZ w16 b ≡ pos b
 wide16 b h = toZ-pos w16 b (omega arith)

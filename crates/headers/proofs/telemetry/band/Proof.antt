@@ -3,9 +3,6 @@ use mathlib.Core.Path.{sym, _∙_}
 use borrow.Author.Needs.{needs}
 use Rattle.headers.proofs.telemetry.band.Statement.{statement}
 use Rattle.headers.proofs.telemetry.band.Tie as tie
-use Rattle.headers.proofs.telemetry.band.Reads as reads
-use Rattle.headers.proofs.telemetry.band.Lts as lts
-use Rattle.headers.proofs.telemetry.has_band.Reads as has-band-reads
 
 has-band-requires : tie.Need-has-band-requires
 has-band-requires c κs = search needs

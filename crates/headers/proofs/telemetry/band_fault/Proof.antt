@@ -6,10 +6,6 @@ use Rattle.headers.specs.Ranges.{fault}
 use borrow.Author.Needs.{needs}
 use Rattle.headers.proofs.telemetry.band_fault.Statement.{statement}
 use Rattle.headers.proofs.telemetry.band_fault.Tie as tie
-use Rattle.headers.proofs.telemetry.band_fault.Reads as reads
-use Rattle.headers.proofs.telemetry.band_fault.Lts as lts
-use Rattle.headers.proofs.telemetry.has_band.Reads as has-band-reads
-use Rattle.headers.proofs.telemetry.is_band.Reads as is-band-reads
 
 has-band-requires : tie.Need-has-band-requires
 has-band-requires c κs = search needs

@@ -7,11 +7,6 @@ use Rattle.headers.proofs.Accept.{same-accepted, telemetry-key}
 use borrow.Author.Needs.{needs}
 use Rattle.headers.proofs.telemetry.fields.Statement.{statement}
 use Rattle.headers.proofs.telemetry.fields.Tie as tie
-use Rattle.headers.proofs.telemetry.fields.Reads as reads
-use Rattle.headers.proofs.telemetry.fields.Lts as lts
-use Rattle.headers.proofs.telemetry.band_fault.Reads as band-fault-reads
-use Rattle.headers.proofs.telemetry.read_fields.Reads as read-fields-reads
-use Rattle.keys.proofs.telemetry_key_of.Reads as telemetry-key-of-reads
 
 band-fault-requires : tie.Need-band-fault-requires
 band-fault-requires c κs = search needs

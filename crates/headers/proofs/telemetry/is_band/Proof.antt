@@ -3,9 +3,6 @@ use Rattle.headers.specs.Ranges.{isBand}
 use borrow.Author.Needs.{needs}
 use Rattle.headers.proofs.telemetry.is_band.Statement.{statement}
 use Rattle.headers.proofs.telemetry.is_band.Tie as tie
-use Rattle.headers.proofs.telemetry.is_band.Reads as reads
-use Rattle.headers.proofs.telemetry.is_band.Lts as lts
-use Rattle.headers.proofs.rsr.is_band.Reads as is-band-reads
 
 is-band-requires : tie.Need-is-band-requires
 is-band-requires c κs = search needs

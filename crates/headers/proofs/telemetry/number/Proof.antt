@@ -3,9 +3,6 @@ use Rattle.headers.specs.Fields.{recordNumber}
 use borrow.Author.Needs.{needs}
 use Rattle.headers.proofs.telemetry.number.Statement.{statement}
 use Rattle.headers.proofs.telemetry.number.Tie as tie
-use Rattle.headers.proofs.telemetry.number.Reads as reads
-use Rattle.headers.proofs.telemetry.number.Lts as lts
-use Rattle.octets.proofs.read_u32.Reads as read-u32-reads
 
 read-u32-requires : tie.Need-read-u32-requires
 read-u32-requires c κs = search needs

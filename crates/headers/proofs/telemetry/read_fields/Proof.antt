@@ -2,13 +2,6 @@
 use borrow.Author.Needs.{needs}
 use Rattle.headers.proofs.telemetry.read_fields.Statement.{statement}
 use Rattle.headers.proofs.telemetry.read_fields.Tie as tie
-use Rattle.headers.proofs.telemetry.read_fields.Reads as reads
-use Rattle.headers.proofs.telemetry.read_fields.Lts as lts
-use Rattle.headers.proofs.telemetry.band.Reads as band-reads
-use Rattle.headers.proofs.telemetry.number.Reads as number-reads
-use Rattle.headers.proofs.telemetry.spacecraft.Reads as spacecraft-reads
-use Rattle.octets.proofs.read_be.Reads as read-be-reads
-use Rattle.octets.proofs.read_u16.Reads as read-u16-reads
 
 band-requires : tie.Need-band-requires
 band-requires c κs = search needs

@@ -4,8 +4,6 @@ use mathlib.Core.Path.{refl}
 use borrow.Author.Needs.{needs}
 use Rattle.headers.proofs.telemetry.spacecraft.Statement.{statement}
 use Rattle.headers.proofs.telemetry.spacecraft.Tie as tie
-use Rattle.headers.proofs.telemetry.spacecraft.Reads as reads
-use Rattle.headers.proofs.telemetry.spacecraft.Lts as lts
 
 shared-slice-read-result : tie.Need-shared-slice-read-result
 shared-slice-read-result c = search needs

@@ -6,10 +6,6 @@ use Rattle.sfdu.proofs.Placed.{placed}
 use borrow.Author.Needs.{needs}
 use Rattle.sfdu.proofs.reader.blocks_nest.Statement.{statement}
 use Rattle.sfdu.proofs.reader.blocks_nest.Tie as tie
-use Rattle.sfdu.proofs.reader.blocks_nest.Reads as reads
-use Rattle.sfdu.proofs.reader.blocks_nest.Lts as lts
-use Rattle.sfdu.proofs.nesting.data_at.Reads as data-at-reads
-use Rattle.sfdu.proofs.reader.block_end.Reads as block-end-reads
 
 block-end-requires : tie.Need-block-end-requires
 block-end-requires c κs = let k = placed (c .before .args .kind) in (omega arith, lit< tt)

@@ -4,7 +4,6 @@ use native.Mathlib.Omega.{arith}
 use Rattle.refusals.specs.Table.{numberOf}
 use Rattle.octets.specs.Octets.{part}
 use Rattle.sfdu.specs.Read.{wordsOf, primaryWords}
-use Rattle.sfdu.proofs.Placed.{placed}
 use Rattle.sfdu.proofs.Accepted.{found, words-refused}
 use Rattle.sfdu.proofs.Parts.{room, data-start, data-part, no-parts}
 use borrow.Author.Needs.{needs}

@@ -6,12 +6,6 @@ use Rattle.sfdu.proofs.Placed.{placed}
 use borrow.Author.Needs.{needs}
 use Rattle.sfdu.proofs.reader.read_blocks.Statement.{statement}
 use Rattle.sfdu.proofs.reader.read_blocks.Tie as tie
-use Rattle.sfdu.proofs.reader.read_blocks.Reads as reads
-use Rattle.sfdu.proofs.reader.read_blocks.Lts as lts
-use Rattle.sfdu.proofs.reader.has_aggregation.Reads as has-aggregation-reads
-use Rattle.sfdu.proofs.reader.has_primary.Reads as has-primary-reads
-use Rattle.sfdu.proofs.reader.has_secondary.Reads as has-secondary-reads
-use Rattle.sfdu.proofs.reader.read_data.Reads as read-data-reads
 
 has-aggregation-requires : tie.Need-has-aggregation-requires
 has-aggregation-requires c κs = search needs

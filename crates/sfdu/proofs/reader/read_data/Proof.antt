@@ -6,11 +6,6 @@ use Rattle.sfdu.proofs.Placed.{placed}
 use borrow.Author.Needs.{needs}
 use Rattle.sfdu.proofs.reader.read_data.Statement.{statement}
 use Rattle.sfdu.proofs.reader.read_data.Tie as tie
-use Rattle.sfdu.proofs.reader.read_data.Reads as reads
-use Rattle.sfdu.proofs.reader.read_data.Lts as lts
-use Rattle.sfdu.proofs.reader.blocks_nest.Reads as blocks-nest-reads
-use Rattle.sfdu.proofs.reader.has_data_length.Reads as has-data-length-reads
-use Rattle.sfdu.proofs.reader.has_data_type.Reads as has-data-type-reads
 
 has-data-type-requires : tie.Need-has-data-type-requires
 has-data-type-requires c κs = search needs

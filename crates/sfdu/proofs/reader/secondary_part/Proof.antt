@@ -12,10 +12,6 @@ use Rattle.sfdu.specs.Nesting.{secondaryValueAt, secondaryLength}
 use borrow.Author.Needs.{needs}
 use Rattle.sfdu.proofs.reader.secondary_part.Statement.{statement}
 use Rattle.sfdu.proofs.reader.secondary_part.Tie as tie
-use Rattle.sfdu.proofs.reader.secondary_part.Reads as reads
-use Rattle.sfdu.proofs.reader.secondary_part.Lts as lts
-use Rattle.sfdu.proofs.nesting.data_at.Reads as data-at-reads
-use Rattle.sfdu.proofs.reader.read_one.Reads as read-one-reads
 
 read-one-requires : tie.Need-read-one-requires
 read-one-requires c κs = search needs

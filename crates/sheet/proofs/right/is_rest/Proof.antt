@@ -1,7 +1,7 @@
 -- `right::is_rest` meets its contract. The invariant: the bytes from `zeros` up to desk d are to be zero, and the others before desk d have
 -- been judged. Assumes nothing.
-use Prim.Native.Nat.{_+_, _≤_, _-_}
-use mathlib.Core.Path.{_≡_, sym}
+use Prim.Native.Nat.{_≤_, _-_}
+use mathlib.Core.Path.{_≡_}
 use mathlib.Core.Logic.{⊎-elim}
 use native.Mathlib.Omega.{arith}
 use borrow.Author.Needs.{needs}
