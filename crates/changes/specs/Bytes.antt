@@ -8,7 +8,7 @@ use mathlib.Core.Option.{Option, none, some}
 use lib.Dec.{eqb, ltb}
 use lib.ListN.{replicate}
 use Rattle.octets.specs.Octets.{bytesOf, part, put, sameAt}
-use Rattle.refusals.specs.Judge.{Row, _when_, verdict}
+use Rattle.refusals.specs.Judge.{Row, _when_, judge}
 use Rattle.model.specs.Positions.{position, numberAt, inRow, size, missing, least}
 use Rattle.model.specs.Step.{alreadySo}
 use Rattle.sheet.specs.Sheet.{sheetSize, rowSize, rowCount, rowsStart, openedAt, workedAt, deskSize, deskCount, desksStart, headerNumberSize, usedAt, rowAt, deskAt, used, keyAt, firstNumberAt, deskRow}
@@ -19,7 +19,7 @@ Outcome = List ℕ × List ℕ
 
 -- A call judged by rows of the refusal table, in the table's order: a refusal leaves the sheet as it was.
 unfoldable pub judged : List Row → Outcome → List ℕ → Outcome
-judged rows outcome s = cond (eqb (verdict rows) 0) outcome (verdict rows ∷ [], s)
+judged rows outcome s = judge (λ n. (n ∷ [], s)) rows outcome
 
 abbrev pub done : List ℕ
 done = 0 ∷ []

@@ -14,7 +14,7 @@ ghost use mathlib.Core.Path.{_≡_};
 ghost use Prim.Native.Nat.{_+_, _≤_, _<_, _^_};
 ghost use lib.ListN.{length};
 ghost use Rattle.model.specs.Positions.{rowLength};
-ghost use Rattle.sheet.specs.Sheet.{sheetSize, rowSize, deskCount};
+ghost use Rattle.sheet.specs.Sheet.{sheetSize, rowSize, byteBits, deskCount};
 ghost use Rattle.changes.specs.Rows.{tickedAt};
 ghost use Rattle.changes.specs.Bytes.{markRow, markPosition, markDesk};
 ghost use Rattle.sheet.specs.Words.{answerWords};
@@ -76,7 +76,7 @@ pub fn is_ticked(s: &[u8], a: usize, i: usize) -> bool
 }
 
 fn tick_bit(k: usize) -> u8
-    requires { ⌜ k < 8 ⌝ }
+    requires { ⌜ k < byteBits ⌝ }
     ensures { λ r. ⌜ r ≡ 2 ^ k ⌝ }
 {
     1u8 << k

@@ -73,14 +73,23 @@ rsrSpacecraft s = byteAt s 15
 abbrev pub pass : List ℕ → ℕ
 pass s = fieldAt s 16 2
 
+abbrev pub rsrUplinkAt : ℕ
+rsrUplinkAt = 18
+
 abbrev pub rsrUplink : List ℕ → ℕ
-rsrUplink s = byteAt s 18
+rsrUplink s = byteAt s rsrUplinkAt
+
+abbrev pub downlinkAt : ℕ
+downlinkAt = 19
 
 abbrev pub downlink : List ℕ → ℕ
-downlink s = byteAt s 19
+downlink s = byteAt s downlinkAt
+
+abbrev pub rsrModeAt : ℕ
+rsrModeAt = 20
 
 abbrev pub rsrMode : List ℕ → ℕ
-rsrMode s = byteAt s 20
+rsrMode s = byteAt s rsrModeAt
 
 abbrev pub uplinkStation : List ℕ → ℕ
 uplinkStation s = byteAt s 21
@@ -92,26 +101,44 @@ signedByte b = cond (ltb b 128) (pos b) (pos b -ℤ pos 256)
 abbrev pub expected : List ℕ → ℤ
 expected s = signedByte (byteAt s 22)
 
+abbrev pub bandwidthAt : ℕ
+bandwidthAt = 23
+
 abbrev pub bandwidth : List ℕ → ℕ
-bandwidth s = byteAt s 23
+bandwidth s = byteAt s bandwidthAt
 
 abbrev pub overrideFlag : List ℕ → ℕ
 overrideFlag s = byteAt s 24
 
+abbrev pub attenuationAt : ℕ
+attenuationAt = 25
+
 abbrev pub attenuation : List ℕ → ℕ
-attenuation s = byteAt s 25
+attenuation s = byteAt s attenuationAt
+
+abbrev pub rmsAt : ℕ
+rmsAt = 26
 
 abbrev pub rms : List ℕ → ℕ
-rms s = byteAt s 26
+rms s = byteAt s rmsAt
+
+abbrev pub peakAt : ℕ
+peakAt = 27
 
 abbrev pub peak : List ℕ → ℕ
-peak s = byteAt s 27
+peak s = byteAt s peakAt
+
+abbrev pub yearAt : ℕ
+yearAt = 28
 
 abbrev pub year : List ℕ → ℕ
-year s = fieldAt s 28 2
+year s = fieldAt s yearAt 2
+
+abbrev pub dayAt : ℕ
+dayAt = 30
 
 abbrev pub day : List ℕ → ℕ
-day s = fieldAt s 30 2
+day s = fieldAt s dayAt 2
 
 abbrev pub overrideFrequency : List ℕ → ℕ
 overrideFrequency s = fieldAt s 64 8

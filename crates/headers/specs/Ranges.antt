@@ -12,7 +12,7 @@ use Rattle.sfdu.specs.Nesting.{primaryValueAt, secondaryAt}
 use Rattle.headers.specs.declared.Allowed.{Allowed}
 use Rattle.headers.specs.declared.Allowed.the-variants.{Between, Bands}
 use Rattle.headers.specs.declared.Judged.{Judged}
-use Rattle.headers.specs.Fields.{uplinkAt, uplink, hasBand, year, day}
+use Rattle.headers.specs.Fields.{uplinkAt, uplink, hasBand, year, day, rsrUplinkAt, downlinkAt, rsrModeAt, bandwidthAt, attenuationAt, rmsAt, peakAt, yearAt, dayAt}
 use Rattle.headers.specs.Date.{isYear, isDay}
 
 -- The letters of the bands: K, S, U, X.
@@ -46,13 +46,13 @@ judgedBytes =
     record { at = primaryValueAt; allowed = Between 21 21 }
     ∷ record { at = primaryValueAt + 1; allowed = Between 4 4 }
     ∷ record { at = primaryValueAt + 3; allowed = Between 0 0 }
-    ∷ record { at = secondaryAt + 18; allowed = Bands }
-    ∷ record { at = secondaryAt + 19; allowed = Bands }
-    ∷ record { at = secondaryAt + 20; allowed = Between 1 3 }
-    ∷ record { at = secondaryAt + 23; allowed = Between 1 127 }
-    ∷ record { at = secondaryAt + 25; allowed = Between 0 63 }
-    ∷ record { at = secondaryAt + 26; allowed = Between 0 128 }
-    ∷ record { at = secondaryAt + 27; allowed = Between 0 128 }
+    ∷ record { at = secondaryAt + rsrUplinkAt; allowed = Bands }
+    ∷ record { at = secondaryAt + downlinkAt; allowed = Bands }
+    ∷ record { at = secondaryAt + rsrModeAt; allowed = Between 1 3 }
+    ∷ record { at = secondaryAt + bandwidthAt; allowed = Between 1 127 }
+    ∷ record { at = secondaryAt + attenuationAt; allowed = Between 0 63 }
+    ∷ record { at = secondaryAt + rmsAt; allowed = Between 0 128 }
+    ∷ record { at = secondaryAt + peakAt; allowed = Between 0 128 }
     ∷ []
 
 abbrev pub byteRow : List ℕ → Judged → Row
@@ -62,7 +62,7 @@ abbrev pub byteRows : List ℕ → List Row
 byteRows s = map (byteRow s) judgedBytes
 
 abbrev pub dateRows : List ℕ → List Row
-dateRows s = ((secondaryAt + 28) when not (isYear (year s))) ∷ ((secondaryAt + 30) when not (isDay (year s) (day s))) ∷ []
+dateRows s = ((secondaryAt + yearAt) when not (isYear (year s))) ∷ ((secondaryAt + dayAt) when not (isDay (year s) (day s))) ∷ []
 
 -- Each judged field, from the lowest: its offset, given when it is out of range.
 abbrev pub fieldRows : Kind → List ℕ → List Row

@@ -110,12 +110,12 @@ unpack m n o p key hn ho hp h =
 
 -- A call answers a key exactly where the numbers fit, and then the key is the formula's.
 answered : (a m b n c o d p formula key : ℕ)
-    → made (verdict ((22 when not (ltb a m && ltb b n && ltb c o && ltb d p)) ∷ [])) formula ≡ 0 ∷ key ∷ []
+    → made ((22 when not (ltb a m && ltb b n && ltb c o && ltb d p)) ∷ []) formula ≡ 0 ∷ key ∷ []
     → Below a m b n c o d p × (key ≡ formula)
 unfolding verdict
 answered a m b n c o d p formula key = at (ltb a m && ltb b n && ltb c o && ltb d p) refl
   where
-    at : (fit : Bool) → (ltb a m && ltb b n && ltb c o && ltb d p) ≡ fit → made (verdict ((22 when not fit) ∷ [])) formula ≡ 0 ∷ key ∷ []
+    at : (fit : Bool) → (ltb a m && ltb b n && ltb c o && ltb d p) ≡ fit → made ((22 when not fit) ∷ []) formula ≡ 0 ∷ key ∷ []
         → Below a m b n c o d p × (key ≡ formula)
     at true t e = (below a m b n c o d p t, cc)
     at false t e = absurd (let z : _≡_ {A = ℕ} 0 1 = cc in omega arith)

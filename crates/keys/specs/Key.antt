@@ -1,10 +1,10 @@
 -- Document 01, "Stream key": how a key is made of a stream's four numbers, which keys are valid, and what the two calls that
 -- make one answer. Assumes nothing.
 use Prim.Native.Nat.{ℕ, _+_, _*_, _^_}
-use mathlib.Core.Bool.{Bool, not, cond, _&&_, _||_}
+use mathlib.Core.Bool.{Bool, not, _&&_, _||_}
 use mathlib.Core.List.{List, [], _∷_}
-use lib.Dec.{eqb, leb, ltb}
-use Rattle.refusals.specs.Judge.{_when_, verdict}
+use lib.Dec.{leb, ltb}
+use Rattle.refusals.specs.Judge.{Row, _when_, answered}
 
 -- "Telemetry: spacecraft x 2^32 + source x 2^24 + equipment x 2^8 + virtual stream."
 abbrev pub telemetryKey : (spacecraft source equipment stream : ℕ) → ℕ
@@ -45,18 +45,18 @@ abbrev pub rsrFits : (spacecraft station receiver subchannel : ℕ) → Bool
 rsrFits spacecraft station receiver subchannel = fits 8 spacecraft && fits 8 station && fits 8 receiver && fits 8 subchannel
 
 -- The answer of a call that makes a key: 0 and the key, or the refusal's number alone.
-abbrev pub made : (refusal key : ℕ) → List ℕ
-made refusal key = cond (eqb refusal 0) (0 ∷ key ∷ []) (refusal ∷ [])
+abbrev pub made : List Row → (key : ℕ) → List ℕ
+made rows key = answered rows (0 ∷ key ∷ [])
 
 -- "A call for each kind makes the key from its four numbers; 22 where one is wider than its field."
 unfoldable pub telemetryKeyCall : (spacecraft source equipment stream : ℕ) → List ℕ
 telemetryKeyCall spacecraft source equipment stream =
     made
-    (verdict ((22 when not (telemetryFits spacecraft source equipment stream)) ∷ []))
+    ((22 when not (telemetryFits spacecraft source equipment stream)) ∷ [])
     (telemetryKey spacecraft source equipment stream)
 
 unfoldable pub rsrKeyCall : (spacecraft station receiver subchannel : ℕ) → List ℕ
 rsrKeyCall spacecraft station receiver subchannel =
     made
-    (verdict ((22 when not (rsrFits spacecraft station receiver subchannel)) ∷ []))
+    ((22 when not (rsrFits spacecraft station receiver subchannel)) ∷ [])
     (rsrKey spacecraft station receiver subchannel)

@@ -1,6 +1,6 @@
 -- What the program's buffer, a window onto the stream, gives: what the whole stream would give, however it goes on. Assumes
 -- nothing.
-use Prim.Native.Nat.{ℕ, _+_, _-_, _≤_, _<_, _^_}
+use Prim.Native.Nat.{ℕ, _+_, _-_, _/_, _≤_, _<_, _^_}
 use mathlib.Core.Bool.{Bool, true, false, not, cond, _&&_, _||_}
 use mathlib.Core.List.{List, [], _∷_, _++_}
 use mathlib.Core.Path.{_≡_}
@@ -14,6 +14,7 @@ use Rattle.listing.specs.declared.Found.{Found}
 use Rattle.listing.specs.declared.Found.the-variants.{Record, More, Stop}
 use Rattle.listing.specs.declared.Drained.{Drained}
 use Rattle.listing.specs.declared.State.{State}
+use Rattle.listing.specs.Text.{mostLast}
 use Rattle.listing.specs.Listing.{bufferSize, refusal, whole, stopNumber, linesFrom}
 
 -- ---- the record at the start of s, what the window holds from a place on
@@ -70,7 +71,7 @@ pub record Drains (w : List ℕ) (place : ℕ) (last : Bool) (old new : List ℕ
 -- The most bytes of text for one window: a third of it, since a record has 120 bytes at least and its line 40 at most; and the
 -- last line.
 abbrev pub mostText : ℕ
-mostText = 21870
+mostText = bufferSize / 3 + 1 + mostLast
 
 -- The window and the text's buffer have room, and the place does not wrap.
 pub record Ready (w out : List ℕ) (s : State) (got : ℕ) : Type 0 where

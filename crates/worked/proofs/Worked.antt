@@ -117,7 +117,7 @@ worked = (
                                         both p9-stale low9-stale,
                                         (
                                           both p9 low9,
-                                          (ap (map number) (said p10 low10), (ap (map number) (ticks p10 low10), tt)),
+                                          (ap (map number) (said p10 low10), (both p10 low10, tt)),
                                         ),
                                       ),
                                     ),

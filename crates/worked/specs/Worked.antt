@@ -109,5 +109,5 @@ table =
     ∷ numbers (tickByteAfter p9 ++ reportAfter p9) (3 ∷ 0 ∷ 2 ∷ 0 ∷ [])
     -- P10 the row is back at what A opened: accepted, 7.
     ∷ numbers (verdicts p10) (0 ∷ 0 ∷ 0 ∷ 0 ∷ 0 ∷ 0 ∷ 0 ∷ 0 ∷ 0 ∷ 0 ∷ [])
-    ∷ numbers (tickByteAfter p10) (64 ∷ [])
+    ∷ numbers (tickByteAfter p10 ++ reportAfter p10) (64 ∷ 0 ∷ 1 ∷ 6 ∷ 1 ∷ [])
     ∷ []
