@@ -1,10 +1,10 @@
-// The header of a frame.
-ghost use Prim.Native.Nat.{_≤_};
-ghost use lib.ListN.{length};
+// A frame of the script on standard input.
+use libc::STDIN_FILENO;
+use lines::Frame;
 use octets::read_be;
 use octets::read_u32;
 
-pub const HEADER: usize = 40;
+const HEADER: usize = 40;
 
 const NUMBER: usize = 4;
 
@@ -26,21 +26,35 @@ const LENGTH_A_AT: usize = KEY_AT + KEY;
 
 const LENGTH_B_AT: usize = LENGTH_A_AT + NUMBER;
 
-// What a call is and takes, and the lengths of the two runs that stand behind the header.
-pub struct Frame {
-    pub op: u32,
-    pub x: u32,
-    pub y: u32,
-    pub z: u32,
-    pub w: u32,
-    pub key: u64,
-    pub a: usize,
-    pub b: usize,
+// The most bytes of the two runs that stand behind the header.
+const MOST_A: usize = 131072;
+
+const MOST_B: usize = 66000;
+
+pub const MOST_RUNS: usize = MOST_A + MOST_B;
+
+// What comes next in the script.
+pub enum Next {
+    End,
+    Bad,
+    Frame(Frame),
 }
 
-pub fn read_header(s: &[u8]) -> Frame
-    requires { ⌜ 40 ≤ length (now s) ⌝ }
-{
+// Reads a frame, its two runs to the start of `runs`, one behind the other.
+pub fn read(runs: &mut [u8]) -> Next {
+    let mut header = [0u8; HEADER];
+    let got = io::read_full(STDIN_FILENO, &mut header);
+    if got == 0 {
+        return Next::End;
+    }
+    if got < HEADER {
+        return Next::Bad;
+    }
+    read_runs(runs, read_header(&header))
+}
+
+fn read_header(header: &[u8; HEADER]) -> Frame {
+    let s: &[u8] = header;
     Frame {
         op: read_u32(s, OP_AT),
         x: read_u32(s, X_AT),
@@ -51,4 +65,40 @@ pub fn read_header(s: &[u8]) -> Frame
         a: read_u32(s, LENGTH_A_AT) as usize,
         b: read_u32(s, LENGTH_B_AT) as usize,
     }
+}
+
+// The frame, where its runs are not too long, there is room for them and they come.
+fn read_runs(runs: &mut [u8], f: Frame) -> Next {
+    let a = f.a;
+    let b = f.b;
+    if MOST_A < a {
+        return Next::Bad;
+    }
+    if MOST_B < b {
+        return Next::Bad;
+    }
+    let n = a + b;
+    if runs.len() < n {
+        return Next::Bad;
+    }
+    if io::read_full(STDIN_FILENO, &mut runs[..n]) < n {
+        return Next::Bad;
+    }
+    Next::Frame(f)
+}
+
+// The first n bytes of s, or all where it has fewer.
+pub fn first(s: &[u8], n: usize) -> &[u8] {
+    if s.len() < n {
+        return s;
+    }
+    &s[..n]
+}
+
+// What stands behind the first n bytes of s, or all where it has fewer.
+pub fn behind(s: &[u8], n: usize) -> &[u8] {
+    if s.len() < n {
+        return s;
+    }
+    &s[n..]
 }

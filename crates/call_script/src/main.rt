@@ -2,38 +2,25 @@
 ghost use Prim.Native.Nat.{_<_};
 
 mod calls;
-mod crc;
 mod frame;
-mod records;
 mod sheets;
 mod text;
 
-use calls::call;
-use frame::Frame;
-use frame::HEADER;
-use libc::STDIN_FILENO;
+use frame::MOST_RUNS;
+use frame::Next;
+use frame::behind;
+use frame::first;
 use libc::STDOUT_FILENO;
-use text::crc_of;
-use text::end_line;
-use text::prefix;
-use text::word;
+use lines::Frame;
+use lines::line::Line;
 
-// The most bytes of a frame's runs, of the slice that write one is lent, of the sheet and of the text.
-const MOST_A: usize = 131072;
-
-const MOST_B: usize = 66000;
-
-const MOST_SLICE: usize = 70000;
-
+// The most bytes of the sheet and of the text.
 const MOST_SHEET: usize = 8192;
 
 const MOST_TEXT: usize = 65536;
 
 // Text is written once there is more of it than this: then there is room for the longest line.
 const ENOUGH: usize = 32768;
-
-// The op that is no call: the sheet becomes the bytes of the frame's first run.
-const NEW_SHEET: u32 = 19;
 
 // A proved loop has to end, and nothing says that a script does: so the loop counts its frames down, from 2^47, which no run uses
 // up.
@@ -46,16 +33,21 @@ struct State {
     on: bool,
 }
 
-fn main() {
-    let mut a = [0u8; MOST_A];
-    let mut b = [0u8; MOST_B];
-    let mut slice = [0u8; MOST_SLICE];
-    let mut sheet = [0u8; MOST_SHEET];
-    let mut text = [0u8; MOST_TEXT];
-    run(&mut a, &mut b, &mut slice, &mut sheet, &mut text);
+// What a frame makes: its line, the length of the sheet after it, and whether the run goes on.
+struct Turn {
+    line: Line,
+    sheet: usize,
+    on: bool,
 }
 
-fn run(a: &mut [u8], b: &mut [u8], slice: &mut [u8], sheet: &mut [u8], out: &mut [u8]) {
+fn main() {
+    let mut runs = [0u8; MOST_RUNS];
+    let mut sheet = [0u8; MOST_SHEET];
+    let mut text = [0u8; MOST_TEXT];
+    run(&mut runs, &mut sheet, &mut text);
+}
+
+fn run(runs: &mut [u8], sheet: &mut [u8], out: &mut [u8]) {
     let mut s = State {
         sheet: sheet::SHEET,
         text: 0,
@@ -63,7 +55,7 @@ fn run(a: &mut [u8], b: &mut [u8], slice: &mut [u8], sheet: &mut [u8], out: &mut
     };
     let mut frames = FRAMES;
     while 0 < frames {
-        s = take_frame(a, b, slice, sheet, out, s);
+        s = lay_out(out, s.text, take_frame(runs, sheet, s.sheet));
         frames = frames_left(s, frames);
     }
     flush(out, s);
@@ -80,103 +72,67 @@ fn frames_left(s: State, frames: u64) -> u64
     0
 }
 
-// Reads a frame, makes its call and lays out its line.
-fn take_frame(
-    a: &mut [u8],
-    b: &mut [u8],
-    slice: &mut [u8],
-    sheet: &mut [u8],
-    out: &mut [u8],
-    s: State,
-) -> State {
-    let mut room = [0u8; HEADER];
-    let header: &mut [u8] = &mut room;
-    let got = io::read_full(STDIN_FILENO, header);
-    if got == 0 {
-        return State {
-            sheet: s.sheet,
-            text: s.text,
+// Reads a frame and makes its call. The sheet is the first n bytes of its room.
+fn take_frame(runs: &mut [u8], sheet: &mut [u8], n: usize) -> Turn {
+    let next = frame::read(runs);
+    match next {
+        Next::End => Turn {
+            line: Line::empty(),
+            sheet: n,
             on: false,
-        };
+        },
+        Next::Bad => bad_frame(n),
+        Next::Frame(f) => answer(f, runs, sheet, n),
     }
-    if got < HEADER {
-        return bad_frame(out, s);
-    }
-    let f = frame::read_header(header);
-    if !read_run(a, f.a) | !read_run(b, f.b) {
-        return bad_frame(out, s);
-    }
-    let answered = answer(f, prefix(a, f.a), prefix(b, f.b), slice, sheet, out, s);
-    if answered.text <= ENOUGH {
-        return answered;
-    }
-    flush(out, answered)
 }
 
-// Reads n bytes to the start of s, and says whether there is room for them and they came.
-fn read_run(s: &mut [u8], n: usize) -> bool {
-    if s.len() < n {
-        return false;
-    }
-    io::read_full(STDIN_FILENO, &mut s[..n]) == n
-}
-
-fn bad_frame(out: &mut [u8], s: State) -> State {
-    let end = word(out, s.text, b"bad frame");
-    end_line(out, end);
-    State {
-        sheet: s.sheet,
-        text: end,
+fn bad_frame(n: usize) -> Turn {
+    Turn {
+        line: Line::bad_frame(),
+        sheet: n,
         on: false,
     }
 }
 
-fn answer(
-    f: Frame,
-    a: &[u8],
-    b: &[u8],
-    slice: &mut [u8],
-    sheet: &mut [u8],
-    out: &mut [u8],
-    s: State,
-) -> State {
-    let n = s.sheet;
-    if sheet.len() < n {
-        return bad_frame(out, s);
+fn answer(f: Frame, runs: &[u8], sheet: &mut [u8], n: usize) -> Turn {
+    let a = first(runs, f.a);
+    let b = first(behind(runs, f.a), f.b);
+    let line = calls::call(f, a, b, sheet, n);
+    if line.count == 0 {
+        return bad_frame(n);
     }
-    if f.op == NEW_SHEET {
-        return new_sheet(a, sheet, out, s);
-    }
-    let end = call(f, a, b, slice, &mut sheet[..n], out, s.text);
-    if end == s.text {
-        return bad_frame(out, s);
-    }
-    end_line(out, end);
-    State {
-        sheet: n,
-        text: end,
+    Turn {
+        line,
+        sheet: sheet_after(f, n),
         on: true,
     }
 }
 
-fn new_sheet(a: &[u8], sheet: &mut [u8], out: &mut [u8], s: State) -> State {
-    if sheet.len() < a.len() {
-        return bad_frame(out, s);
+// The length of the sheet after a frame.
+fn sheet_after(f: Frame, n: usize) -> usize {
+    if f.op == calls::NEW_SHEET {
+        return f.a;
     }
-    bytes::copy(a, sheet);
-    let zero = records::accepted(out, s.text);
-    let end = crc_of(out, zero, a);
-    end_line(out, end);
-    State {
-        sheet: a.len(),
-        text: end,
-        on: true,
+    n
+}
+
+// Lays out the line of a frame, and writes the text once there is enough of it.
+fn lay_out(out: &mut [u8], at: usize, turn: Turn) -> State {
+    let line = turn.line;
+    let s = State {
+        sheet: turn.sheet,
+        text: text::lay_out(out, at, line),
+        on: turn.on,
+    };
+    if s.text <= ENOUGH {
+        return s;
     }
+    flush(out, s)
 }
 
 // Writes the text that is laid out. A run whose text cannot be written ends.
 fn flush(out: &[u8], s: State) -> State {
-    let is_written = io::write_all(STDOUT_FILENO, prefix(out, s.text));
+    let is_written = io::write_all(STDOUT_FILENO, first(out, s.text));
     State {
         sheet: s.sheet,
         text: 0,

@@ -1,84 +1,101 @@
 // The lines of the calls on the ledger sheet.
-use crate::frame::Frame;
-use crate::records::accepted;
-use crate::records::refusal;
-use crate::text::number32;
-use crate::text::word;
+use lines::Frame;
+use lines::crc::crc;
+use lines::line::Line;
 use sheet::Answer;
 use sheet::GapAnswer;
 use sheet::ReportAnswer;
 use sheet::RowAnswer;
 
-// The words of a call on the sheet, but for the crc; none where the op is no such call.
-pub fn call(f: Frame, s: &mut [u8], out: &mut [u8], at: usize) -> usize {
+// The sheet becomes the bytes of a.
+pub fn new_sheet(a: &[u8], room: &mut [u8]) -> Line {
+    if room.len() < a.len() {
+        return Line::empty();
+    }
+    bytes::copy(a, room);
+    Line::accepted().number32(crc(a))
+}
+
+// A call on the sheet, which is the first n bytes of its room. The crc of the whole sheet after the call ends its line.
+pub fn on_sheet(f: Frame, room: &mut [u8], n: usize) -> Line {
+    if room.len() < n {
+        return Line::empty();
+    }
+    let s = &mut room[..n];
+    let line = call(f, s);
+    if line.count == 0 {
+        return line;
+    }
+    line.number32(crc(s))
+}
+
+fn call(f: Frame, s: &mut [u8]) -> Line {
     let op = f.op;
     match op {
-        20 => done(out, at, ledger::fresh(s)),
-        21 => row(out, at, ledger::enrol(s, f.key, f.x)),
-        22 => row(out, at, ledger::find(s, f.key)),
-        23 => done(out, at, ledger::open(s, f.x, f.y)),
-        24 => done(out, at, ledger::tick(s, f.x, f.y)),
-        25 => done(out, at, ledger::untick(s, f.x, f.y)),
-        26 => done(out, at, ledger::save(s, f.x)),
-        27 => done(out, at, ledger::drop(s, f.x)),
-        28 => report(out, at, ledger::row_report(s, f.x)),
-        29 => gap(out, at, ledger::first_gap(s)),
-        _ => at,
+        20 | 23..=27 => done(change(f, s)),
+        21 => row(ledger::enrol(s, f.key, f.x)),
+        _ => ask(f, s),
     }
 }
 
-fn done(out: &mut [u8], at: usize, answer: Answer) -> usize {
-    match answer {
-        Answer::Done => accepted(out, at),
-        Answer::Refused(why) => refusal(out, at, why),
+// The calls that say no more than whether they are done.
+fn change(f: Frame, s: &mut [u8]) -> Answer {
+    let op = f.op;
+    match op {
+        20 => ledger::fresh(s),
+        23 => ledger::open(s, f.x, f.y),
+        24 => ledger::tick(s, f.x, f.y),
+        25 => ledger::untick(s, f.x, f.y),
+        26 => ledger::save(s, f.x),
+        _ => ledger::drop(s, f.x),
     }
 }
 
-fn row(out: &mut [u8], at: usize, answer: RowAnswer) -> usize {
-    match answer {
-        RowAnswer::Row(row) => {
-            let zero = accepted(out, at);
-            number32(out, zero, row)
-        }
-        RowAnswer::Refused(why) => refusal(out, at, why),
+// The calls that change nothing.
+fn ask(f: Frame, s: &[u8]) -> Line {
+    let op = f.op;
+    match op {
+        22 => row(ledger::find(s, f.key)),
+        28 => report(ledger::row_report(s, f.x)),
+        29 => gap(ledger::first_gap(s)),
+        _ => Line::empty(),
     }
 }
 
-fn report(out: &mut [u8], at: usize, answer: ReportAnswer) -> usize {
+fn done(answer: Answer) -> Line {
     match answer {
-        ReportAnswer::Whole { ticked } => {
-            let counts = counts(out, at, ticked, 0);
-            word(out, counts, b"none")
-        }
+        Answer::Done => Line::accepted(),
+        Answer::Refused(why) => Line::refused(why),
+    }
+}
+
+fn row(answer: RowAnswer) -> Line {
+    match answer {
+        RowAnswer::Row(row) => Line::accepted().number32(row),
+        RowAnswer::Refused(why) => Line::refused(why),
+    }
+}
+
+fn report(answer: ReportAnswer) -> Line {
+    match answer {
+        ReportAnswer::Whole { ticked } => counts(ticked, 0).nothing(),
         ReportAnswer::Gaps {
             ticked,
             missing,
             lowest,
-        } => {
-            let counts = counts(out, at, ticked, missing);
-            number32(out, counts, lowest)
-        }
-        ReportAnswer::Refused(why) => refusal(out, at, why),
+        } => counts(ticked, missing).number32(lowest),
+        ReportAnswer::Refused(why) => Line::refused(why),
     }
 }
 
-fn counts(out: &mut [u8], at: usize, ticked: u32, missing: u32) -> usize {
-    let zero = accepted(out, at);
-    let counted = number32(out, zero, ticked);
-    number32(out, counted, missing)
+fn counts(ticked: u32, missing: u32) -> Line {
+    Line::accepted().number32(ticked).number32(missing)
 }
 
-fn gap(out: &mut [u8], at: usize, answer: GapAnswer) -> usize {
+fn gap(answer: GapAnswer) -> Line {
     match answer {
-        GapAnswer::Nothing => {
-            let zero = accepted(out, at);
-            word(out, zero, b"none")
-        }
-        GapAnswer::Gap { number, row } => {
-            let zero = accepted(out, at);
-            let numbered = number32(out, zero, number);
-            number32(out, numbered, row)
-        }
-        GapAnswer::Refused(why) => refusal(out, at, why),
+        GapAnswer::Nothing => Line::accepted().nothing(),
+        GapAnswer::Gap { number, row } => Line::accepted().number32(number).number32(row),
+        GapAnswer::Refused(why) => Line::refused(why),
     }
 }

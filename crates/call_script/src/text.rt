@@ -1,12 +1,59 @@
-// The words of a line. Each function puts its words from index `at` on, a space behind each, and answers where they end. The text
-// has room for many of the longest lines; a word that finds none is left out.
-use crate::crc::crc;
+// The text of a line. Each function lays its words out from index `at` on, a space behind each, and answers where they end. The
+// text has room for many of the longest lines; a word that finds none is left out.
+use lines::line::Form;
+use lines::line::Line;
+use lines::line::MOST_WORDS;
+use lines::line::Word;
 
 const SPACE: u8 = b' ';
 
 const LINE_END: u8 = b'\n';
 
-pub fn word(out: &mut [u8], at: usize, text: &[u8]) -> usize {
+// Lays out a line, if it has words.
+pub fn lay_out(out: &mut [u8], at: usize, line: Line) -> usize {
+    if line.count == 0 {
+        return at;
+    }
+    let end = words(out, at, line);
+    end_line(out, end);
+    end
+}
+
+fn words(out: &mut [u8], at: usize, line: Line) -> usize {
+    let mut end = at;
+    for i in 0..MOST_WORDS {
+        if line.count <= i {
+            return end;
+        }
+        end = word(out, end, line.words[i]);
+    }
+    end
+}
+
+fn word(out: &mut [u8], at: usize, word: Word) -> usize {
+    let form = word.form;
+    match form {
+        Form::Number => number(out, at, word.n),
+        Form::Minus => minus(out, at, word.n),
+        Form::Nothing => letters(out, at, b"none"),
+        Form::Done => letters(out, at, b"done"),
+        Form::BadFrame => letters(out, at, b"bad frame"),
+    }
+}
+
+fn number(out: &mut [u8], at: usize, n: u64) -> usize {
+    let mut digits = [0u8; 20];
+    let k = io::decimal(n, &mut digits);
+    letters(out, at, &digits[..k])
+}
+
+// The digits overwrite the space behind the sign.
+fn minus(out: &mut [u8], at: usize, n: u64) -> usize {
+    let sign = before(letters(out, at, b"-"));
+    number(out, sign, n)
+}
+
+fn letters(out: &mut [u8], at: usize, text: &[u8]) -> usize {
     if out.len() <= at {
         return at;
     }
@@ -20,68 +67,8 @@ pub fn word(out: &mut [u8], at: usize, text: &[u8]) -> usize {
     end + 1
 }
 
-pub fn number(out: &mut [u8], at: usize, n: u64) -> usize {
-    let mut digits = [0u8; 20];
-    let k = io::decimal(n, &mut digits);
-    word(out, at, &digits[..k])
-}
-
-// The same for the narrower numbers.
-pub fn number32(out: &mut [u8], at: usize, n: u32) -> usize {
-    number(out, at, n as u64)
-}
-
-pub fn number16(out: &mut [u8], at: usize, n: u16) -> usize {
-    number(out, at, n as u64)
-}
-
-pub fn number8(out: &mut [u8], at: usize, n: u8) -> usize {
-    number(out, at, n as u64)
-}
-
-pub fn size(out: &mut [u8], at: usize, n: usize) -> usize {
-    number(out, at, n as u64)
-}
-
-// A number with a minus sign where it is negative.
-pub fn signed(out: &mut [u8], at: usize, n: i8) -> usize {
-    if n >= 0 {
-        return number(out, at, magnitude(n));
-    }
-    let sign = before(word(out, at, b"-"));
-    number(out, sign, magnitude(n))
-}
-
-fn magnitude(n: i8) -> u64 {
-    if n >= 0 {
-        return n as u64;
-    }
-    (0 - n as i16) as u64
-}
-
-pub fn numbers64(out: &mut [u8], at: usize, list: &[u64]) -> usize {
-    let mut end = at;
-    for i in 0..list.len() {
-        end = number(out, end, list[i]);
-    }
-    end
-}
-
-pub fn numbers32(out: &mut [u8], at: usize, list: &[u32]) -> usize {
-    let mut end = at;
-    for i in 0..list.len() {
-        end = number32(out, end, list[i]);
-    }
-    end
-}
-
-// The CRC-32 of some bytes.
-pub fn crc_of(out: &mut [u8], at: usize, s: &[u8]) -> usize {
-    number32(out, at, crc(s))
-}
-
 // The last space of a line becomes its end.
-pub fn end_line(out: &mut [u8], at: usize) {
+fn end_line(out: &mut [u8], at: usize) {
     let last = before(at);
     if last < out.len() {
         out[last] = LINE_END;
@@ -93,18 +80,4 @@ fn before(at: usize) -> usize {
         return 0;
     }
     at - 1
-}
-
-// The first n bytes of s, or all where it has fewer.
-pub fn prefix(s: &[u8], n: usize) -> &[u8] {
-    if s.len() < n {
-        return s;
-    }
-    &s[..n]
-}
-
-pub fn fill(s: &mut [u8], b: u8) {
-    for i in 0..s.len() {
-        s[i] = b;
-    }
 }

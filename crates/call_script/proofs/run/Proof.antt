@@ -6,16 +6,19 @@ use Rattle.call_script.proofs.run.Statement.{statement}
 use Rattle.call_script.proofs.run.Tie as tie
 
 abbrev Inv-loop : tie.InvT-loop
-Inv-loop a₀ b₀ slice₀ sheet₀ out₀ s₀ frames₀ a b slice sheet out s frames = (length a ≡ length a₀) × (length b ≡ length b₀) × (length slice ≡ length slice₀) × (length sheet ≡ length sheet₀) × (length out ≡ length out₀)
+Inv-loop runs₀ sheet₀ out₀ s₀ frames₀ runs sheet out s frames = (length runs ≡ length runs₀) × (length sheet ≡ length sheet₀) × (length out ≡ length out₀)
 
 abbrev μ-loop : tie.MeasureT-loop
-μ-loop a₀ b₀ slice₀ sheet₀ out₀ s₀ frames₀ a b slice sheet out s frames = frames
+μ-loop runs₀ sheet₀ out₀ s₀ frames₀ runs sheet out s frames = frames
 
 loop-holds : tie.Need-loop-holds Inv-loop μ-loop
-loop-holds c = (refl, refl, refl, refl, refl)
+loop-holds c = (refl, refl, refl)
 
 take-frame-requires : tie.Need-take-frame-requires Inv-loop μ-loop
 take-frame-requires c κs = tt
+
+lay-out-requires : tie.Need-lay-out-requires Inv-loop μ-loop
+lay-out-requires c κs = tt
 
 frames-left-requires : tie.Need-frames-left-requires Inv-loop μ-loop
 frames-left-requires c κs = omega arith
@@ -24,7 +27,7 @@ loop-less : tie.Need-loop-less Inv-loop μ-loop
 loop-less c = omega arith
 
 loop-again : tie.Need-loop-again Inv-loop μ-loop
-loop-again c = (omega arith, omega arith, omega arith, omega arith, omega arith)
+loop-again c = (omega arith, omega arith, omega arith)
 
 flush-requires : tie.Need-flush-requires Inv-loop μ-loop
 flush-requires c κs = tt
@@ -38,12 +41,6 @@ same-length-2 c = c .before .before .before .loop .inv .1
 same-length-3 : tie.Need-same-length-3 Inv-loop μ-loop
 same-length-3 c = c .before .before .before .loop .inv .2
 
-same-length-4 : tie.Need-same-length-4 Inv-loop μ-loop
-same-length-4 c = c .before .before .before .loop .inv .3
-
-same-length-5 : tie.Need-same-length-5 Inv-loop μ-loop
-same-length-5 c = c .before .before .before .loop .inv .4
-
 returns : tie.Need-returns Inv-loop μ-loop
 returns c = tt
 
@@ -55,6 +52,7 @@ run-spec =
     μ-loop
     loop-holds
     take-frame-requires
+    lay-out-requires
     frames-left-requires
     loop-less
     loop-again
@@ -62,6 +60,4 @@ run-spec =
     same-length
     same-length-2
     same-length-3
-    same-length-4
-    same-length-5
     returns)

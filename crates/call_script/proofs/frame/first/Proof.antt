@@ -1,10 +1,10 @@
--- `call_script::text::prefix` is safe. Assumes nothing.
+-- `call_script::frame::first` is safe. Assumes nothing.
 use native.Mathlib.Omega.{arith}
 use mathlib.Core.Path.{sym}
 use lib.Seq.{length-take-le}
 use borrow.Author.Needs.{needs}
-use Rattle.call_script.proofs.text.prefix.Statement.{statement}
-use Rattle.call_script.proofs.text.prefix.Tie as tie
+use Rattle.call_script.proofs.frame.first.Statement.{statement}
+use Rattle.call_script.proofs.frame.first.Tie as tie
 
 returns : tie.Need-returns
 returns c = search needs
@@ -15,5 +15,5 @@ slice-aggregate-result c = sym (length-take-le _ _ (omega arith))
 returns-2 : tie.Need-returns-2
 returns-2 c = search needs
 
-pub prefix-spec : {M : Type 1} → statement M
-prefix-spec = tie.close (tie.spec returns slice-aggregate-result returns-2)
+pub first-spec : {M : Type 1} → statement M
+first-spec = tie.close (tie.spec returns slice-aggregate-result returns-2)

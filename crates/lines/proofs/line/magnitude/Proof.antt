@@ -1,4 +1,4 @@
--- `call_script::text::magnitude` is safe: an `i8` less its sign is a number of 16 bits. Assumes nothing.
+-- `lines::line::magnitude` is safe: an `i8` less its sign is a number of 16 bits. Assumes nothing.
 use native.Mathlib.Omega.{arith}
 use mathlib.Core.Bool.{true, false}
 use mathlib.Core.Path.{_≡_, subst, sym}
@@ -9,8 +9,8 @@ use borrow.Author.Needs.{needs, sfits-of}
 use mir.Syntax.{w8, w16, w64}
 use mir.Val.{Fits, SFits, toZ, ofZ}
 use mir.ValLaws.{toZ-ofZ}
-use Rattle.call_script.proofs.text.magnitude.Statement.{statement}
-use Rattle.call_script.proofs.text.magnitude.Tie as tie
+use Rattle.lines.proofs.line.magnitude.Statement.{statement}
+use Rattle.lines.proofs.line.magnitude.Tie as tie
 
 not-below : (n : ℤ) → leZ (pos 0) n ≡ true → T (nonNeg n)
 not-below (pos a) e = tt

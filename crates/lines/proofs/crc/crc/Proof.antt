@@ -1,10 +1,10 @@
--- `call_script::crc::crc` is safe and ends. Assumes nothing.
+-- `lines::crc::crc` is safe and ends. Assumes nothing.
 use native.Mathlib.Omega.{arith}
 use Prim.Native.Nat.{_≤_, _-_}
 use lib.ListN.{length}
 use mathlib.Core.Path.{_≡_, refl}
-use Rattle.call_script.proofs.crc.crc.Statement.{statement}
-use Rattle.call_script.proofs.crc.crc.Tie as tie
+use Rattle.lines.proofs.crc.crc.Statement.{statement}
+use Rattle.lines.proofs.crc.crc.Tie as tie
 
 abbrev Inv-loop : tie.InvT-loop
 Inv-loop s register₀ i₀ i-end register i = (i ≤ i-end) × (i-end ≡ length s)

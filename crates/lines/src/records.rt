@@ -1,0 +1,213 @@
+// The lines of the calls on records, keys and streams.
+use crate::Frame;
+use crate::crc::crc;
+use crate::line::ACCEPTED;
+use crate::line::Line;
+use headers::Band;
+use headers::Headers;
+use headers::RsrSignal;
+use headers::RsrSource;
+use headers::RsrTime;
+use headers::TelemetryFields;
+use keys::KeyAnswer;
+use sfdu::Kind;
+use sfdu::Primary;
+use sfdu::Read;
+use sfdu_write::Write;
+use stream::Cursor;
+use stream::Step;
+use stream::Stop;
+use stream::Walked;
+
+// The refusal number of a field out of range, which has an offset behind it.
+const OUT_OF_RANGE: u8 = 12;
+
+// The most bytes that write one is lent, and what they hold before.
+const MOST_SLICE: usize = 70000;
+
+const SLICE_FILL: u8 = 165;
+
+const BYTE_VALUES: u32 = 256;
+
+pub fn read_one(s: &[u8]) -> Line {
+    let found = sfdu::read_one(s);
+    match found {
+        Read::Record {
+            kind,
+            size,
+            primary,
+        } => record(kind, size, primary),
+        Read::Refused(why) => Line::refused(why),
+    }
+}
+
+fn record(kind: Kind, size: usize, primary: Primary) -> Line {
+    Line::accepted()
+        .number32(sfdu::kind_number(kind))
+        .size(size)
+        .number8(primary.major)
+        .number8(primary.minor)
+        .number8(primary.mission)
+        .number8(primary.format)
+}
+
+pub fn part(part: &[u8]) -> Line {
+    Line::empty().size(part.len()).number32(crc(part))
+}
+
+pub fn read_headers(s: &[u8], wanted: u32) -> Line {
+    let found = headers::read_headers(s, wanted);
+    match found {
+        Headers::Telemetry {
+            size,
+            primary,
+            fields,
+            key,
+        } => telemetry(size, primary, fields, key),
+        Headers::Rsr {
+            size,
+            primary,
+            source,
+            signal,
+            time,
+            key,
+        } => rsr(size, primary, source, signal, time, key),
+        Headers::OutOfRange(offset) => Line::empty().number8(OUT_OF_RANGE).size(offset),
+        Headers::Refused(why) => Line::refused(why),
+    }
+}
+
+fn telemetry(size: usize, primary: Primary, fields: TelemetryFields, key: u64) -> Line {
+    let uplink = fields.uplink;
+    let received = record(Kind::Telemetry, size, primary)
+        .number16(fields.spacecraft)
+        .number8(fields.source)
+        .number(fields.received)
+        .number32(fields.number);
+    band(received, uplink).number8(fields.mode)
+        .number8(fields.stream)
+        .number16(fields.equipment)
+        .number(key)
+}
+
+fn band(line: Line, band: Band) -> Line {
+    match band {
+        Band::Letter(letter) => line.number8(letter),
+        Band::Unused => line.nothing(),
+    }
+}
+
+fn rsr(
+    size: usize,
+    primary: Primary,
+    source: RsrSource,
+    signal: RsrSignal,
+    time: RsrTime,
+    key: u64,
+) -> Line {
+    let sent = from(record(Kind::Rsr, size, primary), source);
+    times(held(sent, signal), time).number(key)
+}
+
+fn from(line: Line, source: RsrSource) -> Line {
+    line.number16(source.software)
+        .number16(source.number)
+        .number8(source.complex)
+        .number8(source.station)
+        .number8(source.receiver)
+        .number8(source.subchannel)
+        .number8(source.spacecraft)
+        .number16(source.pass)
+}
+
+fn held(line: Line, signal: RsrSignal) -> Line {
+    line.number8(signal.uplink)
+        .number8(signal.downlink)
+        .number8(signal.mode)
+        .number8(signal.uplink_station)
+        .signed(signal.expected)
+        .number8(signal.bandwidth)
+        .number8(signal.overridden)
+        .number8(signal.attenuation)
+        .number8(signal.rms)
+        .number8(signal.peak)
+}
+
+fn times(line: Line, time: RsrTime) -> Line {
+    line.number16(time.year)
+        .number16(time.day)
+        .number(time.frequency)
+}
+
+// All of the bytes that are lent go into the crc.
+pub fn write_one(f: Frame, a: &[u8], b: &[u8]) -> Line {
+    let z = f.z as usize;
+    if MOST_SLICE < z {
+        return Line::empty();
+    }
+    let mut room = [SLICE_FILL; MOST_SLICE];
+    let lent = &mut room[..z];
+    let answer = sfdu_write::write_one(f.x, primary_of(f.y), a, b, lent);
+    written(answer).number32(crc(lent))
+}
+
+fn written(answer: Write) -> Line {
+    match answer {
+        Write::Written(n) => Line::accepted().size(n),
+        Write::Refused(why) => Line::refused(why),
+    }
+}
+
+// The four bytes of a number, from the highest.
+fn primary_of(y: u32) -> Primary {
+    let mission = y / BYTE_VALUES;
+    let minor = mission / BYTE_VALUES;
+    let major = minor / BYTE_VALUES;
+    Primary {
+        major: low_byte(major),
+        minor: low_byte(minor),
+        mission: low_byte(mission),
+        format: low_byte(y),
+    }
+}
+
+fn low_byte(n: u32) -> u8 {
+    (n % BYTE_VALUES) as u8
+}
+
+pub fn key(answer: KeyAnswer) -> Line {
+    match answer {
+        KeyAnswer::Key(key) => Line::accepted().number(key),
+        KeyAnswer::Refused(why) => Line::refused(why),
+    }
+}
+
+pub fn stopped(walked: Walked) -> Line {
+    let stop = walked.stop;
+    Line::empty()
+        .size(walked.count)
+        .size(walked.place)
+        .number32(stop_number(stop))
+}
+
+fn stop_number(stop: Stop) -> u32 {
+    match stop {
+        Stop::End => ACCEPTED,
+        Stop::Refused(why) => refusals::number(why),
+    }
+}
+
+pub fn step(s: &[u8], place: u64) -> Line {
+    let cursor = Cursor { at: place as usize };
+    let found = cursor.step(s);
+    match found {
+        Step::Found {
+            kind,
+            size,
+            primary,
+            next,
+        } => record(kind, size, primary).size(next.at),
+        Step::Done(cursor) => Line::empty().done().size(cursor.at),
+        Step::Refused(why, cursor) => Line::refused(why).size(cursor.at),
+    }
+}
