@@ -137,10 +137,10 @@ fn read_fields(s: &[u8], size: usize, primary: Primary) -> Headers
     let signal = read_signal(s);
     let time = read_time(s);
     let key = keys::rsr_key_of(
-        source.spacecraft as u32,
-        source.station as u32,
-        source.receiver as u32,
-        source.subchannel as u32,
+        source.spacecraft,
+        source.station,
+        source.receiver,
+        source.subchannel,
     );
     Headers::Rsr {
         size,

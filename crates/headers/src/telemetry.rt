@@ -49,10 +49,10 @@ pub fn fields(s: &[u8], size: usize, primary: Primary) -> Headers
     }
     let fields = read_fields(s);
     let key = keys::telemetry_key_of(
-        fields.spacecraft as u32,
-        fields.source as u32,
-        fields.equipment as u32,
-        fields.stream as u32,
+        fields.spacecraft,
+        fields.source,
+        fields.equipment,
+        fields.stream,
     );
     Headers::Telemetry {
         size,
@@ -91,7 +91,7 @@ fn is_band(b: u8) -> bool
 
 fn read_fields(s: &[u8]) -> TelemetryFields
     requires { ⌜ dataValueAt Telemetry ≤ length (now s) ⌝ }
-    ensures { λ r. ⌜ (telemetryFieldWords r ≡ fieldsOf Telemetry (now (s .entry))) × (r .spacecraft < 1024) ⌝ }
+    ensures { λ r. ⌜ telemetryFieldWords r ≡ fieldsOf Telemetry (now (s .entry)) ⌝ }
 {
     let uplink = band(s);
     TelemetryFields {
@@ -109,7 +109,7 @@ fn read_fields(s: &[u8]) -> TelemetryFields
 // The lowest two bits of a byte, then the next byte.
 fn spacecraft(s: &[u8]) -> u16
     requires { ⌜ dataValueAt Telemetry ≤ length (now s) ⌝ }
-    ensures { λ r. ⌜ (r ≡ spacecraft (now (s .entry))) × (r < 1024) ⌝ }
+    ensures { λ r. ⌜ r ≡ spacecraft (now (s .entry)) ⌝ }
 {
     (s[SPACECRAFT_AT] % 4) as u16 * 256 + s[SPACECRAFT_AT + 1] as u16
 }

@@ -6,7 +6,7 @@ use mathlib.Core.Path.{_≡_, refl, sym, ap, _∙_}
 use mathlib.Core.Bool.{Bool, true, false, not, _&&_, _||_}
 use mathlib.Core.List.{[], _∷_}
 use lib.Dec.{leb, ltb}
-use borrow.Author.Tests.{ltb-true, ltb-false, lt-ltb, le-leb}
+use borrow.Author.Tests.{ltb-true, ltb-false, lt-ltb, le-leb, not-false}
 use Rattle.refusals.specs.Judge.{_when_, verdict}
 use Rattle.refusals.proofs.Laws.{number-injective}
 use Rattle.keys.specs.Key.{rsrStart, rsrEnd, validKey, telemetryKey, rsrKey, made, telemetryKeyCall, rsrKeyCall}
@@ -20,6 +20,12 @@ use Rattle.keys.specs.Stream.{Stream, telemetry, rsr, keyCall}
 pub and-true : (x y : Bool) → (x && y) ≡ true → (x ≡ true) × (y ≡ true)
 and-true true y e = (refl, e)
 and-true false y e = (e, cc)
+
+-- What is known of two numbers that were found to fit.
+pub fit-both : (a m b n : ℕ) (fit : Bool) → fit ≡ (ltb a m && ltb b n) → not fit ≡ false → (a < m) × (b < n)
+fit-both a m b n fit e t =
+    let both = and-true (ltb a m) (ltb b n) (sym e ∙ not-false fit t) in
+    (ltb-true a m (both .0), ltb-true b n (both .1))
 
 -- Four numbers below their limits.
 pub record Below (a m b n c o d p : ℕ) : Type 0 where

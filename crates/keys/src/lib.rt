@@ -2,7 +2,6 @@
 use refusals::Refusal;
 ghost use mathlib.Core.Path.{_≡_};
 ghost use mathlib.Core.Bool.{_&&_};
-ghost use Prim.Native.Nat.{_<_};
 ghost use lib.Dec.{ltb};
 ghost use Rattle.keys.specs.Key.{validKey, telemetryKey, rsrKey, telemetryKeyCall, rsrKeyCall};
 ghost use Rattle.keys.specs.Words.{wordsOf};
@@ -53,12 +52,16 @@ pub fn telemetry_key(spacecraft: u32, source: u32, equipment: u32, stream: u32) 
     if !both_fit(equipment, LIMIT_16, stream, LIMIT_8) {
         return KeyAnswer::Refused(Refusal::BadKey);
     }
-    KeyAnswer::Key(telemetry_key_of(spacecraft, source, equipment, stream))
+    KeyAnswer::Key(telemetry_key_of(
+        spacecraft as u16,
+        source as u8,
+        equipment as u16,
+        stream as u8,
+    ))
 }
 
-// The same where the numbers are known to fit.
-pub fn telemetry_key_of(spacecraft: u32, source: u32, equipment: u32, stream: u32) -> u64
-    requires { ⌜ spacecraft < 1024 ⌝ }
+// The same of numbers as a record has them, which fit.
+pub fn telemetry_key_of(spacecraft: u16, source: u8, equipment: u16, stream: u8) -> u64
     ensures { λ r. ⌜ r ≡ telemetryKey spacecraft source equipment stream ⌝ }
 {
     spacecraft as u64 * AT_32 + source as u64 * AT_24 + equipment as u64 * AT_8 + stream as u64
@@ -74,11 +77,16 @@ pub fn rsr_key(spacecraft: u32, station: u32, receiver: u32, subchannel: u32) ->
     if !both_fit(receiver, LIMIT_8, subchannel, LIMIT_8) {
         return KeyAnswer::Refused(Refusal::BadKey);
     }
-    KeyAnswer::Key(rsr_key_of(spacecraft, station, receiver, subchannel))
+    KeyAnswer::Key(rsr_key_of(
+        spacecraft as u8,
+        station as u8,
+        receiver as u8,
+        subchannel as u8,
+    ))
 }
 
-// The same where the numbers are known to fit.
-pub fn rsr_key_of(spacecraft: u32, station: u32, receiver: u32, subchannel: u32) -> u64
+// The same of numbers as a record has them, which fit.
+pub fn rsr_key_of(spacecraft: u8, station: u8, receiver: u8, subchannel: u8) -> u64
     ensures { λ r. ⌜ r ≡ rsrKey spacecraft station receiver subchannel ⌝ }
 {
     RSR_START

@@ -1,8 +1,10 @@
 -- `rsr_key` meets its contract. Assumes nothing.
+use native.Mathlib.Omega.{arith}
 use borrow.Author.Needs.{needs}
 use borrow.Author.Tests.{not-true, not-false}
 use Rattle.refusals.specs.Judge.{verdict}
 use Rattle.keys.specs.Key.{rsrKeyCall}
+use Rattle.keys.proofs.Laws.{fit-both}
 use Rattle.keys.proofs.rsr_key.Statement.{statement}
 use Rattle.keys.proofs.rsr_key.Tie as tie
 
@@ -26,6 +28,18 @@ returns-2 c =
       not-true (c .before .both-fit2 .result) (c .if2 .taken),
     )
 
+cast-rsr-key-of : tie.Need-cast-rsr-key-of
+cast-rsr-key-of c = omega (arith, fit-both (c .before .before .before .before .args .spacecraft) 256 (c .before .before .before .before .args .station) 256 (c .before .before .before .both-fit .result) (c .before .before .before .both-fit .ensures) (c .before .before .if1 .left) .0)
+
+cast-rsr-key-of-2 : tie.Need-cast-rsr-key-of-2
+cast-rsr-key-of-2 c = omega (arith, fit-both (c .before .before .before .before .args .spacecraft) 256 (c .before .before .before .before .args .station) 256 (c .before .before .before .both-fit .result) (c .before .before .before .both-fit .ensures) (c .before .before .if1 .left) .1)
+
+cast-rsr-key-of-3 : tie.Need-cast-rsr-key-of-3
+cast-rsr-key-of-3 c = omega (arith, fit-both (c .before .before .before .before .args .receiver) 256 (c .before .before .before .before .args .subchannel) 256 (c .before .both-fit2 .result) (c .before .both-fit2 .ensures) (c .if2 .left) .0)
+
+cast-rsr-key-of-4 : tie.Need-cast-rsr-key-of-4
+cast-rsr-key-of-4 c = omega (arith, fit-both (c .before .before .before .before .args .receiver) 256 (c .before .before .before .before .args .subchannel) 256 (c .before .both-fit2 .result) (c .before .both-fit2 .ensures) (c .if2 .left) .1)
+
 rsr-key-of-requires : tie.Need-rsr-key-of-requires
 rsr-key-of-requires c κs = search needs
 
@@ -48,5 +62,9 @@ rsr-key-spec =
     returns
     both-fit-requires-2
     returns-2
+    cast-rsr-key-of
+    cast-rsr-key-of-2
+    cast-rsr-key-of-3
+    cast-rsr-key-of-4
     rsr-key-of-requires
     returns-3)

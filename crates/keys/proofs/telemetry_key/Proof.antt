@@ -1,19 +1,12 @@
 -- `telemetry_key` meets its contract. Assumes nothing.
-use Prim.Native.Nat.{ℕ, _<_}
-use mathlib.Core.Path.{_≡_, sym, _∙_}
-use mathlib.Core.Bool.{Bool, false, not, _&&_}
-use lib.Dec.{ltb}
+use native.Mathlib.Omega.{arith}
 use borrow.Author.Needs.{needs}
-use borrow.Author.Tests.{ltb-true, not-true, not-false}
+use borrow.Author.Tests.{not-true, not-false}
 use Rattle.refusals.specs.Judge.{verdict}
 use Rattle.keys.specs.Key.{telemetryKeyCall}
-use Rattle.keys.proofs.Laws.{and-true}
+use Rattle.keys.proofs.Laws.{fit-both}
 use Rattle.keys.proofs.telemetry_key.Statement.{statement}
 use Rattle.keys.proofs.telemetry_key.Tie as tie
-
--- The spacecraft's number is narrow enough for the sums.
-narrow : (spacecraft source : ℕ) (fit : Bool) → fit ≡ (ltb spacecraft 1024 && ltb source 256) → not fit ≡ false → spacecraft < 1024
-narrow spacecraft source fit e t = ltb-true spacecraft 1024 (and-true _ _ (sym e ∙ not-false fit t) .0)
 
 both-fit-requires : tie.Need-both-fit-requires
 both-fit-requires c κs = search needs
@@ -35,8 +28,20 @@ returns-2 c =
       not-true (c .before .both-fit2 .result) (c .if2 .taken),
     )
 
+cast-telemetry-key-of : tie.Need-cast-telemetry-key-of
+cast-telemetry-key-of c = omega (arith, fit-both (c .before .before .before .before .args .spacecraft) 1024 (c .before .before .before .before .args .source) 256 (c .before .before .before .both-fit .result) (c .before .before .before .both-fit .ensures) (c .before .before .if1 .left) .0)
+
+cast-telemetry-key-of-2 : tie.Need-cast-telemetry-key-of-2
+cast-telemetry-key-of-2 c = omega (arith, fit-both (c .before .before .before .before .args .spacecraft) 1024 (c .before .before .before .before .args .source) 256 (c .before .before .before .both-fit .result) (c .before .before .before .both-fit .ensures) (c .before .before .if1 .left) .1)
+
+cast-telemetry-key-of-3 : tie.Need-cast-telemetry-key-of-3
+cast-telemetry-key-of-3 c = omega (arith, fit-both (c .before .before .before .before .args .equipment) 65536 (c .before .before .before .before .args .stream) 256 (c .before .both-fit2 .result) (c .before .both-fit2 .ensures) (c .if2 .left) .0)
+
+cast-telemetry-key-of-4 : tie.Need-cast-telemetry-key-of-4
+cast-telemetry-key-of-4 c = omega (arith, fit-both (c .before .before .before .before .args .equipment) 65536 (c .before .before .before .before .args .stream) 256 (c .before .both-fit2 .result) (c .before .both-fit2 .ensures) (c .if2 .left) .1)
+
 telemetry-key-of-requires : tie.Need-telemetry-key-of-requires
-telemetry-key-of-requires c κs = narrow (c .before .before .before .before .args .spacecraft) (c .before .before .before .before .args .source) (c .before .before .before .both-fit .result) (c .before .before .before .both-fit .ensures) (c .before .before .if1 .left)
+telemetry-key-of-requires c κs = search needs
 
 returns-3 : tie.Need-returns-3
 unfolding telemetryKeyCall verdict
@@ -57,5 +62,9 @@ telemetry-key-spec =
     returns
     both-fit-requires-2
     returns-2
+    cast-telemetry-key-of
+    cast-telemetry-key-of-2
+    cast-telemetry-key-of-3
+    cast-telemetry-key-of-4
     telemetry-key-of-requires
     returns-3)

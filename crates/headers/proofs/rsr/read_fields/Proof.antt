@@ -17,30 +17,18 @@ read-signal-requires c κs = search needs
 read-time-requires : tie.Need-read-time-requires
 read-time-requires c κs = search needs
 
-cast-rsr-key-of : tie.Need-cast-rsr-key-of
-cast-rsr-key-of c = search needs
-
-cast-rsr-key-of-2 : tie.Need-cast-rsr-key-of-2
-cast-rsr-key-of-2 c = search needs
-
-cast-rsr-key-of-3 : tie.Need-cast-rsr-key-of-3
-cast-rsr-key-of-3 c = search needs
-
-cast-rsr-key-of-4 : tie.Need-cast-rsr-key-of-4
-cast-rsr-key-of-4 c = search needs
-
 rsr-key-of-requires : tie.Need-rsr-key-of-requires
 rsr-key-of-requires c κs = search needs
 
 returns : tie.Need-returns
 returns c =
-    let g = c .before .before .before .before .before .before .before .before .before .args in
+    let g = c .before .before .before .before .before .args in
     let s = g .s .now in
-    let one = c .before .before .before .before .before .before .before .read-source .ensures in
-    let two = c .before .before .before .before .before .before .read-signal .ensures in
-    let three = c .before .before .before .before .before .read-time .ensures in
-    let f = c .before .before .before .before .before .before .before .read-source .result in
-    same-accepted Rsr _ _ (primaryWords (g .primary)) _ (sourceWords f ++ signalWords (c .before .before .before .before .before .before .read-signal .result) ++ timeWords (c .before .before .before .before .before .read-time .result)) (fieldsOf Rsr s) _ _ (c .before .before .before .before .before .before .before .before .before .pre .0) (c .before .before .before .before .before .before .before .before .before .pre .1)
+    let one = c .before .before .before .read-source .ensures in
+    let two = c .before .before .read-signal .ensures in
+    let three = c .before .read-time .ensures in
+    let f = c .before .before .before .read-source .result in
+    same-accepted Rsr _ _ (primaryWords (g .primary)) _ (sourceWords f ++ signalWords (c .before .before .read-signal .result) ++ timeWords (c .before .read-time .result)) (fieldsOf Rsr s) _ _ (c .before .before .before .before .before .pre .0) (c .before .before .before .before .before .pre .1)
     (joined (sourceWords f) _ (signalWords _) _ (timeWords _) _ one two three) (rsr-key s f _ one (c .rsr-key-of .ensures))
 
 pub read-fields-spec : {M : Type 1} → statement M
@@ -50,9 +38,5 @@ read-fields-spec =
     read-source-requires
     read-signal-requires
     read-time-requires
-    cast-rsr-key-of
-    cast-rsr-key-of-2
-    cast-rsr-key-of-3
-    cast-rsr-key-of-4
     rsr-key-of-requires
     returns)

@@ -17,29 +17,17 @@ returns c = rw (← c .before .band-fault .ensures, ne-eqb _ _ (c .if1 .taken))
 read-fields-requires : tie.Need-read-fields-requires
 read-fields-requires c κs = search needs
 
-cast-telemetry-key-of : tie.Need-cast-telemetry-key-of
-cast-telemetry-key-of c = search needs
-
-cast-telemetry-key-of-2 : tie.Need-cast-telemetry-key-of-2
-cast-telemetry-key-of-2 c = search needs
-
-cast-telemetry-key-of-3 : tie.Need-cast-telemetry-key-of-3
-cast-telemetry-key-of-3 c = search needs
-
-cast-telemetry-key-of-4 : tie.Need-cast-telemetry-key-of-4
-cast-telemetry-key-of-4 c = search needs
-
 telemetry-key-of-requires : tie.Need-telemetry-key-of-requires
 telemetry-key-of-requires c κs = search needs
 
 returns-2 : tie.Need-returns-2
 returns-2 c =
-    let g = c .before .before .before .before .before .before .before .before .before .args in
+    let g = c .before .before .before .before .before .args in
     let s = g .s .now in
-    let f = c .before .before .before .before .before .read-fields .result in
-    rw (← c .before .before .before .before .before .before .before .band-fault .ensures, eq-eqb _ _ (c .before .before .before .before .before .before .if1 .left))
-    (same-accepted Telemetry _ _ (primaryWords (g .primary)) _ (telemetryFieldWords f) _ _ _ (c .before .before .before .before .before .before .before .before .before .pre .0) (c .before .before .before .before .before .before .before .before .before .pre .1) (c .before .before .before .before .before .read-fields .ensures .0)
-    (telemetry-key s f _ (c .before .before .before .before .before .read-fields .ensures .0) (c .telemetry-key-of .ensures)))
+    let f = c .before .read-fields .result in
+    rw (← c .before .before .before .band-fault .ensures, eq-eqb _ _ (c .before .before .if1 .left))
+    (same-accepted Telemetry _ _ (primaryWords (g .primary)) _ (telemetryFieldWords f) _ _ _ (c .before .before .before .before .before .pre .0) (c .before .before .before .before .before .pre .1) (c .before .read-fields .ensures)
+    (telemetry-key s f _ (c .before .read-fields .ensures) (c .telemetry-key-of .ensures)))
 
 pub fields-spec : {M : Type 1} → statement M
 fields-spec =
@@ -48,9 +36,5 @@ fields-spec =
     band-fault-requires
     returns
     read-fields-requires
-    cast-telemetry-key-of
-    cast-telemetry-key-of-2
-    cast-telemetry-key-of-3
-    cast-telemetry-key-of-4
     telemetry-key-of-requires
     returns-2)

@@ -28,7 +28,7 @@ read-u16-requires : tie.Need-read-u16-requires
 read-u16-requires c κs = search needs
 
 returns : tie.Need-returns
-returns c = (rw (c .before .before .before .before .before .before .spacecraft .ensures .0, c .before .before .before .before .read-be .ensures, c .before .before .before .number .ensures, c .before .before .before .before .before .before .before .band .ensures, c .read-u16 .ensures), c .before .before .before .before .before .before .spacecraft .ensures .1)
+returns c = rw (c .before .before .before .before .before .before .spacecraft .ensures, c .before .before .before .before .read-be .ensures, c .before .before .before .number .ensures, c .before .before .before .before .before .before .before .band .ensures, c .read-u16 .ensures)
 
 pub read-fields-spec : {M : Type 1} → statement M
 read-fields-spec =

@@ -27,7 +27,7 @@ add-result-2 : tie.Need-add-result-2
 add-result-2 c = omega (arith, c .shared-slice-known2 .given 39)
 
 returns : tie.Need-returns
-returns c = (refl, omega (arith, c .shared-slice-known2 .given 39))
+returns c = refl
 
 pub spacecraft-spec : {M : Type 1} → statement M
 spacecraft-spec =
