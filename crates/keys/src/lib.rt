@@ -60,7 +60,7 @@ pub fn telemetry_key(spacecraft: u32, source: u32, equipment: u32, stream: u32) 
     ))
 }
 
-// The same of numbers as a record has them, which fit.
+// The key's formula alone, of numbers as wide as a record's.
 pub fn telemetry_key_of(spacecraft: u16, source: u8, equipment: u16, stream: u8) -> u64
     ensures { λ r. ⌜ r ≡ telemetryKey spacecraft source equipment stream ⌝ }
 {
@@ -85,7 +85,7 @@ pub fn rsr_key(spacecraft: u32, station: u32, receiver: u32, subchannel: u32) ->
     ))
 }
 
-// The same of numbers as a record has them, which fit.
+// The key's formula alone, of numbers as wide as a record's.
 pub fn rsr_key_of(spacecraft: u8, station: u8, receiver: u8, subchannel: u8) -> u64
     ensures { λ r. ⌜ r ≡ rsrKey spacecraft station receiver subchannel ⌝ }
 {
