@@ -15,7 +15,7 @@ reference big BYTES              a stream of mixed records of about so many byte
 reference bench                  benchmarks
 reference tables SEED COUNT      tables of entries against number lists, over random streams";
 
-/// 17 is the program's alone, and 18 cannot arise.
+/// 17 is the listing program's alone.
 const IN_SCRIPTS: [std::ops::RangeInclusive<u32>; 2] = [1..=16, 20..=31];
 
 fn main() -> ExitCode {

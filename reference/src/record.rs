@@ -100,7 +100,7 @@ pub fn read_label(s: &[u8]) -> Result<(&'static Layout, usize), u32> {
     Ok((layout, label_length as usize + LABEL))
 }
 
-/// Refusals 6 to 11 and 18, of a record whose label was accepted.
+/// Refusals 6 to 11, of a record whose label was accepted.
 pub fn read_blocks(s: &[u8], layout: &Layout, n: usize) -> Result<Record, u32> {
     let block = |at| (number(s, at, 2), number(s, at + 2, 2));
     if s.len() < n {
@@ -122,19 +122,9 @@ pub fn read_blocks(s: &[u8], layout: &Layout, n: usize) -> Result<Record, u32> {
     if data_length != (n - layout.data_value) as u64 {
         return Err(11);
     }
-    if !blocks_nest(s, layout, n) {
-        return Err(18);
-    }
     let mut primary = [0; 4];
     primary.copy_from_slice(&s[PRIMARY_VALUE..SECONDARY]);
     Ok(Record { kind: layout.kind, length: n, primary })
-}
-
-/// No block ends past the field that encloses it. It always holds here, so 18 is never given.
-fn blocks_nest(s: &[u8], layout: &Layout, n: usize) -> bool {
-    let end = |label: usize| label + 4 + number(s, label + 2, 2) as usize;
-    let aggregation = end(LABEL);
-    aggregation <= n && end(PRIMARY) <= aggregation && end(SECONDARY) <= aggregation && end(layout.data_label) <= n
 }
 
 pub fn read_one(s: &[u8]) -> Result<Record, u32> {
