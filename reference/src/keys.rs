@@ -5,7 +5,7 @@ pub const FIRST_RSR: u64 = 1 << 42;
 pub const PAST_RSR: u64 = FIRST_RSR + (1 << 32);
 
 pub fn valid(key: u64) -> bool {
-    key < FIRST_RSR || (FIRST_RSR <= key && key < PAST_RSR)
+    key < FIRST_RSR || (FIRST_RSR..PAST_RSR).contains(&key)
 }
 
 fn fits(number: u32, bits: u32) -> bool {

@@ -53,7 +53,7 @@ pub struct Generator {
 pub fn script(seed: u64, count: usize) -> Vec<Frame> {
     let mut g = Generator {
         rng: Rng::new(seed),
-        calls: Calls::new(),
+        calls: Calls::default(),
         frames: Vec::new(),
         wanted: count,
         damages: Deck::new(damages_of_both_kinds()),
@@ -445,7 +445,7 @@ fn widths(op: u32) -> [u32; 4] {
 }
 
 fn key_cases() -> Vec<KeyCase> {
-    let mut cases = vec![KeyCase::Any(6), KeyCase::Any(7)].repeat(6);
+    let mut cases = [KeyCase::Any(6), KeyCase::Any(7)].repeat(6);
     for op in [6, 7] {
         for (part, bits) in widths(op).into_iter().enumerate() {
             let values = [0, (1 << bits) - 1, 1 << bits, (1 << bits) + 1, 1 << 31, u32::MAX];

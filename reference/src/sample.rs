@@ -1,5 +1,6 @@
 //! Sample streams for lessons, and long mixed streams for benchmarks.
 
+use crate::list;
 use crate::make::{self, put, put_secondary, Rng, RSR_PRIMARY, TELEMETRY_PRIMARY};
 use crate::record::{self, RSR, TELEMETRY};
 use std::io::{self, Write};
@@ -82,8 +83,43 @@ pub const SAMPLES: [Sample; 13] = [
     },
 ];
 
+/// Streams that the listing program is run on beside the samples.
+pub const LISTED: [Sample; 5] = [
+    Sample {
+        name: "example",
+        about: "Document 01's example: one telemetry record of 120 bytes, number 7.",
+        make: || plain(7, 0),
+    },
+    Sample { name: "empty", about: "No byte.", make: Vec::new },
+    Sample {
+        name: "longest",
+        about: "The longest record that fits the program's buffer, between two of 120 bytes; the greatest number.",
+        make: || [plain(1, 0), plain(2, list::WINDOW - 120), plain(u32::MAX, 0)].concat(),
+    },
+    Sample { name: "mixed", about: "Records of many lengths: the buffer is filled anew several times.", make: mixed },
+    Sample {
+        name: "over-cut",
+        about: "The stream ends behind the label of a record one byte too long for the buffer: 17 stands before 6.",
+        make: || [&plain(7, 0)[..], &plain(8, list::WINDOW - 119)[..record::LABEL]].concat(),
+    },
+];
+
 pub fn sample(name: &str) -> Option<Vec<u8>> {
-    SAMPLES.iter().find(|sample| sample.name == name).map(|sample| (sample.make)())
+    SAMPLES.iter().chain(&LISTED).find(|sample| sample.name == name).map(|sample| (sample.make)())
+}
+
+/// A telemetry record that is all zero but for its number.
+fn plain(number: u32, data: usize) -> Vec<u8> {
+    let mut record = make::record(TELEMETRY, [0; 4], &[0; 80], &vec![0; data]);
+    let (at, width) = record::number_field(TELEMETRY);
+    put(&mut record, at, width, number as u64);
+    record
+}
+
+fn mixed() -> Vec<u8> {
+    let mut stream = Vec::new();
+    big(150_000, &mut stream).expect("memory");
+    stream
 }
 
 fn telemetry(rng: &Rng, stream: u64, number: u32, data: usize) -> Vec<u8> {

@@ -66,7 +66,7 @@ pub fn read_frame(s: &[u8]) -> Option<(Frame, usize)> {
 
 /// Hands each frame with its line to `each`; after a bad frame, the line alone, and no more.
 pub fn run(script: &[u8], mut each: impl FnMut(Option<&Frame>, &str) -> io::Result<()>) -> io::Result<()> {
-    let mut calls = Calls::new();
+    let mut calls = Calls::default();
     let mut rest = script;
     while !rest.is_empty() {
         let answer = read_frame(rest).and_then(|(frame, end)| calls.line(&frame).map(|line| (frame, end, line)));
@@ -84,11 +84,13 @@ pub struct Calls {
     pub sheet: Vec<u8>,
 }
 
-impl Calls {
-    pub fn new() -> Calls {
+impl Default for Calls {
+    fn default() -> Calls {
         Calls { sheet: vec![0; ledger::SHEET] }
     }
+}
 
+impl Calls {
     /// The line of a call; none for a frame that is bad.
     pub fn line(&mut self, f: &Frame) -> Option<String> {
         match f.op {

@@ -454,7 +454,7 @@ fn call_of(f: &Frame) -> Option<Call> {
 fn the_ledger_is_the_book_laid_out() {
     let mut compared = 0;
     for seed in 0..10 {
-        let mut calls = script::Calls::new();
+        let mut calls = script::Calls::default();
         let mut book = None;
         for f in random::script(seed, 2_000) {
             let line = calls.line(&f).unwrap();
@@ -510,10 +510,10 @@ fn every_bit_of_a_sheet_counts() {
     ledger::open(&mut underway, 3, 0).unwrap();
     for mut s in [nights::full_sheet(&Rng::new(9)), fresh(), underway] {
         assert!(ledger::is_sheet(&s));
-        for (at, bit) in (0..s.len()).flat_map(|at| [0, 1, 6, 7].map(|bit| (at, bit))) {
+        for (at, bit) in (0..s.len()).flat_map(|at| (0..8).map(move |bit| (at, bit))) {
             s[at] ^= 1 << bit;
             let said = Book::said_by(&s).is_some_and(|book| book.laid_out() == s);
-            assert_eq!(ledger::is_sheet(&s), said, "byte {at}");
+            assert_eq!(ledger::is_sheet(&s), said, "byte {at}, bit {bit}");
             s[at] ^= 1 << bit;
         }
     }
@@ -608,7 +608,7 @@ fn bad_frames() {
 fn random_scripts_meet_every_refusal() {
     for seed in 100..140 {
         let mut met = [0; 32];
-        let mut calls = script::Calls::new();
+        let mut calls = script::Calls::default();
         let mut bytes = 0;
         for frame in random::script(seed, 2_000) {
             bytes += 40 + frame.a.len() + frame.b.len();
@@ -619,6 +619,17 @@ fn random_scripts_meet_every_refusal() {
         }
         assert_eq!(met[17], 0);
         assert!(bytes <= 1_500_000, "seed {seed}: {bytes} bytes");
+    }
+}
+
+#[test]
+fn samples_are_stored_and_told_of() {
+    let folder = concat!(env!("CARGO_MANIFEST_DIR"), "/../samples");
+    let page = std::fs::read_to_string(format!("{folder}/README.md")).unwrap();
+    for sample in &sample::SAMPLES {
+        assert!(page.contains(&format!("| `{}` | {} |", sample.name, sample.about)), "{}", sample.name);
+        let stored = std::fs::read(format!("{folder}/{}", sample.name)).unwrap();
+        assert!(sample::sample(sample.name).unwrap() == stored, "{}", sample.name);
     }
 }
 
