@@ -6,7 +6,7 @@ use Prim.Native.Nat.{ℕ}
 use lib.ListN.{replicate}
 use Rattle.sfdu.specs.declared.Kind.the-variants.{Telemetry}
 use Rattle.sfdu_write.specs.Write.{recordBytes, headBytes, labelBytes, primaryBlock, block}
-use Rattle.sfdu.specs.Read.{kindOf, hasKind, recordLength, labelLength, lengthInRange, isBlock, blockType, blockLength, blockEnd, nests}
+use Rattle.sfdu.specs.Read.{kindOf, hasKind, recordLength, labelLength, lengthInRange, isBlock, blockType, blockLength}
 use Rattle.octets.specs.Octets.{bytesOf, numberAt, sameAt, all}
 use Rattle.refusals.specs.Judge.{verdict}
 use Rattle.headers.specs.Fields.{recordNumber}
@@ -20,5 +20,5 @@ example = recordBytes Telemetry (record { major = 0; minor = 0; mission = 0; for
 -- 0 120 T 7
 -- 120 0
 pub listed : listing example ≡ heading ++ (48 ∷ 32 ∷ 49 ∷ 50 ∷ 48 ∷ 32 ∷ 84 ∷ 32 ∷ 55 ∷ 10 ∷ []) ++ (49 ∷ 50 ∷ 48 ∷ 32 ∷ 48 ∷ 10 ∷ [])
-unfolding recordBytes headBytes labelBytes primaryBlock block bytesOf kindOf hasKind recordLength labelLength lengthInRange isBlock blockType blockLength blockEnd nests numberAt sameAt all verdict recordNumber placesIn decimal word heading line lastLine refusal whole stopNumber recordLine linesIn linesFrom listing
+unfolding recordBytes headBytes labelBytes primaryBlock block bytesOf kindOf hasKind recordLength labelLength lengthInRange isBlock blockType blockLength numberAt sameAt all verdict recordNumber placesIn decimal word heading line lastLine refusal whole stopNumber recordLine linesIn linesFrom listing
 listed = refl

@@ -35,11 +35,11 @@ labelled s h = by (ltb (length s) labelSize) refl
 
 numbered : (s : List ℕ) → Numbered (listRows s)
 numbered s =
-    (lit< tt, (lit< tt, (lit< tt, (lit< tt, (lit< tt, (lit< tt, (lit< tt, (lit< tt, (lit< tt, (lit< tt, (lit< tt, (lit< tt, (lit< tt, tt)))))))))))))
+    (lit< tt, (lit< tt, (lit< tt, (lit< tt, (lit< tt, (lit< tt, (lit< tt, (lit< tt, (lit< tt, (lit< tt, (lit< tt, (lit< tt, tt))))))))))))
 
 read-numbered : (s : List ℕ) → Numbered (readRows s)
 read-numbered s =
-    (lit< tt, (lit< tt, (lit< tt, (lit< tt, (lit< tt, (lit< tt, (lit< tt, (lit< tt, (lit< tt, (lit< tt, (lit< tt, (lit< tt, tt))))))))))))
+    (lit< tt, (lit< tt, (lit< tt, (lit< tt, (lit< tt, (lit< tt, (lit< tt, (lit< tt, (lit< tt, (lit< tt, (lit< tt, tt)))))))))))
 
 pub stop-below : (s : List ℕ) → stopNumber s < 100
 unfolding stopNumber refusal
@@ -47,7 +47,7 @@ stop-below s = by (eqb (length s) 0)
   where
     by : (b : Bool) → cond b 0 (verdict (listRows s)) < 100
     by true = lit< tt
-    by false = below 100 (listRows s) (lit< tt) (lit< tt, (lit< tt, (lit< tt, (lit< tt, (lit< tt, (lit< tt, (lit< tt, (lit< tt, (lit< tt, (lit< tt, (lit< tt, (lit< tt, (lit< tt, tt)))))))))))))
+    by false = below 100 (listRows s) (lit< tt) (lit< tt, (lit< tt, (lit< tt, (lit< tt, (lit< tt, (lit< tt, (lit< tt, (lit< tt, (lit< tt, (lit< tt, (lit< tt, (lit< tt, tt))))))))))))
 
 -- A label whose length is in the kind's range says that the headers are within the record.
 pub headers-within : (s : List ℕ) → lengthInRange (kindOf s) s ≡ true → dataValueAt (kindOf s) ≤ recordLength s
@@ -90,12 +90,12 @@ refusal-rows s = refl
 
 under-label : (s : List ℕ) → refusal s ≡ 1 → length s < labelSize
 unfolding refusal
-under-label s q = ltb-true _ _ (given 1 (ltb (length s) labelSize) [] _ (eqb-false 1 0 refl) tt (eqb-false _ _ refl, (eqb-false _ _ refl, (eqb-false _ _ refl, (eqb-false _ _ refl, (eqb-false _ _ refl, (eqb-false _ _ refl, (eqb-false _ _ refl, (eqb-false _ _ refl, (eqb-false _ _ refl, (eqb-false _ _ refl, (eqb-false _ _ refl, (eqb-false _ _ refl, tt)))))))))))) q .1)
+under-label s q = ltb-true _ _ (given 1 (ltb (length s) labelSize) [] _ (eqb-false 1 0 refl) tt (eqb-false _ _ refl, (eqb-false _ _ refl, (eqb-false _ _ refl, (eqb-false _ _ refl, (eqb-false _ _ refl, (eqb-false _ _ refl, (eqb-false _ _ refl, (eqb-false _ _ refl, (eqb-false _ _ refl, (eqb-false _ _ refl, (eqb-false _ _ refl, tt))))))))))) q .1)
 
 under-record : (s : List ℕ) → refusal s ≡ 6 → (length s < recordLength s) × (recordLength s ≤ bufferSize)
 unfolding refusal
 under-record s q =
-    let g = given 6 (ltb (length s) (recordLength s)) (front s) _ (eqb-false 6 0 refl) (eqb-false _ _ refl, (eqb-false _ _ refl, (eqb-false _ _ refl, (eqb-false _ _ refl, (eqb-false _ _ refl, (eqb-false _ _ refl, tt)))))) (eqb-false _ _ refl, (eqb-false _ _ refl, (eqb-false _ _ refl, (eqb-false _ _ refl, (eqb-false _ _ refl, (eqb-false _ _ refl, tt)))))) q in
+    let g = given 6 (ltb (length s) (recordLength s)) (front s) _ (eqb-false 6 0 refl) (eqb-false _ _ refl, (eqb-false _ _ refl, (eqb-false _ _ refl, (eqb-false _ _ refl, (eqb-false _ _ refl, (eqb-false _ _ refl, tt)))))) (eqb-false _ _ refl, (eqb-false _ _ refl, (eqb-false _ _ refl, (eqb-false _ _ refl, (eqb-false _ _ refl, tt))))) q in
     (ltb-true _ _ (g .1), ltb-false _ _ (g .0 .1 .1 .1 .1 .1 .0))
 
 or-split : (a b : Bool) → (a || b) ≡ true → (a ≡ true) ⊎ (b ≡ true)

@@ -17,7 +17,7 @@ use Rattle.sfdu.specs.declared.Kind.{Kind}
 use Rattle.sfdu.specs.declared.Kind.the-variants.{Telemetry, Rsr}
 use Rattle.refusals.proofs.Judged.{NoneHolds}
 use Rattle.sfdu.specs.Nesting.{authority, control, authorityAt, controlAt, kindBytes, kindAt, tagSize, labelSize, blockLabelSize, dataAt, dataValueAt, aggregationAt, primaryAt, secondaryAt}
-use Rattle.sfdu.specs.Read.{hasKind, kindOf, labelLength, recordLength, lengthInRange, blockType, blockLength, blockEnd, isBlock, nests, headerRows, dataRows}
+use Rattle.sfdu.specs.Read.{hasKind, kindOf, labelLength, recordLength, lengthInRange, blockType, blockLength, isBlock, headerRows, dataRows}
 use Rattle.sfdu.proofs.Placed.{placed}
 use Rattle.headers.specs.Fields.{recordNumber}
 use Rattle.listing.specs.Listing.{refusal, whole, stopNumber, recordLine}
@@ -77,10 +77,6 @@ module _ (s m : List ℕ) where
   unfolding blockLength
   size-same at h = number-first s m _ _ (omega arith)
 
-  end-same : (at : ℕ) → at + blockLabelSize ≤ length s → blockEnd (s ++ m) at ≡ blockEnd s at
-  unfolding blockEnd
-  end-same at h = rw (size-same at h)
-
   block-same : (at type size : ℕ) → at + blockLabelSize ≤ length s → isBlock (s ++ m) at type size ≡ isBlock s at type size
   unfolding isBlock
   block-same at type size h = rw (type-same at h, size-same at h)
@@ -103,17 +99,6 @@ module _ (s m : List ℕ) where
     data-within : dataAt k + blockLabelSize ≤ length s
     data-within = let p = placed k in omega arith
 
-    nests-same : nests k (s ++ m) ≡ nests k s
-    unfolding nests
-    nests-same =
-        rw (
-          end-same aggregationAt (first aggregationAt (omega arith)),
-          end-same primaryAt (first primaryAt (omega arith)),
-          end-same secondaryAt (first secondaryAt (omega arith)),
-          end-same (dataAt k) data-within,
-          length-same long,
-        )
-
     blocks-same : verdict (headerRows k (s ++ m) ++ dataRows k (s ++ m)) ≡ verdict (headerRows k s ++ dataRows k s)
     unfolding verdict
     blocks-same =
@@ -124,7 +109,6 @@ module _ (s m : List ℕ) where
           type-same (dataAt k) data-within,
           size-same (dataAt k) data-within,
           length-same long,
-          nests-same,
         )
 
   -- ---- the refusal

@@ -18,6 +18,17 @@ abbrev pub Numbered : List Row → Type 0
 Numbered [] = Unit {0}
 Numbered ((n when c) ∷ rows) = (0 < n) × Numbered rows
 
+-- What each row gives has the property P.
+abbrev pub AllGive : (ℕ → Type 0) → List Row → Type 0
+AllGive P [] = Unit {0}
+AllGive P ((n when c) ∷ rows) = P n × AllGive P rows
+
+pub verdict-gives : (P : ℕ → Type 0) → P 0 → (rows : List Row) → AllGive P rows → P (verdict rows)
+unfolding verdict
+verdict-gives P z [] h = z
+verdict-gives P z ((n when true) ∷ rows) h = h .0
+verdict-gives P z ((n when false) ∷ rows) h = verdict-gives P z rows (h .1)
+
 pub none-verdict : (rows : List Row) → NoneHolds rows → verdict rows ≡ 0
 unfolding verdict
 none-verdict [] h = refl

@@ -18,7 +18,6 @@ use Rattle.refusals.specs.declared.Refusal.the-variants.{
   SecondaryLabel,
   DataType,
   DataLength,
-  Nesting,
   WrongKind,
   FieldRange,
   WriterInput,
@@ -40,10 +39,10 @@ use Rattle.refusals.specs.declared.Refusal.the-variants.{
 }
 use Rattle.refusals.specs.Table.{numberOf}
 
--- The table back from the numbers: entry n is the refusal with number n. No refusal has 0 or 19.
+-- The table back from the numbers: entry n is the refusal with number n. No refusal has 0, 18 or 19.
 back : List Refusal
 back =
-    TooShort ∷ TooShort ∷ Authority ∷ LabelControl ∷ UnknownKind ∷ LabelLength ∷ Truncated ∷ AggregationLabel ∷ PrimaryLabel ∷ SecondaryLabel ∷ DataType ∷ DataLength ∷ FieldRange ∷ WriterSpace ∷ WriterInput ∷ WrongKind ∷ ListFull ∷ BufferSize ∷ Nesting ∷ TooShort ∷ NotSheet ∷ NoDesk ∷ BadKey ∷ AlreadyEnrolled ∷ LedgerFull ∷ NoRow ∷ DeskOpen ∷ DeskClosed ∷ OutsideRow ∷ AlreadyTicked ∷ NotTicked ∷ Stale ∷ []
+    TooShort ∷ TooShort ∷ Authority ∷ LabelControl ∷ UnknownKind ∷ LabelLength ∷ Truncated ∷ AggregationLabel ∷ PrimaryLabel ∷ SecondaryLabel ∷ DataType ∷ DataLength ∷ FieldRange ∷ WriterSpace ∷ WriterInput ∷ WrongKind ∷ ListFull ∷ BufferSize ∷ TooShort ∷ TooShort ∷ NotSheet ∷ NoDesk ∷ BadKey ∷ AlreadyEnrolled ∷ LedgerFull ∷ NoRow ∷ DeskOpen ∷ DeskClosed ∷ OutsideRow ∷ AlreadyTicked ∷ NotTicked ∷ Stale ∷ []
 
 refusalOf : ℕ → Refusal
 refusalOf n = getD back n TooShort
@@ -61,7 +60,6 @@ found PrimaryLabel = refl
 found SecondaryLabel = refl
 found DataType = refl
 found DataLength = refl
-found Nesting = refl
 found WrongKind = refl
 found FieldRange = refl
 found WriterInput = refl

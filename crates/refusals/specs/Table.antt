@@ -13,7 +13,6 @@ use Rattle.refusals.specs.declared.Refusal.the-variants.{
   SecondaryLabel,
   DataType,
   DataLength,
-  Nesting,
   WrongKind,
   FieldRange,
   WriterInput,
@@ -46,7 +45,6 @@ numberOf PrimaryLabel = 8
 numberOf SecondaryLabel = 9
 numberOf DataType = 10
 numberOf DataLength = 11
-numberOf Nesting = 18
 numberOf WrongKind = 15
 numberOf FieldRange = 12
 numberOf WriterInput = 14

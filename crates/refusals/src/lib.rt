@@ -15,7 +15,6 @@ pub enum Refusal {
     SecondaryLabel,
     DataType,
     DataLength,
-    Nesting,
     WrongKind,
     FieldRange,
     // Records: the writer, lists, the listing program.
@@ -54,7 +53,6 @@ pub fn number(r: Refusal) -> u32
         Refusal::SecondaryLabel => 9,
         Refusal::DataType => 10,
         Refusal::DataLength => 11,
-        Refusal::Nesting => 18,
         Refusal::WrongKind => 15,
         Refusal::FieldRange => 12,
         Refusal::WriterInput => 14,

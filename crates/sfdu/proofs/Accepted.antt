@@ -60,7 +60,7 @@ block-is s at type size e = let p = and-split _ _ e in (eqb-true _ _ (p .0), eqb
 
 numbered : (s : List ℕ) → Numbered (readRows s)
 numbered s =
-    (lit< tt, (lit< tt, (lit< tt, (lit< tt, (lit< tt, (lit< tt, (lit< tt, (lit< tt, (lit< tt, (lit< tt, (lit< tt, (lit< tt, tt))))))))))))
+    (lit< tt, (lit< tt, (lit< tt, (lit< tt, (lit< tt, (lit< tt, (lit< tt, (lit< tt, (lit< tt, (lit< tt, (lit< tt, tt)))))))))))
 
 pub none-holds : (s : List ℕ) → accepts s ≡ true → NoneHolds (readRows s)
 unfolding accepts

@@ -1,4 +1,5 @@
 pub mod Placed
 pub mod Accepted
+pub mod Nested
 pub mod Parts
 pub mod Words

@@ -1,2 +1,3 @@
 pub mod Nesting
 pub mod Read
+pub mod Nested

@@ -1,4 +1,4 @@
--- Document 01, "Calls on records" and "Refusal numbers" 1 to 11 and 18: the first record of a lent slice s. Assumes nothing.
+-- Document 01, "Calls on records" and "Refusal numbers" 1 to 11: the first record of a lent slice s. Assumes nothing.
 use Prim.Native.Nat.{ℕ, _+_, _-_}
 use mathlib.Core.Bool.{Bool, not, cond, _&&_, _||_}
 use mathlib.Core.List.{List, [], _∷_, _++_}
@@ -25,7 +25,6 @@ use Rattle.sfdu.specs.Nesting.{
   lengthSize,
   labelSize,
   wordSize,
-  blockLabelSize,
   aggregationAt,
   primaryAt,
   primaryValueAt,
@@ -70,15 +69,12 @@ labelLength s = numberAt s lengthAt lengthSize
 unfoldable pub recordLength : List ℕ → ℕ
 recordLength s = labelSize + labelLength s
 
--- The block at an offset: its type, its length, and where its value ends.
+-- The block at an offset: its type and its length.
 unfoldable pub blockType : List ℕ → ℕ → ℕ
 blockType s at = numberAt s at wordSize
 
 unfoldable pub blockLength : List ℕ → ℕ → ℕ
 blockLength s at = numberAt s (at + wordSize) wordSize
-
-unfoldable pub blockEnd : List ℕ → ℕ → ℕ
-blockEnd s at = at + blockLabelSize + blockLength s at
 
 -- ---- the refusals, in the table's order
 
@@ -87,14 +83,6 @@ lengthInRange k s = leb (leastLabelLength k) (labelLength s) && leb (labelLength
 
 unfoldable pub isBlock : List ℕ → ℕ → (type size : ℕ) → Bool
 isBlock s at type size = eqb (blockType s at) type && eqb (blockLength s at) size
-
--- No block ends past the field that encloses it: the record encloses the aggregation and the data block, the aggregation the
--- primary and the secondary block.
-unfoldable pub nests : Kind → List ℕ → Bool
-nests k s =
-    leb (blockEnd s aggregationAt) (recordLength s) && leb (blockEnd s primaryAt) (blockEnd s aggregationAt)
-    && leb (blockEnd s secondaryAt) (blockEnd s aggregationAt)
-    && leb (blockEnd s (dataAt k)) (recordLength s)
 
 abbrev pub labelRows : List ℕ → List Row
 labelRows s =
@@ -118,7 +106,6 @@ abbrev pub dataRows : Kind → List ℕ → List Row
 dataRows k s =
     (10 when not (eqb (blockType s (dataAt k)) dataType))
     ∷ (11 when not (eqb (blockLength s (dataAt k)) (recordLength s - dataValueAt k)))
-    ∷ (18 when not (nests k s))
     ∷ []
 
 abbrev pub readRows : List ℕ → List Row

@@ -10,7 +10,7 @@ ghost use Rattle.refusals.specs.Judge.{answered};
 ghost use Rattle.octets.specs.Octets.{sameAt};
 ghost use Rattle.sfdu.specs.Nesting.{authority, control, authorityAt, controlAt, tagSize, labelSize, blockLabelSize, aggregationAt, primaryAt, secondaryAt, dataAt, dataValueAt, aggregationType, primaryType, secondaryType, dataType, aggregationLength, primaryLength, secondaryLength, leastLabelLength, mostLabelLength};
 ghost use Rattle.sfdu.specs.declared.Kind.the-variants.{Telemetry, Rsr};
-ghost use Rattle.sfdu.specs.Read.{wordsOf, readOne, lengthRows, headerRows, dataRows, recordWords, hasKind, kindOf, labelLength, recordLength, blockType, blockLength, blockEnd, isBlock, nests, secondaryPart, secondaryStart, dataPart, dataStart};
+ghost use Rattle.sfdu.specs.Read.{wordsOf, primaryWords, primaryOf, readOne, lengthRows, headerRows, dataRows, recordWords, hasKind, kindOf, labelLength, recordLength, blockType, blockLength, isBlock, secondaryPart, secondaryStart, dataPart, dataStart};
 use crate::Kind;
 use crate::Primary;
 use crate::Read;
@@ -18,7 +18,6 @@ use crate::nesting::AGGREGATION_AT;
 use crate::nesting::AGGREGATION_TYPE;
 use crate::nesting::AUTHORITY;
 use crate::nesting::AUTHORITY_AT;
-use crate::nesting::BLOCK_LABEL;
 use crate::nesting::CONTROL;
 use crate::nesting::CONTROL_AT;
 use crate::nesting::DATA_TYPE;
@@ -213,18 +212,24 @@ fn read_data(s: &[u8], kind: Kind, size: usize) -> Read
     if !has_data_length(s, kind, size) {
         return Read::Refused(Refusal::DataLength);
     }
-    if !blocks_nest(s, kind, size) {
-        return Read::Refused(Refusal::Nesting);
-    }
+    let primary = read_primary(s);
     Read::Record {
         kind,
         size,
-        primary: Primary {
-            major: s[PRIMARY_VALUE_AT],
-            minor: s[PRIMARY_VALUE_AT + 1],
-            mission: s[PRIMARY_VALUE_AT + 2],
-            format: s[PRIMARY_VALUE_AT + 3],
-        },
+        primary,
+    }
+}
+
+// The value of the primary block.
+fn read_primary(s: &[u8]) -> Primary
+    requires { ⌜ secondaryAt ≤ length (now s) ⌝ }
+    ensures { λ r. ⌜ primaryWords r ≡ primaryOf (now (s .entry)) ⌝ }
+{
+    Primary {
+        major: s[PRIMARY_VALUE_AT],
+        minor: s[PRIMARY_VALUE_AT + 1],
+        mission: s[PRIMARY_VALUE_AT + 2],
+        format: s[PRIMARY_VALUE_AT + 3],
     }
 }
 
@@ -241,28 +246,6 @@ fn has_data_length(s: &[u8], kind: Kind, size: usize) -> bool
 {
     let rest = size - data_value_at(kind);
     block_length(s, data_at(kind)) == rest as u64
-}
-
-// Whether each block ends within the field that encloses it.
-fn blocks_nest(s: &[u8], kind: Kind, size: usize) -> bool
-    requires { ⌜ (size ≡ recordLength (now s)) × (dataValueAt kind ≤ size) × (size ≤ length (now s)) ⌝ }
-    ensures { λ r. ⌜ r ≡ nests kind (now (s .entry)) ⌝ }
-{
-    let whole = size as u64;
-    let headers = block_end(s, AGGREGATION_AT);
-    let primary = block_end(s, PRIMARY_AT);
-    let secondary = block_end(s, SECONDARY_AT);
-    let data = block_end(s, data_at(kind));
-    (headers <= whole) & (primary <= headers) & (secondary <= headers) & (data <= whole)
-}
-
-// Where the value of the block at an offset ends.
-fn block_end(s: &[u8], at: usize) -> u64
-    requires { ⌜ at + blockLabelSize ≤ length (now s) ⌝ }
-    requires { ⌜ at < 65536 ⌝ }
-    ensures { λ r. ⌜ r ≡ blockEnd (now (s .entry)) at ⌝ }
-{
-    (at + BLOCK_LABEL) as u64 + block_length(s, at)
 }
 
 // The value of the secondary block, that very part of the slice; the empty part at its start where read one refuses.

@@ -46,7 +46,7 @@ use Rattle.sfdu.specs.Nesting.{
   leastLabelLength,
   mostLabelLength,
 }
-use Rattle.sfdu.specs.Read.{primaryWords, primaryOf, hasKind, kindOf, labelLength, recordLength, blockType, blockLength, blockEnd, lengthInRange, isBlock, nests, readRows, accepts, readOne, secondaryPart, dataPart}
+use Rattle.sfdu.specs.Read.{primaryWords, primaryOf, hasKind, kindOf, labelLength, recordLength, blockType, blockLength, lengthInRange, isBlock, readRows, accepts, readOne, secondaryPart, dataPart}
 use Rattle.sfdu_write.specs.Write.{labelBytes, block, primaryBlock, headBytes, recordBytes, sizeOf}
 use Rattle.sfdu.proofs.Placed.{placed}
 use Rattle.sfdu_write.proofs.Written.{length-kind, length-label, length-block, length-primary, length-head, length-record}
@@ -109,22 +109,6 @@ either-kind Rsr s e = by (hasKind Telemetry s)
     by : (b : Bool) → (b || hasKind Rsr s) ≡ true
     by true = refl
     by false = e
-
--- After the checks before it no block ends past the field that encloses it.
-pub always-nests : (k : Kind) (s : List ℕ) → isBlock s aggregationAt aggregationType (aggregationLength k) ≡ true
-    → isBlock s primaryAt primaryType primaryLength ≡ true → isBlock s secondaryAt (secondaryType k) (secondaryLength k) ≡ true
-    → blockLength s (dataAt k) ≡ recordLength s - dataValueAt k → dataValueAt k ≤ recordLength s → nests k s ≡ true
-unfolding nests blockEnd
-always-nests k s a p q d h =
-    let at = placed k in
-    let x = block-is s aggregationAt aggregationType (aggregationLength k) a .1 in
-    let y = block-is s primaryAt primaryType primaryLength p .1 in
-    let z = block-is s secondaryAt (secondaryType k) (secondaryLength k) q .1 in
-    let one : aggregationAt + blockLabelSize + blockLength s aggregationAt ≤ recordLength s = omega arith in
-    let two : primaryAt + blockLabelSize + blockLength s primaryAt ≤ aggregationAt + blockLabelSize + blockLength s aggregationAt = omega arith in
-    let three : secondaryAt + blockLabelSize + blockLength s secondaryAt ≤ aggregationAt + blockLabelSize + blockLength s aggregationAt = omega arith in
-    let four : dataAt k + blockLabelSize + blockLength s (dataAt k) ≤ recordLength s = omega arith in
-    rw (le-leb _ _ one, le-leb _ _ two, le-leb _ _ three, le-leb _ _ four)
 
 -- ---- a written record, and anything behind it
 
@@ -261,8 +245,7 @@ module _ (k : Kind) (p : Primary) (secondary value rest : List ℕ) (hs : length
   none-holds =
       let q = placed k in
       let n = record-length in
-      let type : blockType slice (dataAt k) ≡ dataType = block-is slice (dataAt k) dataType (length value) has-data .0 in
-      let nested : nests k slice ≡ true = always-nests k slice has-aggregation has-primary has-secondary data-length (omega arith) in (
+      let type : blockType slice (dataAt k) ≡ dataType = block-is slice (dataAt k) dataType (length value) has-data .0 in (
         le-ltb (length slice) labelSize (omega (arith, long)),
         (
           ap not has-authority,
@@ -278,7 +261,7 @@ module _ (k : Kind) (p : Primary) (secondary value rest : List ℕ) (hs : length
                     ap not has-aggregation,
                     (
                       ap not has-primary,
-                      (ap not has-secondary, (ap not (eq-eqb _ _ type), (ap not (eq-eqb _ _ data-length), (ap not nested, tt)))),
+                      (ap not has-secondary, (ap not (eq-eqb _ _ type), (ap not (eq-eqb _ _ data-length), tt))),
                     ),
                   ),
                 ),

@@ -33,7 +33,7 @@ never-given k ((n when false) ∷ rows) z a = never-given k rows z (a .1)
 
 -- Read one gives no 16.
 no-16 : (s : List ℕ) → eqb (verdict (readRows s)) 16 ≡ false
-no-16 s = never-given 16 (readRows s) refl (refl, (refl, (refl, (refl, (refl, (refl, (refl, (refl, (refl, (refl, (refl, (refl, tt))))))))))))
+no-16 s = never-given 16 (readRows s) refl (refl, (refl, (refl, (refl, (refl, (refl, (refl, (refl, (refl, (refl, (refl, tt)))))))))))
 
 -- ---- where no record is found
 

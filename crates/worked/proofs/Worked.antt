@@ -6,7 +6,7 @@ use lib.Dec.{lit<}
 use lib.ListN.{getD}
 use Rattle.refusals.specs.Judge.{verdict}
 use Rattle.octets.specs.Octets.{numberAt, bytesOf, part, put, all, sameAt}
-use Rattle.sfdu.specs.Read.{hasKind, kindOf, labelLength, recordLength, blockType, blockLength, blockEnd, lengthInRange, isBlock, nests, accepts, readOne, dataPart}
+use Rattle.sfdu.specs.Read.{hasKind, kindOf, labelLength, recordLength, blockType, blockLength, lengthInRange, isBlock, accepts, readOne, dataPart}
 use Rattle.sfdu_write.specs.Write.{labelBytes, block, primaryBlock, headBytes, recordBytes}
 use Rattle.headers.specs.Words.{number}
 use Rattle.headers.specs.Fields.{signedByte, recordNumber}
@@ -74,7 +74,7 @@ unfolding AllInRange
 low10 = (lit< tt, (tt, (tt, (tt, (tt, (tt, (tt, (tt, (tt, (tt, tt))))))))))
 
 pub worked : Agree table
-unfolding verdict numberAt bytesOf part put all sameAt hasKind kindOf labelLength recordLength blockType blockLength blockEnd lengthInRange isBlock nests accepts readOne dataPart labelBytes block primaryBlock headBytes recordBytes signedByte recordNumber isYear isDay isRsrBand isBand inRange judgedBytes fault readHeaders validKey telemetryKeyCall position noTicks same size anyTicked missing least numberAtPosition hasKey placeWith allUsed lowestFree refusals effect afterRefusal step run rowBytes headerBytes bitsValue tickBytes placeBytes countUsed laid layout
+unfolding verdict numberAt bytesOf part put all sameAt hasKind kindOf labelLength recordLength blockType blockLength lengthInRange isBlock accepts readOne dataPart labelBytes block primaryBlock headBytes recordBytes signedByte recordNumber isYear isDay isRsrBand isBand inRange judgedBytes fault readHeaders validKey telemetryKeyCall position noTicks same size anyTicked missing least numberAtPosition hasKey placeWith allUsed lowestFree refusals effect afterRefusal step run rowBytes headerBytes bitsValue tickBytes placeBytes countUsed laid layout
 worked = (
   refl,
   (

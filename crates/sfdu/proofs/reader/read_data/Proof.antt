@@ -21,37 +21,13 @@ returns-2 : tie.Need-returns-2
 unfolding verdict
 returns-2 c = rw (passed (c .before .before .before .has-data-type .ensures) (c .before .before .if1 .left), failed (c .before .has-data-length .ensures) (c .if2 .taken))
 
-blocks-nest-requires : tie.Need-blocks-nest-requires
-blocks-nest-requires c κs = search needs
+read-primary-requires : tie.Need-read-primary-requires
+read-primary-requires c κs = let k = placed (c .before .before .before .before .before .args .kind) in omega arith
 
 returns-3 : tie.Need-returns-3
 unfolding verdict
-returns-3 c = rw (passed (c .before .before .before .before .before .has-data-type .ensures) (c .before .before .before .before .if1 .left), passed (c .before .before .before .has-data-length .ensures) (c .before .before .if2 .left), failed (c .before .blocks-nest .ensures) (c .if3 .taken))
-
-shared-slice-read-t10 : tie.Need-shared-slice-read-t10
-shared-slice-read-t10 c = let k = placed (c .before .before .before .before .before .before .before .before .args .kind) in omega arith
-
-add-t11 : tie.Need-add-t11
-add-t11 c = search needs
-
-shared-slice-read-t13 : tie.Need-shared-slice-read-t13
-shared-slice-read-t13 c = let k = placed (c .before .before .before .before .before .before .before .before .before .args .kind) in omega arith
-
-add-t14 : tie.Need-add-t14
-add-t14 c = search needs
-
-shared-slice-read-t16 : tie.Need-shared-slice-read-t16
-shared-slice-read-t16 c = let k = placed (c .before .before .before .before .before .before .before .before .before .before .args .kind) in omega arith
-
-add-t17 : tie.Need-add-t17
-add-t17 c = search needs
-
-shared-slice-read-t19 : tie.Need-shared-slice-read-t19
-shared-slice-read-t19 c = let k = placed (c .before .before .before .before .before .before .before .before .before .before .before .args .kind) in omega arith
-
-returns-4 : tie.Need-returns-4
-unfolding verdict
-returns-4 c = rw (passed (c .before .before .before .before .before .before .before .before .before .has-data-type .ensures) (c .before .before .before .before .before .before .before .before .if1 .left), passed (c .before .before .before .before .before .before .before .has-data-length .ensures) (c .before .before .before .before .before .before .if2 .left), passed (c .before .before .before .before .before .blocks-nest .ensures) (c .before .before .before .before .if3 .left), c .before .before .before .before .before .before .before .before .before .before .before .pre .0)
+returns-3 c =
+    rw (passed (c .before .before .before .before .has-data-type .ensures) (c .before .before .before .if1 .left), passed (c .before .before .has-data-length .ensures) (c .before .if2 .left), c .before .before .before .before .before .before .pre .0) (cc (c .read-primary .ensures))
 
 pub read-data-spec : {M : Type 1} → statement M
 read-data-spec =
@@ -61,13 +37,5 @@ read-data-spec =
     returns
     has-data-length-requires
     returns-2
-    blocks-nest-requires
-    returns-3
-    shared-slice-read-t10
-    add-t11
-    shared-slice-read-t13
-    add-t14
-    shared-slice-read-t16
-    add-t17
-    shared-slice-read-t19
-    returns-4)
+    read-primary-requires
+    returns-3)
