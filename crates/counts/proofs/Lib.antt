@@ -1,3 +1,4 @@
 pub mod Missing
 pub mod TickBytes
 pub mod Reports
+pub mod WordBits

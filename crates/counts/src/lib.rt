@@ -20,9 +20,53 @@ ghost use Rattle.sheet.specs.Sheet.{sheetSize, rowSize, ticksAt, ticksSize, row
 ghost use Rattle.changes.specs.Rows.{tickedAt, ticksOf};
 ghost use Rattle.changes.specs.Bytes.{lowest, pastHighest, numberAtPosition, reportWords, gapFrom};
 ghost use Rattle.sheet.specs.Words.{reportAnswerWords, gapWords};
+ghost use Rattle.counts.specs.Words.{wordBits, wordCount, littleAt, IsWord};
 
 // A tick byte whose positions are all ticked.
 const FULL: u8 = 255;
+
+// A word of ticks, in bytes.
+const WORD: usize = 8;
+
+const HALF: usize = 4;
+
+const QUARTER: usize = 2;
+
+// The ticks of the 64 positions from 64 k on, as one number: bit i of it is position 64 k + i.
+fn tick_word(s: &[u8], a: usize, k: usize) -> u64
+    requires { ⌜ (a + rowSize ≤ length (now s)) × (k < wordCount) ⌝ }
+    ensures { λ r. ⌜ IsWord (now (s .entry)) a k r ⌝ }
+{
+    read_word(s, a + TICKS_AT + WORD * k)
+}
+
+// The little-endian number in the eight bytes from index b, by halves, and in four and in two. LLVM makes one load of it.
+fn read_word(s: &[u8], b: usize) -> u64
+    requires { ⌜ b + 8 ≤ length (now s) ⌝ }
+    ensures { λ r. ⌜ r ≡ littleAt (now (s .entry)) b 8 ⌝ }
+{
+    let low = read_half(s, b);
+    let high = read_half(s, b + HALF);
+    low as u64 + 4294967296 * high as u64
+}
+
+fn read_half(s: &[u8], b: usize) -> u32
+    requires { ⌜ b + 4 ≤ length (now s) ⌝ }
+    ensures { λ r. ⌜ r ≡ littleAt (now (s .entry)) b 4 ⌝ }
+{
+    let low = read_quarter(s, b);
+    let high = read_quarter(s, b + QUARTER);
+    low as u32 + 65536 * high as u32
+}
+
+fn read_quarter(s: &[u8], b: usize) -> u16
+    requires { ⌜ b + 2 ≤ length (now s) ⌝ }
+    ensures { λ r. ⌜ r ≡ littleAt (now (s .entry)) b 2 ⌝ }
+{
+    let low = s[b];
+    let high = s[b + 1];
+    low as u16 + 256 * high as u16
+}
 
 // How many positions of the row at offset a are ticked: the ones of its tick bytes. They are summed in 16 bits, of which
 // LLVM adds twice as many at a time as of 32.
