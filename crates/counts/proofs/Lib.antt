@@ -1,4 +1,4 @@
 pub mod Missing
-pub mod TickBytes
-pub mod Reports
 pub mod WordBits
+pub mod WordCounts
+pub mod Reports

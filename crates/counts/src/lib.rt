@@ -13,20 +13,20 @@ use sheet::right::rows_used;
 ghost use mathlib.Core.Path.{_≡_};
 ghost use mathlib.Core.Bool.{not};
 ghost use Prim.Native.Nat.{_+_, _≤_, _<_};
-ghost use lib.Dec.{eqb};
-ghost use lib.ListN.{length, getD};
+ghost use lib.ListN.{length};
 ghost use Rattle.model.specs.Positions.{rowLength, size};
-ghost use Rattle.sheet.specs.Sheet.{sheetSize, rowSize, ticksAt, ticksSize, rowCount, rowAt, used, Sized};
+ghost use Rattle.sheet.specs.Sheet.{sheetSize, rowSize, rowCount, rowAt, used, Sized};
 ghost use Rattle.changes.specs.Rows.{tickedAt, ticksOf};
 ghost use Rattle.changes.specs.Bytes.{lowest, pastHighest, numberAtPosition, reportWords, gapFrom};
 ghost use Rattle.sheet.specs.Words.{reportAnswerWords, gapWords};
-ghost use Rattle.counts.specs.Words.{wordBits, wordCount, littleAt, IsWord};
+ghost use Rattle.counts.specs.Words.{wordCount, littleAt, IsWord};
 
-// A tick byte whose positions are all ticked.
-const FULL: u8 = 255;
-
-// A word of ticks, in bytes.
+// A word of ticks, in bytes and in positions, and how many of them a row has.
 const WORD: usize = 8;
+
+const WORD_BITS: usize = BYTE_BITS * WORD;
+
+const WORDS: usize = TICKS / WORD;
 
 const HALF: usize = 4;
 
@@ -68,17 +68,16 @@ fn read_quarter(s: &[u8], b: usize) -> u16
     low as u16 + 256 * high as u16
 }
 
-// How many positions of the row at offset a are ticked: the ones of its tick bytes. They are summed in 16 bits, of which
-// LLVM adds twice as many at a time as of 32.
+// How many positions of the row at offset a are ticked: the ones of its words.
 fn ticked_count(s: &[u8], a: usize) -> u32
     requires { ⌜ a + rowSize ≤ length (now s) ⌝ }
     ensures { λ r. ⌜ r ≡ size (ticksOf (now (s .entry)) a) ⌝ }
 {
-    let mut count: u16 = 0;
-    for n in 0..TICKS {
-        count += u8::count_ones(s[a + TICKS_AT + n]) as u16;
+    let mut count: u32 = 0;
+    for k in 0..WORDS {
+        count += u64::count_ones(tick_word(s, a, k));
     }
-    count as u32
+    count
 }
 
 // One past the highest ticked position of the row at offset a, or 0. What is unticked below it is missing.
@@ -86,26 +85,15 @@ fn ticks_end(s: &[u8], a: usize) -> usize
     requires { ⌜ a + rowSize ≤ length (now s) ⌝ }
     ensures { λ r. ⌜ r ≡ pastHighest rowLength (tickedAt (now (s .entry)) a) ⌝ }
 {
-    let mut end = BYTE_BITS * bytes_end(s, a);
-    while 0 < end {
-        if is_ticked(s, a, end - 1) {
-            return end;
+    let mut words = WORDS;
+    while 0 < words {
+        let word = tick_word(s, a, words - 1);
+        if word != 0 {
+            return WORD_BITS * words - u64::leading_zeros(word) as usize;
         }
-        end -= 1;
+        words -= 1;
     }
     0
-}
-
-// One past the highest tick byte that is not zero, or 0. No position is ticked from there on.
-fn bytes_end(s: &[u8], a: usize) -> usize
-    requires { ⌜ a + rowSize ≤ length (now s) ⌝ }
-    ensures { λ r. ⌜ r ≡ pastHighest ticksSize (λ n. not (eqb (getD (now (s .entry)) (a + ticksAt + n) 0) 0)) ⌝ }
-{
-    let mut end = TICKS;
-    while 0 < end && s[a + TICKS_AT + (end - 1)] == 0 {
-        end -= 1;
-    }
-    end
 }
 
 // The lowest unticked position below end of the row at offset a, or end.
@@ -113,25 +101,19 @@ fn lowest_unticked(s: &[u8], a: usize, end: usize) -> usize
     requires { ⌜ (a + rowSize ≤ length (now s)) × (end ≤ rowLength) ⌝ }
     ensures { λ r. ⌜ r ≡ lowest end (λ i. not (tickedAt (now (s .entry)) a i)) ⌝ }
 {
-    let start = BYTE_BITS * lowest_unfilled(s, a, end / BYTE_BITS);
-    for i in start..end {
-        if !is_ticked(s, a, i) {
-            return i;
+    let mut k = 0;
+    while WORD_BITS * k < end {
+        let unticked = !tick_word(s, a, k);
+        if unticked != 0 {
+            let at = WORD_BITS * k + u64::trailing_zeros(unticked) as usize;
+            if at < end {
+                return at;
+            }
+            return end;
         }
+        k += 1;
     }
     end
-}
-
-// The lowest tick byte below end that is not full, or end. All positions below it are ticked.
-fn lowest_unfilled(s: &[u8], a: usize, end: usize) -> usize
-    requires { ⌜ (a + rowSize ≤ length (now s)) × (end ≤ ticksSize) ⌝ }
-    ensures { λ r. ⌜ r ≡ lowest end (λ n. not (eqb (getD (now (s .entry)) (a + ticksAt + n) 0) 255)) ⌝ }
-{
-    let mut n = 0;
-    while n < end && s[a + TICKS_AT + n] == FULL {
-        n += 1;
-    }
-    n
 }
 
 // The number at position i of the row at offset a.
