@@ -45,6 +45,9 @@ module _ (s : List ℕ) (a : ℕ) where
       let none = row-whole (λ j q. not-false _ (lowest-fails end unticked j (omega arith))) in
       rw (none, least-none (missing (ticksOf s a)) none)
 
+  pub report-none : end ≡ 0 → 0 ∷ 0 ∷ 0 ∷ [] ≡ reportWords s a
+  report-none e = let none : size (ticksOf s a) ≡ 0 = omega (arith, row-count) in rw none at (report-whole (omega arith))
+
   pub report-gaps : lowest end unticked < end
       → 0 ∷ size (ticksOf s a) ∷ (end - size (ticksOf s a)) ∷ numberAtPosition s a (lowest end unticked) ∷ [] ≡ reportWords s a
   unfolding reportWords

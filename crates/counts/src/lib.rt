@@ -132,8 +132,11 @@ pub fn row_report(s: &[u8], row: usize) -> ReportAnswer
     ensures { λ r. ⌜ reportAnswerWords r ≡ reportWords (now (s .entry)) (rowAt row) ⌝ }
 {
     let a = ROWS_AT + ROW * row;
-    let ticked = ticked_count(s, a);
     let end = ticks_end(s, a);
+    if end == 0 {
+        return ReportAnswer::Whole { ticked: 0 };
+    }
+    let ticked = ticked_count(s, a);
     let at = lowest_unticked(s, a, end);
     if at >= end {
         return ReportAnswer::Whole { ticked };

@@ -1,7 +1,7 @@
 -- `counts::row_report` meets its contract. Assumes nothing.
 use native.Mathlib.Omega.{arith}
 use Rattle.sheet.specs.Sheet.{rowAt}
-use Rattle.counts.proofs.Reports.{end-within, row-count, report-whole, report-gaps}
+use Rattle.counts.proofs.Reports.{end-within, row-count, report-none, report-whole, report-gaps}
 use Rattle.counts.proofs.row_report.Statement.{statement}
 use Rattle.counts.proofs.row_report.Tie as tie
 
@@ -11,45 +11,50 @@ mul-a c = omega arith
 add-a : tie.Need-add-a
 add-a c = omega arith
 
-ticked-count-requires : tie.Need-ticked-count-requires
-ticked-count-requires c κs = omega arith
-
 ticks-end-requires : tie.Need-ticks-end-requires
 ticks-end-requires c κs = omega arith
 
-lowest-unticked-requires : tie.Need-lowest-unticked-requires
-lowest-unticked-requires c κs =
-    let g = c .before .before .before .args in
-    (omega arith, rw (c .ticks-end .ensures) (end-within (g .s .now) (rowAt (g .row))))
-
 returns : tie.Need-returns
 returns c =
-    let g = c .before .before .before .before .before .args in
-    let end = c .before .before .ticks-end .ensures in
-    let at = rw end at (c .before .lowest-unticked .ensures) in
-    rw (c .before .before .before .ticked-count .ensures) (report-whole (g .s .now) (rowAt (g .row)) (rw (end, at) at (c .if1 .taken)))
+    let g = c .before .before .before .args in
+    report-none (g .s .now) (rowAt (g .row)) (rw (c .before .ticks-end .ensures) at (c .if1 .taken))
 
-cast-t9 : tie.Need-cast-t9
-cast-t9 c =
-    let g = c .before .before .before .before .before .args in
-    omega (arith, end-within (g .s .now) (rowAt (g .row)), c .before .before .ticks-end .ensures)
+ticked-count-requires : tie.Need-ticked-count-requires
+ticked-count-requires c κs = omega arith
 
-sub-t10 : tie.Need-sub-t10
-sub-t10 c =
-    let g = c .before .before .before .before .before .args in
-    omega (arith, row-count (g .s .now) (rowAt (g .row)), c .before .before .ticks-end .ensures, c .before .before .before .ticked-count .ensures)
-
-number-in-requires : tie.Need-number-in-requires
-number-in-requires c κs =
-    let g = c .before .before .before .before .before .args in
-    omega (arith, end-within (g .s .now) (rowAt (g .row)), c .before .before .ticks-end .ensures)
+lowest-unticked-requires : tie.Need-lowest-unticked-requires
+lowest-unticked-requires c κs =
+    let g = c .before .before .before .before .args in
+    (omega arith, rw (c .before .before .ticks-end .ensures) (end-within (g .s .now) (rowAt (g .row))))
 
 returns-2 : tie.Need-returns-2
 returns-2 c =
     let g = c .before .before .before .before .before .before .args in
-    let end = c .before .before .before .ticks-end .ensures in
+    let end = c .before .before .before .before .ticks-end .ensures in
+    let at = rw end at (c .before .lowest-unticked .ensures) in
+    rw (c .before .before .ticked-count .ensures) (report-whole (g .s .now) (rowAt (g .row)) (rw (end, at) at (c .if2 .taken)))
+
+cast-t9 : tie.Need-cast-t9
+cast-t9 c =
+    let g = c .before .before .before .before .before .before .args in
+    omega (arith, end-within (g .s .now) (rowAt (g .row)), c .before .before .before .before .ticks-end .ensures)
+
+sub-t10 : tie.Need-sub-t10
+sub-t10 c =
+    let g = c .before .before .before .before .before .before .args in
+    omega (arith, row-count (g .s .now) (rowAt (g .row)), c .before .before .before .before .ticks-end .ensures, c .before .before .ticked-count .ensures)
+
+number-in-requires : tie.Need-number-in-requires
+number-in-requires c κs =
+    let g = c .before .before .before .before .before .before .args in
+    omega (arith, end-within (g .s .now) (rowAt (g .row)), c .before .before .before .before .ticks-end .ensures)
+
+returns-3 : tie.Need-returns-3
+returns-3 c =
+    let g = c .before .before .before .before .before .before .before .args in
+    let end = c .before .before .before .before .before .ticks-end .ensures in
     let at = rw end at (c .before .before .lowest-unticked .ensures) in
-    rw (c .before .before .before .before .ticked-count .ensures, end, c .number-in .ensures, at) (report-gaps (g .s .now) (rowAt (g .row)) (rw (end, at) at (c .before .if1 .left)))
+    rw (c .before .before .before .ticked-count .ensures, end, c .number-in .ensures, at) (report-gaps (g .s .now) (rowAt (g .row)) (rw (end, at) at (c .before .if2 .left)))
 
 pub row-report-spec : {M : Type 1} → statement M
 row-report-spec =
@@ -57,11 +62,12 @@ row-report-spec =
     (tie.spec
     mul-a
     add-a
-    ticked-count-requires
     ticks-end-requires
-    lowest-unticked-requires
     returns
+    ticked-count-requires
+    lowest-unticked-requires
+    returns-2
     cast-t9
     sub-t10
     number-in-requires
-    returns-2)
+    returns-3)
