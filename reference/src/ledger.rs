@@ -12,6 +12,7 @@ pub const DESK_PLACES: usize = 8;
 pub const DESKS: usize = 4_504;
 pub const DESK: usize = 284;
 pub const POSITIONS: u32 = 1_024;
+const TICK_WORDS: usize = 16;
 
 // Offsets in the header, a row and a desk.
 pub const USED: usize = 4;
@@ -266,33 +267,53 @@ pub struct Report {
     pub lowest: Option<u32>,
 }
 
-/// The ticked positions are counted, and those unticked below the highest of them are missing.
 pub fn report(s: &[u8], r: u32) -> Result<Report, u32> {
     judge_sheet(s)?;
     let r = judge_row(s, r)?;
-    let ticks = ticks(row(s, r));
-    let ticked: u32 = ticks.iter().map(|byte| byte.count_ones()).sum();
-    let missing = match highest_ticked(ticks) {
-        Some(highest) => highest + 1 - ticked,
-        None => 0,
-    };
-    Ok(Report { ticked, missing, lowest: lowest_missing_number(row(s, r)) })
+    Ok(report_row(row(s, r)))
 }
 
-fn highest_ticked(ticks: &[u8]) -> Option<u32> {
-    let last = ticks.iter().rposition(|byte| *byte != 0)?;
-    Some(8 * last as u32 + 7 - ticks[last].leading_zeros())
+/// The report of a row's bytes: the ticked positions are counted, and those unticked below the highest of them are missing.
+pub fn report_row(row: &[u8]) -> Report {
+    let words = tick_words(row);
+    let end = ticks_end(&words);
+    if end == 0 {
+        return Report { ticked: 0, missing: 0, lowest: None };
+    }
+    let ticked = words.iter().map(|word| word.count_ones()).sum();
+    let lowest = lowest_unticked(&words).filter(|position| *position < end);
+    Report { ticked, missing: end - ticked, lowest: lowest.map(|position| number_at(row, position)) }
 }
 
-fn lowest_unticked(ticks: &[u8]) -> Option<u32> {
-    let byte = ticks.iter().position(|byte| *byte != 0xFF)?;
-    Some(8 * byte as u32 + ticks[byte].trailing_ones())
+/// The ticks as words of 64: bit i of word k is position 64 k + i.
+fn tick_words(row: &[u8]) -> [u64; TICK_WORDS] {
+    let mut words = [0; TICK_WORDS];
+    for (word, bytes) in words.iter_mut().zip(ticks(row).chunks_exact(8)) {
+        *word = u64::from_le_bytes(bytes.try_into().expect("eight bytes"));
+    }
+    words
+}
+
+/// One past the highest ticked position; 0 where none is ticked.
+fn ticks_end(words: &[u64; TICK_WORDS]) -> u32 {
+    let last = words.iter().rposition(|word| *word != 0);
+    last.map_or(0, |k| 64 * (k as u32 + 1) - words[k].leading_zeros())
+}
+
+fn lowest_unticked(words: &[u64; TICK_WORDS]) -> Option<u32> {
+    let k = words.iter().position(|word| *word != u64::MAX)?;
+    Some(64 * k as u32 + (!words[k]).trailing_zeros())
+}
+
+/// The number at a position of the row.
+fn number_at(row: &[u8], position: u32) -> u32 {
+    first(row).wrapping_add(position)
 }
 
 fn lowest_missing_number(row: &[u8]) -> Option<u32> {
-    let highest = highest_ticked(ticks(row))?;
-    let position = lowest_unticked(ticks(row)).filter(|position| *position < highest)?;
-    Some(first(row).wrapping_add(position))
+    let words = tick_words(row);
+    let position = lowest_unticked(&words).filter(|position| *position < ticks_end(&words))?;
+    Some(number_at(row, position))
 }
 
 /// The first missing number, and its row.

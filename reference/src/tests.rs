@@ -144,6 +144,27 @@ fn p8_report() {
     assert_eq!(ledger::first_gap(&s), Ok(Some((3, 0))));
 }
 
+/// Reports on rows of every shape, position by position.
+#[test]
+fn reports_are_those_of_the_positions() {
+    let rng = Rng::new(6);
+    for _ in 0..2_000 {
+        let s = nights::sheet_with(&rng, 1, 0);
+        let (row, first) = (ledger::row(&s, 0), ledger::first(ledger::row(&s, 0)));
+        let is_ticked = |i: u32| row[12 + i as usize / 8] >> (i % 8) & 1 == 1;
+        let highest = (0..1_024).rev().find(|i| is_ticked(*i)).unwrap_or(0);
+        let missing: Vec<u32> = (0..highest).filter(|i| !is_ticked(*i)).collect();
+        let report = Report {
+            ticked: (0..1_024).filter(|i| is_ticked(*i)).count() as u32,
+            missing: missing.len() as u32,
+            lowest: missing.first().map(|i| first.wrapping_add(*i)),
+        };
+        assert_eq!(ledger::first_gap(&s), Ok(report.lowest.map(|number| (number, 0))));
+        assert_eq!(ledger::report_row(row), report);
+        assert_eq!(ledger::report(&s, 0), Ok(report));
+    }
+}
+
 #[test]
 fn p9_stale() {
     let (a, b) = (0, 1);
