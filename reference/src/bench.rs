@@ -11,6 +11,8 @@ use std::time::Instant;
 const PASSES: usize = 7;
 /// A pass lasts about this long.
 const PASS_SECONDS: f64 = 0.05;
+/// Reports of a pass.
+const REPORTS: usize = 1_000_000;
 
 /// The calls that are timed. Each returns a number made of its answer, by which implementations are held to the same.
 pub struct Implementation {
@@ -21,6 +23,8 @@ pub struct Implementation {
     pub tick: fn(&mut [u8], u32, u32) -> u64,
     pub untick: fn(&mut [u8], u32, u32) -> u64,
     pub report: fn(&[u8], u32) -> u64,
+    /// The counting alone: the report of a row of a right sheet, without the sheet's check.
+    pub count: fn(&[u8], u32) -> u64,
 }
 
 pub const REFERENCE: Implementation = Implementation {
@@ -32,6 +36,7 @@ pub const REFERENCE: Implementation = Implementation {
     tick: |s, desk, n| ledger::tick(s, desk, n).err().unwrap_or(0) as u64,
     untick: |s, desk, n| ledger::untick(s, desk, n).err().unwrap_or(0) as u64,
     report: |s, row| report_number(ledger::report(s, row)),
+    count: |s, row| report_number(Ok(ledger::report_row(ledger::row(s, row as usize)))),
 };
 
 /// Every number of the answer, one on the other, so that every field has to be read; Px/No, which may be negative, is left out.
@@ -118,11 +123,22 @@ fn pass(tries: usize, mut try_once: impl FnMut() -> u64) -> f64 {
 /// One line: the best pass of each implementation, and how many times the first one's the others take. The passes
 /// take turns, so that a busy machine slows all alike.
 fn compare(name: &str, calls: f64, each: &[Implementation], mut run: impl FnMut(&Implementation) -> u64) {
+    let tries = tries(|| run(&each[0]));
+    compare_passes(name, calls, tries, each, run);
+}
+
+/// The same with passes of so many tries.
+fn compare_passes(
+    name: &str,
+    calls: f64,
+    tries: usize,
+    each: &[Implementation],
+    mut run: impl FnMut(&Implementation) -> u64,
+) {
     let expected = run(&each[0]);
     for implementation in each {
         assert_eq!(run(implementation), expected, "{name}: {} answers otherwise", implementation.name);
     }
-    let tries = tries(|| run(&each[0]));
     let mut best = vec![f64::INFINITY; each.len()];
     for _ in 0..PASSES {
         for (implementation, best) in each.iter().zip(&mut best) {
@@ -162,6 +178,7 @@ pub fn run() {
     for (name, s) in [("row report: one row", &one_row_sheet()), ("row report: 32 rows, 8 desks open", &full)] {
         compare(name, 1.0, &each, |i| (i.report)(black_box(s), 0));
     }
+    reports(&each);
     listing();
 }
 
@@ -180,6 +197,36 @@ fn one_row_sheet() -> Vec<u8> {
     }
     ledger::save(&mut s, 0).expect("not stale");
     ledger::open(&mut s, 0, 0).expect("a closed desk");
+    s
+}
+
+/// A million reports a pass on a sheet of one row: the counting alone, and the call with its sheet's check.
+fn reports(each: &[Implementation]) {
+    for (row, ticked) in [
+        ("no tick", Vec::new()),
+        ("gap at the start", (1..1024).collect()),
+        ("gap at the end", (0..1024).filter(|n| *n != 1022).collect()),
+        ("whole", (0..1024).collect::<Vec<u32>>()),
+    ] {
+        let s = ticked_sheet(&ticked);
+        compare_passes(&format!("counting alone: {row}"), 1.0, REPORTS, each, |i| {
+            (i.count)(black_box(&s), black_box(0))
+        });
+        compare_passes(&format!("row report, one row: {row}"), 1.0, REPORTS, each, |i| {
+            (i.report)(black_box(&s), black_box(0))
+        });
+    }
+}
+
+/// A sheet of one row, in which these numbers are ticked.
+fn ticked_sheet(numbers: &[u32]) -> Vec<u8> {
+    let mut s = fresh_sheet();
+    ledger::enrol(&mut s, 760_930_632_193, 0).expect("a fresh sheet");
+    ledger::open(&mut s, 0, 0).expect("a closed desk");
+    for n in numbers {
+        ledger::tick(&mut s, 0, *n).expect("not ticked");
+    }
+    ledger::save(&mut s, 0).expect("not stale");
     s
 }
 

@@ -11,6 +11,7 @@ extern "C" {
     fn bench_tick(s: *mut u8, length: usize, desk: u32, n: u32) -> u64;
     fn bench_untick(s: *mut u8, length: usize, desk: u32, n: u32) -> u64;
     fn bench_report(s: *const u8, length: usize, row: u32) -> u64;
+    fn bench_count(s: *const u8, length: usize, row: u32) -> u64;
 }
 
 // Each pointer is good for its length, which is all that the functions ask.
@@ -22,4 +23,5 @@ pub const RATTLE: Implementation = Implementation {
     tick: |s, desk, n| unsafe { bench_tick(s.as_mut_ptr(), s.len(), desk, n) },
     untick: |s, desk, n| unsafe { bench_untick(s.as_mut_ptr(), s.len(), desk, n) },
     report: |s, row| unsafe { bench_report(s.as_ptr(), s.len(), row) },
+    count: |s, row| unsafe { bench_count(s.as_ptr(), s.len(), row) },
 };

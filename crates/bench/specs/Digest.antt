@@ -1,10 +1,12 @@
 -- One number made of an answer, by which the benchmarks hold two implementations to the same. Assumes nothing.
 use Prim.Native.Nat.{ℕ, _+_, _*_, _^_}
-use mathlib.Core.Bool.{Bool, cond}
+use mathlib.Core.Bool.{Bool, cond, _&&_}
 use mathlib.Core.List.{List, [], _∷_}
 use lib.Bits.{bitXor}
-use lib.Dec.{eqb}
-use lib.ListN.{getD}
+use lib.Dec.{eqb, ltb}
+use lib.ListN.{length, getD}
+use Rattle.sheet.specs.Sheet.{sheetSize, rowCount, rowAt}
+use Rattle.changes.specs.Bytes.{reportWords}
 use Rattle.headers.specs.Words.{Word, number, signed, none}
 
 -- What a word adds to a number. A signed word and none add nothing.
@@ -27,3 +29,7 @@ flag b = cond b 1 0
 -- The ticked and the missing count of a report and the lowest missing number, or the refusal's number.
 abbrev pub counts : List ℕ → ℕ
 counts words = cond (eqb (getD words 0 0) 0) (bitXor (getD words 1 0 * 2 ^ 32 + getD words 2 0) (getD words 3 0)) (getD words 0 0)
+
+-- The same of a row of a slice that has a sheet's length, right or not; nothing of any other.
+abbrev pub counted : List ℕ → ℕ → ℕ
+counted s row = cond (eqb (length s) sheetSize && ltb row rowCount) (counts (reportWords s (rowAt row))) 0

@@ -7,12 +7,14 @@ use headers::RsrTime;
 use headers::TelemetryFields;
 use sfdu::Primary;
 use sheet::Answer;
+use sheet::ROWS;
 use sheet::ReportAnswer;
+use sheet::SHEET;
 ghost use mathlib.Core.Path.{_≡_};
 ghost use mathlib.Core.List.{[], _∷_, _++_, map};
 ghost use Prim.Native.Nat.{_+_, _*_, _^_};
 ghost use lib.ListN.{getD};
-ghost use Rattle.sheet.specs.Words.{answerWords};
+ghost use Rattle.sheet.specs.Words.{answerWords, reportAnswerWords};
 ghost use Rattle.sfdu.specs.Read.{primaryWords};
 ghost use Rattle.headers.specs.Words.{number};
 ghost use Rattle.headers.specs.Headers.{readHeaders, bandWord, telemetryFieldWords, sourceWords, signalWords, timeWords};
@@ -21,7 +23,7 @@ ghost use Rattle.sheet.specs.Sheet.{right};
 ghost use Rattle.model.specs.Step.{Tick, Untick};
 ghost use Rattle.model.specs.Counts.{rowReport};
 ghost use Rattle.layout.specs.Layout.{call, report, onSheet};
-ghost use Rattle.bench.specs.Digest.{value, onto, digest, flag, counts};
+ghost use Rattle.bench.specs.Digest.{value, onto, digest, flag, counts, counted};
 
 // The words of an accepted answer that the kinds begin with, and that of a field out of range; and what adds nothing to a number.
 const ACCEPTED: u64 = 0;
@@ -173,8 +175,28 @@ fn said(answer: Answer) -> u64
 pub extern "C" fn bench_report(s: &[u8], row: u32) -> u64
     ensures { λ r. ⌜ r ≡ counts (onSheet (report (λ b. rowReport b row)) (now (s .entry)) .0) ⌝ }
 {
-    let found = ledger::row_report(s, row);
-    match found {
+    reported(ledger::row_report(s, row))
+}
+
+// The counting alone: the report of a row of a slice that has a sheet's length, without the sheet's check.
+#[no_mangle]
+pub extern "C" fn bench_count(s: &[u8], row: u32) -> u64
+    ensures { λ r. ⌜ r ≡ counted (now (s .entry)) row ⌝ }
+{
+    let row = row as usize;
+    if s.len() != SHEET {
+        return NOTHING;
+    }
+    if row >= ROWS {
+        return NOTHING;
+    }
+    reported(counts::row_report(s, row))
+}
+
+fn reported(answer: ReportAnswer) -> u64
+    ensures { λ r. ⌜ r ≡ counts (reportAnswerWords answer) ⌝ }
+{
+    match answer {
         ReportAnswer::Whole { ticked } => packed(ticked, 0) ^ NOTHING,
         ReportAnswer::Gaps {
             ticked,
