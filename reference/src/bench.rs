@@ -44,8 +44,7 @@ fn headers_number(answer: Result<(Record, Fields), Refused>) -> u64 {
     match answer {
         Ok((record, Fields::Telemetry(fields))) => record_number(&record) ^ telemetry_number(&fields),
         Ok((record, Fields::Rsr(fields))) => record_number(&record) ^ rsr_number(&fields),
-        Err(Refused::Number(refusal)) => refusal as u64,
-        Err(Refused::Field(offset)) => 12 ^ offset as u64,
+        Err(refused) => refused.number() as u64 ^ refused.detail(0),
     }
 }
 
@@ -157,9 +156,11 @@ pub fn run() {
         let s = sample::headers_sample(kind);
         compare(name, 1.0, &each, |i| (i.read_headers)(black_box(&s), black_box(kind)));
     }
-    for (name, records, length) in
-        [("walk, a record of 120 bytes", 1_000_000, 120), ("walk, a record of 1,000 bytes", 100_000, 1_000)]
-    {
+    for (name, records, length) in [
+        ("walk, a record of 120 bytes, in cache", 1_000, 120),
+        ("walk, a record of 120 bytes", 1_000_000, 120),
+        ("walk, a record of 1,000 bytes", 100_000, 1_000),
+    ] {
         let s = sample::telemetry_stream(records, length);
         compare(name, records as f64, &each, |i| (i.walk)(black_box(&s)));
     }

@@ -16,16 +16,22 @@ pub fn telemetry_key(spacecraft: u32, source: u32, equipment: u32, stream: u32) 
     if !(fits(spacecraft, 10) && fits(source, 8) && fits(equipment, 16) && fits(stream, 8)) {
         return Err(22);
     }
-    Ok(((spacecraft as u64) << 32) + ((source as u64) << 24) + ((equipment as u64) << 8) + stream as u64)
+    Ok(of_telemetry(spacecraft, source, equipment, stream))
 }
 
 pub fn rsr_key(spacecraft: u32, station: u32, receiver: u32, subchannel: u32) -> Result<u64, u32> {
     if !(fits(spacecraft, 8) && fits(station, 8) && fits(receiver, 8) && fits(subchannel, 8)) {
         return Err(22);
     }
-    Ok(FIRST_RSR
-        + ((spacecraft as u64) << 24)
-        + ((station as u64) << 16)
-        + ((receiver as u64) << 8)
-        + subchannel as u64)
+    Ok(of_rsr(spacecraft, station, receiver, subchannel))
+}
+
+/// The key of numbers that are each within its field.
+pub(crate) fn of_telemetry(spacecraft: u32, source: u32, equipment: u32, stream: u32) -> u64 {
+    ((spacecraft as u64) << 32) + ((source as u64) << 24) + ((equipment as u64) << 8) + stream as u64
+}
+
+/// The key of numbers that are each within its field.
+pub(crate) fn of_rsr(spacecraft: u32, station: u32, receiver: u32, subchannel: u32) -> u64 {
+    FIRST_RSR + ((spacecraft as u64) << 24) + ((station as u64) << 16) + ((receiver as u64) << 8) + subchannel as u64
 }

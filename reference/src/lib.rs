@@ -10,6 +10,7 @@ pub mod stream;
 
 // What is done with them.
 pub mod bench;
+pub mod coverage;
 pub mod make;
 pub mod nights;
 pub mod random;

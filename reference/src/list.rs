@@ -1,6 +1,6 @@
-//! The listing program. Document 01: its example, and refusal 17.
+//! The listing program. Document 01: its example, and refusal 17; request 05: the last line's third number.
 
-use crate::record::{self, Record, TELEMETRY};
+use crate::record::{self, Record, Refused, TELEMETRY};
 use std::ffi::OsString;
 use std::fs::File;
 use std::io::{self, Read, Write};
@@ -73,9 +73,9 @@ impl<R: Read> Window<R> {
     }
 
     /// The record at the start of what is held; 1 and 6 are believed only when the window can hold no more.
-    fn record(&mut self) -> io::Result<Result<Record, u32>> {
+    fn record(&mut self) -> io::Result<Result<Record, Refused>> {
         let answer = read_in_window(self.held());
-        if !self.at_end && matches!(answer, Err(1 | 6)) {
+        if !self.at_end && matches!(answer, Err(Refused::Short { .. })) {
             self.refill()?;
             return Ok(read_in_window(self.held()));
         }
@@ -84,10 +84,11 @@ impl<R: Read> Window<R> {
 }
 
 /// Read one, with 17 straight after 5.
-pub fn read_in_window(s: &[u8]) -> Result<Record, u32> {
-    let (layout, n) = record::read_label(s)?;
+pub fn read_in_window(s: &[u8]) -> Result<Record, Refused> {
+    let layout = record::read_kind(s)?;
+    let n = record::read_length(s, layout)?;
     if n > WINDOW {
-        return Err(17);
+        return Err(Refused::Number(17));
     }
     record::read_blocks(s, layout, n)
 }
@@ -111,9 +112,12 @@ pub fn list(input: impl Read, out: &mut impl Write) -> io::Result<io::Result<()>
                 window.start += record.length;
                 place += record.length as u64;
             }
-            Err(refusal) => {
-                let stop = if window.held().is_empty() { 0 } else { refusal };
-                writeln!(out, "{place} {stop}")?;
+            Err(_) if window.held().is_empty() => {
+                writeln!(out, "{place} 0 0")?;
+                return Ok(Ok(()));
+            }
+            Err(refused) => {
+                writeln!(out, "{place} {} {}", refused.number(), refused.detail(place))?;
                 return Ok(Ok(()));
             }
         }

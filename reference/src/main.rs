@@ -1,22 +1,19 @@
 //! The commands; see README.md.
 
+use reference::coverage::Coverage;
 use reference::{bench, list, random, sample, script, tables};
-use std::collections::BTreeMap;
 use std::ffi::OsString;
 use std::io::{self, BufWriter, Read, Write};
 use std::process::ExitCode;
 
 const USAGE: &str = "reference script < SCRIPT        the lines of a call script
-reference coverage < SCRIPT      how often each refusal stands in its lines
+reference coverage < SCRIPT      how often each refusal and wrong field stands in its lines; fails where one is missing
 reference list [FILE..]          lists streams
 reference random SEED COUNT      a random call script
-reference sample [NAME]          a sample stream; without a name, the names
+reference sample [NAME]          a sample stream; without a name, the names, what is wrong in each, and its last line
 reference big BYTES              a stream of mixed records of about so many bytes
 reference bench                  benchmarks
 reference tables SEED COUNT      tables of entries against number lists, over random streams";
-
-/// 17 is the listing program's alone.
-const IN_SCRIPTS: [std::ops::RangeInclusive<u32>; 2] = [1..=16, 20..=31];
 
 fn main() -> ExitCode {
     let args: Vec<OsString> = std::env::args_os().skip(1).collect();
@@ -37,7 +34,11 @@ fn command(args: &[OsString], out: &mut impl Write) -> io::Result<bool> {
     let words: Vec<&str> = args.iter().map(|arg| arg.to_str().unwrap_or("")).collect();
     match words[..] {
         ["script"] => script::run(&standard_input()?, |_, line| writeln!(out, "{line}"))?,
-        ["coverage"] => return coverage(&standard_input()?, out),
+        ["coverage"] => {
+            let coverage = Coverage::of(&standard_input()?);
+            coverage.write(out)?;
+            return Ok(coverage.is_whole());
+        }
         ["list", ..] => return list::list_files(&args[1..], out),
         ["random", seed, count] => {
             for frame in random::script(parse(seed)?, parse(count)? as usize) {
@@ -46,7 +47,7 @@ fn command(args: &[OsString], out: &mut impl Write) -> io::Result<bool> {
         }
         ["sample"] => {
             for sample in &sample::SAMPLES {
-                writeln!(out, "{}: {}", sample.name, sample.about)?;
+                writeln!(out, "{}: {} ({})", sample.name, sample.about, sample.last_line)?;
             }
         }
         ["sample", name] => match sample::sample(name) {
@@ -75,33 +76,4 @@ fn standard_input() -> io::Result<Vec<u8>> {
 
 fn parse(word: &str) -> io::Result<u64> {
     word.parse().map_err(|_| io::Error::new(io::ErrorKind::InvalidInput, format!("not a number: {word}")))
-}
-
-/// Counts calls, accepted ones and each refusal by op; tells what is missing, and whether nothing is.
-fn coverage(script: &[u8], out: &mut impl Write) -> io::Result<bool> {
-    let mut calls: BTreeMap<u32, usize> = BTreeMap::new();
-    let mut refusals: BTreeMap<u32, BTreeMap<u32, usize>> = BTreeMap::new();
-    let mut good = true;
-    script::run(script, |frame, line| {
-        match frame {
-            Some(frame) => {
-                *calls.entry(frame.op).or_default() += 1;
-                *refusals.entry(script::refusal_in(frame.op, line)).or_default().entry(frame.op).or_default() += 1;
-            }
-            None => good = false,
-        }
-        Ok(())
-    })?;
-    writeln!(out, "{} calls, {} bytes", calls.values().sum::<usize>(), script.len())?;
-    for (refusal, by_op) in &refusals {
-        let ops: Vec<String> = by_op.iter().map(|(op, count)| format!("op {op}: {count}")).collect();
-        writeln!(out, "{refusal:3} {:7}   {}", by_op.values().sum::<usize>(), ops.join(", "))?;
-    }
-    let missing: Vec<String> =
-        IN_SCRIPTS.into_iter().flatten().filter(|n| !refusals.contains_key(n)).map(|n| n.to_string()).collect();
-    writeln!(out, "missing: {}", if missing.is_empty() { "none".to_string() } else { missing.join(" ") })?;
-    if !good {
-        writeln!(out, "{}", script::BAD_FRAME)?;
-    }
-    Ok(good && missing.is_empty())
 }

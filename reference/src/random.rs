@@ -104,12 +104,30 @@ impl Generator {
         let mut bytes = make::good_record(&self.rng, kind, length);
         damaged(&self.rng, &mut bytes, kind, damage);
         let first = self.rng.pick(&[1, 4, 8, 11]);
-        for op in [1, 2, 3, 4, 8, 11] {
+        for op in [1, 2, 3, 4] {
             if op == first || self.rng.percent(12) {
                 let x = if op == 4 { self.rng.pick(&[kind, kind, kind, 3 - kind]) } else { 0 };
                 self.emit(Frame { op, x, a: bytes.clone(), ..Frame::default() });
             }
         }
+        for op in [8, 11] {
+            if op == first || self.rng.percent(20) {
+                let (key, stream) = self.behind_some(&bytes);
+                self.emit(Frame { op, key, a: stream, ..Frame::default() });
+            }
+        }
+    }
+
+    /// The record as a stream, mostly behind one or two good ones; its place and the stream.
+    fn behind_some(&self, record: &[u8]) -> (u64, Vec<u8>) {
+        let mut stream = Vec::new();
+        for _ in 0..self.rng.pick(&[0, 1, 1, 2]) {
+            let length = self.rng.index(20);
+            stream.extend(make::good_record(&self.rng, make::kind(&self.rng), length));
+        }
+        let place = stream.len() as u64;
+        stream.extend_from_slice(record);
+        (place, stream)
     }
 
     /// Headers with one field (or more) at and around its bounds.
@@ -207,6 +225,8 @@ enum Damage {
     LabelLengthNearby,
     /// One of `block_fields`, and one of `field_values`.
     Block(usize, usize),
+    /// Both fields of one of the four blocks' labels.
+    TypeAndLength(usize),
     TwoBlocks,
     AnyTwo,
     AnyByte,
@@ -223,6 +243,7 @@ fn damages() -> Vec<Damage> {
     cases.extend((0..LABEL_LENGTHS).map(Damage::LabelLength));
     cases.extend([Damage::LabelLengthNearby; 3]);
     cases.extend((0..8).flat_map(|field| (0..FIELD_VALUES).map(move |value| Damage::Block(field, value))));
+    cases.extend((0..4).map(Damage::TypeAndLength));
     cases.extend([Damage::TwoBlocks; 3]);
     cases.extend([Damage::AnyTwo; 4]);
     cases.extend([Damage::AnyByte; 4]);
@@ -246,7 +267,7 @@ fn damaged(rng: &Rng, bytes: &mut Vec<u8>, kind: u32, damage: Damage) {
         Damage::OtherCase(at) => bytes[at] ^= 0x20,
         Damage::OtherKind => {
             let other = record::layout_of(3 - kind).expect("one of the two kinds");
-            bytes[8..12].copy_from_slice(other.description);
+            put(bytes, 8, 4, other.description as u64);
         }
         Damage::LabelLength(case) => put(bytes, 12, 8, label_lengths(kind, n)[case]),
         Damage::LabelLengthNearby => {
@@ -254,6 +275,11 @@ fn damaged(rng: &Rng, bytes: &mut Vec<u8>, kind: u32, damage: Damage) {
             put(bytes, 12, 8, rng.pick(&[n as u64 - 21, n as u64 - 19, n as u64 - 18, n as u64]));
         }
         Damage::Block(field, value) => damaged_field(rng, bytes, kind, field, value),
+        Damage::TypeAndLength(block) => {
+            for field in [2 * block, 2 * block + 1] {
+                damaged_field(rng, bytes, kind, field, rng.index(FIELD_VALUES));
+            }
+        }
         Damage::TwoBlocks => {
             for _ in 0..2 {
                 damaged_field(rng, bytes, kind, rng.index(8), rng.index(FIELD_VALUES));

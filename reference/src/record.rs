@@ -1,4 +1,4 @@
-//! One record. Document 01: 'How a record nests' and 'Calls on records'.
+//! One record. Document 01: 'How a record nests' and 'Calls on records'; request 05: where a refused record is wrong.
 
 use crate::keys;
 
@@ -6,69 +6,121 @@ pub const TELEMETRY: u32 = 1;
 pub const RSR: u32 = 2;
 
 /// Bytes 0 to 3 and 4 to 7 of every label.
-pub const AUTHORITY: &[u8; 4] = b"NJPL";
-pub const VERSION_AND_CLASS: &[u8; 4] = b"2I00";
+pub const AUTHORITY: [u8; 4] = *b"NJPL";
+pub const VERSION_AND_CLASS: [u8; 4] = *b"2I00";
 
+// Offsets in every record; the aggregation label stands behind the label.
+const VERSION: usize = 4;
+const DESCRIPTION: usize = 8;
+const LABEL_LENGTH: usize = 12;
 pub const LABEL: usize = 20;
 pub const PRIMARY: usize = 24;
 pub const PRIMARY_VALUE: usize = 28;
 pub const SECONDARY: usize = 32;
 pub const SECONDARY_VALUE: usize = 36;
+
 pub const MOST_DATA: usize = 65_535;
 
-const AGGREGATION_TYPE: u64 = 1;
-const PRIMARY_TYPE: u64 = 2;
-const PRIMARY_LENGTH: u64 = 4;
-const DATA_TYPE: u64 = 10;
+const AGGREGATION_TYPE: u16 = 1;
+const PRIMARY_TYPE: u16 = 2;
+const PRIMARY_LENGTH: u16 = 4;
+const DATA_TYPE: u16 = 10;
 
 /// What differs between the kinds: the columns of the paper's first table.
 #[derive(Debug, PartialEq)]
 pub struct Layout {
     pub kind: u32,
-    pub description: &'static [u8; 4],
-    pub aggregation_length: u64,
-    pub secondary_type: u64,
-    pub secondary_length: u64,
+    pub description: u32,
+    pub aggregation_length: u16,
+    pub secondary_type: u16,
+    pub secondary_length: u16,
     pub data_label: usize,
     pub data_value: usize,
     pub shortest_label: u64,
     pub longest_label: u64,
 }
 
-pub static LAYOUTS: [Layout; 2] = [
-    Layout {
-        kind: TELEMETRY,
-        description: b"0800",
-        aggregation_length: 92,
-        secondary_type: 78,
-        secondary_length: 80,
-        data_label: 116,
-        data_value: 120,
-        shortest_label: 100,
-        longest_label: 65_635,
-    },
-    Layout {
-        kind: RSR,
-        description: b"C997",
-        aggregation_length: 232,
-        secondary_type: 104,
-        secondary_length: 220,
-        data_label: 256,
-        data_value: 260,
-        shortest_label: 240,
-        longest_label: 65_775,
-    },
-];
+/// Bytes 8 to 11.
+const TELEMETRY_DESCRIPTION: u32 = u32::from_be_bytes(*b"0800");
+const RSR_DESCRIPTION: u32 = u32::from_be_bytes(*b"C997");
+
+pub static TELEMETRY_LAYOUT: Layout = Layout {
+    kind: TELEMETRY,
+    description: TELEMETRY_DESCRIPTION,
+    aggregation_length: 92,
+    secondary_type: 78,
+    secondary_length: 80,
+    data_label: 116,
+    data_value: 120,
+    shortest_label: 100,
+    longest_label: 65_635,
+};
+
+pub static RSR_LAYOUT: Layout = Layout {
+    kind: RSR,
+    description: RSR_DESCRIPTION,
+    aggregation_length: 232,
+    secondary_type: 104,
+    secondary_length: 220,
+    data_label: 256,
+    data_value: 260,
+    shortest_label: 240,
+    longest_label: 65_775,
+};
 
 pub fn layout_of(kind: u32) -> Option<&'static Layout> {
-    LAYOUTS.iter().find(|layout| layout.kind == kind)
+    match kind {
+        TELEMETRY => Some(&TELEMETRY_LAYOUT),
+        RSR => Some(&RSR_LAYOUT),
+        _ => None,
+    }
 }
 
 /// The big-endian number in `width` bytes from `at` on.
+#[inline]
 pub fn number(s: &[u8], at: usize, width: usize) -> u64 {
     let mut bytes = [0; 8];
     bytes[8 - width..].copy_from_slice(&s[at..at + width]);
     u64::from_be_bytes(bytes)
+}
+
+#[inline]
+fn part<const WIDTH: usize>(s: &[u8], at: usize) -> &[u8; WIDTH] {
+    s[at..at + WIDTH].try_into().expect("as many bytes as the array has")
+}
+
+#[inline]
+fn array<const WIDTH: usize>(s: &[u8], at: usize) -> [u8; WIDTH] {
+    *part(s, at)
+}
+
+/// A refusal of a record, with the second number that request 05 gives it.
+#[derive(Clone, Copy, Debug, PartialEq)]
+pub enum Refused {
+    /// 1 or 6, and how many bytes there were.
+    Short { number: u32, bytes: usize },
+    /// 2 to 5 or 7 to 12, and the offset of the wrong field's first byte from the record's start.
+    Field { number: u32, offset: usize },
+    /// One that has no second number.
+    Number(u32),
+}
+
+impl Refused {
+    pub fn number(self) -> u32 {
+        match self {
+            Refused::Short { number, .. } | Refused::Field { number, .. } | Refused::Number(number) => number,
+        }
+    }
+
+    /// The second number of a refused record that stands at this place of a stream: offsets count from the stream's
+    /// start, byte counts do not; 0 where there is none.
+    pub fn detail(self, place: u64) -> u64 {
+        match self {
+            Refused::Short { bytes, .. } => bytes as u64,
+            Refused::Field { offset, .. } => place + offset as u64,
+            Refused::Number(_) => 0,
+        }
+    }
 }
 
 /// What read one gives: the kind, N, and major, minor, mission, format.
@@ -79,71 +131,98 @@ pub struct Record {
     pub primary: [u8; 4],
 }
 
-/// Refusals 1 to 5: the kind's layout, and N.
-pub fn read_label(s: &[u8]) -> Result<(&'static Layout, usize), u32> {
+/// Refusals 1 to 4: the kind's layout.
+#[inline(always)]
+pub fn read_kind(s: &[u8]) -> Result<&'static Layout, Refused> {
     if s.len() < LABEL {
-        return Err(1);
+        return Err(Refused::Short { number: 1, bytes: s.len() });
     }
-    if s[0..4] != AUTHORITY[..] {
-        return Err(2);
+    if array(s, 0) != AUTHORITY {
+        return Err(Refused::Field { number: 2, offset: 0 });
     }
-    if s[4..8] != VERSION_AND_CLASS[..] {
-        return Err(3);
+    if array(s, VERSION) != VERSION_AND_CLASS {
+        return Err(Refused::Field { number: 3, offset: VERSION });
     }
-    let Some(layout) = LAYOUTS.iter().find(|layout| s[8..12] == layout.description[..]) else {
-        return Err(4);
-    };
-    let label_length = number(s, 12, 8);
-    if label_length < layout.shortest_label || label_length > layout.longest_label {
-        return Err(5);
+    match u32::from_be_bytes(array(s, DESCRIPTION)) {
+        TELEMETRY_DESCRIPTION => Ok(&TELEMETRY_LAYOUT),
+        RSR_DESCRIPTION => Ok(&RSR_LAYOUT),
+        _ => Err(Refused::Field { number: 4, offset: DESCRIPTION }),
     }
-    Ok((layout, label_length as usize + LABEL))
+}
+
+/// Refusal 5: N.
+#[inline(always)]
+pub fn read_length(s: &[u8], layout: &Layout) -> Result<usize, Refused> {
+    let label_length = u64::from_be_bytes(array(s, LABEL_LENGTH));
+    if (layout.shortest_label..=layout.longest_label).contains(&label_length) {
+        Ok(label_length as usize + LABEL)
+    } else {
+        Err(Refused::Field { number: 5, offset: LABEL_LENGTH })
+    }
 }
 
 /// Refusals 6 to 11, of a record whose label was accepted.
-pub fn read_blocks(s: &[u8], layout: &Layout, n: usize) -> Result<Record, u32> {
-    let block = |at| (number(s, at, 2), number(s, at + 2, 2));
+#[inline(always)]
+pub fn read_blocks(s: &[u8], layout: &Layout, n: usize) -> Result<Record, Refused> {
     if s.len() < n {
-        return Err(6);
+        return Err(Refused::Short { number: 6, bytes: s.len() });
     }
-    if block(LABEL) != (AGGREGATION_TYPE, layout.aggregation_length) {
-        return Err(7);
-    }
-    if block(PRIMARY) != (PRIMARY_TYPE, PRIMARY_LENGTH) {
-        return Err(8);
-    }
-    if block(SECONDARY) != (layout.secondary_type, layout.secondary_length) {
-        return Err(9);
-    }
-    let (data_type, data_length) = block(layout.data_label);
-    if data_type != DATA_TYPE {
-        return Err(10);
-    }
-    if data_length != (n - layout.data_value) as u64 {
-        return Err(11);
-    }
-    let mut primary = [0; 4];
-    primary.copy_from_slice(&s[PRIMARY_VALUE..SECONDARY]);
-    Ok(Record { kind: layout.kind, length: n, primary })
+    judge_block(s, LABEL, (7, AGGREGATION_TYPE), (7, layout.aggregation_length))?;
+    judge_block(s, PRIMARY, (8, PRIMARY_TYPE), (8, PRIMARY_LENGTH))?;
+    judge_block(s, SECONDARY, (9, layout.secondary_type), (9, layout.secondary_length))?;
+    judge_block(s, layout.data_label, (10, DATA_TYPE), (11, (n - layout.data_value) as u16))?;
+    Ok(Record { kind: layout.kind, length: n, primary: array(s, PRIMARY_VALUE) })
 }
 
-pub fn read_one(s: &[u8]) -> Result<Record, u32> {
-    let (layout, n) = read_label(s)?;
+fn block_label(kind: u16, length: u16) -> u32 {
+    (kind as u32) << 16 | length as u32
+}
+
+/// A block's label, type before length: each with the refusal where it is wrong.
+#[inline(always)]
+fn judge_block(s: &[u8], at: usize, kind: (u32, u16), length: (u32, u16)) -> Result<(), Refused> {
+    let found = u32::from_be_bytes(array(s, at));
+    let expected = block_label(kind.1, length.1);
+    if found == expected {
+        Ok(())
+    } else if found >> 16 != expected >> 16 {
+        Err(Refused::Field { number: kind.0, offset: at })
+    } else {
+        Err(Refused::Field { number: length.0, offset: at + 2 })
+    }
+}
+
+#[inline(always)]
+pub fn read_one(s: &[u8]) -> Result<Record, Refused> {
+    // Each kind by itself: the numbers of its layout are constants there.
+    match read_kind(s)?.kind {
+        TELEMETRY => read_as(s, &TELEMETRY_LAYOUT),
+        _ => read_as(s, &RSR_LAYOUT),
+    }
+}
+
+#[inline(always)]
+fn read_as(s: &[u8], layout: &Layout) -> Result<Record, Refused> {
+    let n = read_length(s, layout)?;
     read_blocks(s, layout, n)
 }
 
 pub fn secondary_part(s: &[u8]) -> &[u8] {
-    match read_label(s).and_then(|(layout, n)| read_blocks(s, layout, n).map(|_| layout)) {
-        Ok(layout) => &s[SECONDARY_VALUE..layout.data_label],
+    match read_one(s) {
+        Ok(record) => &s[SECONDARY_VALUE..accepted_layout(&record).data_label],
         Err(_) => &s[..0],
     }
 }
 
 pub fn data_part(s: &[u8]) -> &[u8] {
-    match read_label(s).and_then(|(layout, n)| read_blocks(s, layout, n).map(|_| (layout, n))) {
-        Ok((layout, n)) => &s[layout.data_value..n],
+    match read_one(s) {
+        Ok(record) => &s[accepted_layout(&record).data_value..record.length],
         Err(_) => &s[..0],
     }
+}
+
+fn accepted_layout(record: &Record) -> &'static Layout {
+    layout_of(record.kind).expect("one of the two kinds")
 }
 
 /// The record number's offset and width in a record of this kind.
@@ -156,46 +235,50 @@ pub fn number_field(kind: u32) -> (usize, usize) {
 }
 
 /// The record number of an accepted record.
+#[inline]
 pub fn record_number(s: &[u8], kind: u32) -> u32 {
-    let (at, width) = number_field(kind);
-    number(s, at, width) as u32
+    if kind == TELEMETRY {
+        u32::from_be_bytes(array(s, SECONDARY + 22))
+    } else {
+        u16::from_be_bytes(array(s, SECONDARY + 8)) as u32
+    }
 }
 
 #[derive(Clone, Copy, Debug, PartialEq)]
 pub struct Telemetry {
-    pub spacecraft: u32,
-    pub source: u32,
+    pub spacecraft: u16,
+    pub source: u8,
     pub received: u64,
     pub number: u32,
     pub uplink_band: Option<u8>,
-    pub mode: u32,
-    pub stream: u32,
-    pub equipment: u32,
+    pub mode: u8,
+    pub stream: u8,
+    pub equipment: u16,
     pub key: u64,
 }
 
 #[derive(Clone, Copy, Debug, PartialEq)]
 pub struct Rsr {
-    pub software: u32,
-    pub number: u32,
-    pub complex: u32,
-    pub station: u32,
-    pub receiver: u32,
-    pub subchannel: u32,
-    pub spacecraft: u32,
-    pub pass: u32,
+    pub software: u16,
+    pub number: u16,
+    pub complex: u8,
+    pub station: u8,
+    pub receiver: u8,
+    pub subchannel: u8,
+    pub spacecraft: u8,
+    pub pass: u16,
     pub uplink_band: u8,
     pub downlink_band: u8,
-    pub mode: u32,
-    pub uplink_station: u32,
+    pub mode: u8,
+    pub uplink_station: u8,
     pub expected_px_no: i8,
-    pub bandwidth: u32,
-    pub override_flag: u32,
-    pub attenuation: u32,
-    pub rms: u32,
-    pub peak: u32,
-    pub year: u32,
-    pub day: u32,
+    pub bandwidth: u8,
+    pub override_flag: u8,
+    pub attenuation: u8,
+    pub rms: u8,
+    pub peak: u8,
+    pub year: u16,
+    pub day: u16,
     pub override_frequency: u64,
     pub key: u64,
 }
@@ -206,103 +289,94 @@ pub enum Fields {
     Rsr(Rsr),
 }
 
-#[derive(Clone, Copy, Debug, PartialEq)]
-pub enum Refused {
-    Number(u32),
-    /// 12, with the offset of the field's first byte from the record's start.
-    Field(usize),
-}
-
 pub fn read_headers(s: &[u8], wanted: u32) -> Result<(Record, Fields), Refused> {
-    let record = read_one(s).map_err(Refused::Number)?;
+    let record = read_one(s)?;
     if record.kind != wanted {
         return Err(Refused::Number(15));
     }
-    let fields =
-        if record.kind == TELEMETRY { Fields::Telemetry(read_telemetry(s)?) } else { Fields::Rsr(read_rsr(s)?) };
+    let fields = match record.kind {
+        TELEMETRY => Fields::Telemetry(read_telemetry(part(s, SECONDARY))?),
+        _ => Fields::Rsr(read_rsr(&record.primary, part(s, SECONDARY))?),
+    };
     Ok((record, fields))
 }
 
-/// 'Telemetry secondary (offsets in the block)'.
-fn read_telemetry(s: &[u8]) -> Result<Telemetry, Refused> {
-    let field = |at, width| number(s, SECONDARY + at, width) as u32;
-    let byte = |at| field(at, 1);
-    let spacecraft = field(6, 2) & 0b11_1111_1111;
-    let source = byte(10);
-    let mode = byte(28) & 0b11;
-    let stream = byte(30);
-    let equipment = field(74, 2);
-    let band = s[SECONDARY + 26];
-    let uplink_band = if mode >= 2 { Some(band) } else { None };
-    if uplink_band.is_some() && !b"USXK".contains(&band) {
-        return Err(Refused::Field(SECONDARY + 26));
+const TELEMETRY_BLOCK: usize = 84;
+const RSR_BLOCK: usize = 224;
+
+/// 12, where the field at this offset of the record is not in its range.
+fn judge_field(offset: usize, in_range: bool) -> Result<(), Refused> {
+    if in_range {
+        Ok(())
+    } else {
+        Err(Refused::Field { number: 12, offset })
     }
+}
+
+/// 'Telemetry secondary (offsets in the block)'.
+fn read_telemetry(block: &[u8; TELEMETRY_BLOCK]) -> Result<Telemetry, Refused> {
+    let mode = block[28] & 0b11;
+    let uplink_band = if mode >= 2 { Some(block[26]) } else { None };
+    judge_field(SECONDARY + 26, matches!(uplink_band, None | Some(b'U' | b'S' | b'X' | b'K')))?;
+    let spacecraft = u16::from_be_bytes(array(block, 6)) & 0b11_1111_1111;
+    let source = block[10];
+    let stream = block[30];
+    let equipment = u16::from_be_bytes(array(block, 74));
     Ok(Telemetry {
         spacecraft,
         source,
-        received: number(s, SECONDARY + 14, 8),
-        number: field(22, 4),
+        received: u64::from_be_bytes(array(block, 14)),
+        number: u32::from_be_bytes(array(block, 22)),
         uplink_band,
         mode,
         stream,
         equipment,
-        key: keys::telemetry_key(spacecraft, source, equipment, stream).map_err(Refused::Number)?,
+        key: keys::of_telemetry(spacecraft.into(), source.into(), equipment.into(), stream.into()),
     })
 }
 
-/// 'RSR secondary', and the primary values that are judged.
-fn read_rsr(s: &[u8]) -> Result<Rsr, Refused> {
-    if let Some(offset) = first_rsr_field_out_of_range(s) {
-        return Err(Refused::Field(offset));
-    }
-    let field = |at, width| number(s, SECONDARY + at, width) as u32;
-    let byte = |at| field(at, 1);
-    let (spacecraft, station, receiver, subchannel) = (byte(15), byte(11), byte(12), byte(13));
+/// 'RSR secondary', and the primary values that are judged; from the lowest offset up.
+fn read_rsr(primary: &[u8; 4], block: &[u8; RSR_BLOCK]) -> Result<Rsr, Refused> {
+    let year = u16::from_be_bytes(array(block, 28));
+    let day = u16::from_be_bytes(array(block, 30));
+    let band = |letter: u8| matches!(letter, b'S' | b'X' | b'K');
+    judge_field(PRIMARY_VALUE, primary[0] == 21)?;
+    judge_field(PRIMARY_VALUE + 1, primary[1] == 4)?;
+    judge_field(PRIMARY_VALUE + 3, primary[3] == 0)?;
+    judge_field(SECONDARY + 18, band(block[18]))?;
+    judge_field(SECONDARY + 19, band(block[19]))?;
+    judge_field(SECONDARY + 20, (1..=3).contains(&block[20]))?;
+    judge_field(SECONDARY + 23, (1..=127).contains(&block[23]))?;
+    judge_field(SECONDARY + 25, block[25] <= 63)?;
+    judge_field(SECONDARY + 26, block[26] <= 128)?;
+    judge_field(SECONDARY + 27, block[27] <= 128)?;
+    judge_field(SECONDARY + 28, (1900..=3000).contains(&year))?;
+    judge_field(SECONDARY + 30, (1..=366).contains(&day))?;
+    let (station, receiver, subchannel, spacecraft) = (block[11], block[12], block[13], block[15]);
     Ok(Rsr {
-        software: field(6, 2),
-        number: field(8, 2),
-        complex: byte(10),
+        software: u16::from_be_bytes(array(block, 6)),
+        number: u16::from_be_bytes(array(block, 8)),
+        complex: block[10],
         station,
         receiver,
         subchannel,
         spacecraft,
-        pass: field(16, 2),
-        uplink_band: s[SECONDARY + 18],
-        downlink_band: s[SECONDARY + 19],
-        mode: byte(20),
-        uplink_station: byte(21),
-        expected_px_no: s[SECONDARY + 22] as i8,
-        bandwidth: byte(23),
-        override_flag: byte(24),
-        attenuation: byte(25),
-        rms: byte(26),
-        peak: byte(27),
-        year: field(28, 2),
-        day: field(30, 2),
-        override_frequency: number(s, SECONDARY + 64, 8),
-        key: keys::rsr_key(spacecraft, station, receiver, subchannel).map_err(Refused::Number)?,
+        pass: u16::from_be_bytes(array(block, 16)),
+        uplink_band: block[18],
+        downlink_band: block[19],
+        mode: block[20],
+        uplink_station: block[21],
+        expected_px_no: block[22] as i8,
+        bandwidth: block[23],
+        override_flag: block[24],
+        attenuation: block[25],
+        rms: block[26],
+        peak: block[27],
+        year,
+        day,
+        override_frequency: u64::from_be_bytes(array(block, 64)),
+        key: keys::of_rsr(spacecraft.into(), station.into(), receiver.into(), subchannel.into()),
     })
-}
-
-/// The judged fields from the lowest offset up, each with whether it is in its range.
-fn first_rsr_field_out_of_range(s: &[u8]) -> Option<usize> {
-    let field = |at, width| number(s, SECONDARY + at, width);
-    let band = |at: usize| b"SXK".contains(&s[SECONDARY + at]);
-    let judged = [
-        (PRIMARY_VALUE, s[PRIMARY_VALUE] == 21),
-        (PRIMARY_VALUE + 1, s[PRIMARY_VALUE + 1] == 4),
-        (PRIMARY_VALUE + 3, s[PRIMARY_VALUE + 3] == 0),
-        (SECONDARY + 18, band(18)),
-        (SECONDARY + 19, band(19)),
-        (SECONDARY + 20, (1..=3).contains(&field(20, 1))),
-        (SECONDARY + 23, (1..=127).contains(&field(23, 1))),
-        (SECONDARY + 25, field(25, 1) <= 63),
-        (SECONDARY + 26, field(26, 1) <= 128),
-        (SECONDARY + 27, field(27, 1) <= 128),
-        (SECONDARY + 28, (1900..=3000).contains(&field(28, 2))),
-        (SECONDARY + 30, (1..=366).contains(&field(30, 2))),
-    ];
-    judged.iter().find(|(_, in_range)| !in_range).map(|(offset, _)| *offset)
 }
 
 /// Writes the record into the first N bytes of `out`; answers N.
@@ -310,28 +384,27 @@ pub fn write_one(kind: u32, primary: [u8; 4], secondary: &[u8], data: &[u8], out
     let Some(layout) = layout_of(kind) else {
         return Err(14);
     };
-    if secondary.len() as u64 != layout.secondary_length || data.len() > MOST_DATA {
+    if secondary.len() != layout.secondary_length as usize || data.len() > MOST_DATA {
         return Err(14);
     }
     let n = layout.data_value + data.len();
     if out.len() < n {
         return Err(13);
     }
-    out[0..4].copy_from_slice(AUTHORITY);
-    out[4..8].copy_from_slice(VERSION_AND_CLASS);
-    out[8..12].copy_from_slice(layout.description);
-    out[12..20].copy_from_slice(&((n - LABEL) as u64).to_be_bytes());
+    out[..VERSION].copy_from_slice(&AUTHORITY);
+    out[VERSION..DESCRIPTION].copy_from_slice(&VERSION_AND_CLASS);
+    out[DESCRIPTION..LABEL_LENGTH].copy_from_slice(&layout.description.to_be_bytes());
+    out[LABEL_LENGTH..LABEL].copy_from_slice(&((n - LABEL) as u64).to_be_bytes());
     write_block_label(out, LABEL, AGGREGATION_TYPE, layout.aggregation_length);
     write_block_label(out, PRIMARY, PRIMARY_TYPE, PRIMARY_LENGTH);
     out[PRIMARY_VALUE..SECONDARY].copy_from_slice(&primary);
     write_block_label(out, SECONDARY, layout.secondary_type, layout.secondary_length);
     out[SECONDARY_VALUE..layout.data_label].copy_from_slice(secondary);
-    write_block_label(out, layout.data_label, DATA_TYPE, data.len() as u64);
+    write_block_label(out, layout.data_label, DATA_TYPE, data.len() as u16);
     out[layout.data_value..n].copy_from_slice(data);
     Ok(n)
 }
 
-fn write_block_label(out: &mut [u8], at: usize, kind: u64, length: u64) {
-    out[at..at + 2].copy_from_slice(&(kind as u16).to_be_bytes());
-    out[at + 2..at + 4].copy_from_slice(&(length as u16).to_be_bytes());
+fn write_block_label(out: &mut [u8], at: usize, kind: u16, length: u16) {
+    out[at..at + 4].copy_from_slice(&block_label(kind, length).to_be_bytes());
 }

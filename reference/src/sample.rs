@@ -9,6 +9,8 @@ const SEED: u64 = 1;
 
 pub struct Sample {
     pub name: &'static str,
+    /// Where and why its listing stops.
+    pub last_line: &'static str,
     /// What is to be seen, for samples/README.md.
     pub about: &'static str,
     make: fn() -> Vec<u8>,
@@ -17,67 +19,81 @@ pub struct Sample {
 pub const SAMPLES: [Sample; 13] = [
     Sample {
         name: "good-night",
+        last_line: "49866 0 0",
         about: "A whole night: 240 records of five streams, both kinds; virtual stream 1 passes number \
             4294967295, subchannel 2 passes 65535.",
         make: good_night,
     },
     Sample {
         name: "refusal-01",
+        last_line: "572 1 19",
         about: "Under 20 bytes: after three records stand the first 19 bytes of a label.",
         make: || spoilt(|r| r.truncate(19)),
     },
     Sample {
         name: "refusal-02",
+        last_line: "572 2 572",
         about: "Authority wrong: the fourth record spells NJPl at its bytes 0 to 3.",
         make: || stopped(|r| r[3] = b'l'),
     },
     Sample {
         name: "refusal-03",
+        last_line: "572 3 576",
         about: "Bytes 4 to 7 wrong: label version 1 at byte 4 of the fourth record.",
         make: || stopped(|r| r[4] = b'1'),
     },
     Sample {
         name: "refusal-04",
+        last_line: "572 4 580",
         about: "Kind unknown: C998 at bytes 8 to 11 of the fourth record.",
         make: || stopped(|r| r[8..12].copy_from_slice(b"C998")),
     },
     Sample {
         name: "refusal-05",
+        last_line: "572 5 584",
         about: "Label length 99 at bytes 12 to 19 of the fourth record; a telemetry label says at least 100.",
         make: || stopped(|r| put(r, 12, 8, 99)),
     },
     Sample {
         name: "refusal-06",
+        last_line: "572 6 139",
         about: "Under N bytes: the fourth record lacks its last byte, and the stream ends.",
         make: || spoilt(|r| r.truncate(r.len() - 1)),
     },
     Sample {
         name: "refusal-07",
-        about: "Aggregation label wrong: length 96, which is 92, at byte 22 of the fourth record.",
+        last_line: "572 7 594",
+        about: "Aggregation label wrong: length 96 where 92 is right, at byte 22 of the fourth record.",
         make: || stopped(|r| put(r, 22, 2, 96)),
     },
     Sample {
         name: "refusal-08",
-        about: "Primary label wrong: type 3, which is 2, at byte 24 of the fourth record.",
+        last_line: "572 8 596",
+        about: "Primary label wrong: type 3 where 2 is right, at byte 24 of the fourth record.",
         make: || stopped(|r| put(r, 24, 2, 3)),
     },
     Sample {
         name: "refusal-09",
+        last_line: "572 9 604",
         about: "Secondary label wrong: type 104 (RSR) at byte 32 of the fourth record, a telemetry one.",
         make: || stopped(|r| put(r, 32, 2, 104)),
     },
     Sample {
         name: "refusal-10",
-        about: "Data type wrong: 11, which is 10, at byte 116 of the fourth record.",
+        last_line: "572 10 688",
+        about: "Data type wrong: 11 where 10 is right, at byte 116 of the fourth record.",
         make: || stopped(|r| put(r, 116, 2, 11)),
     },
     Sample {
         name: "refusal-11",
-        about: "Data length wrong: 40, which is 20, at byte 118 of the fourth record (the label's 20 added twice).",
+        last_line: "572 11 690",
+        about:
+            "Data length wrong: 40 where 20 is right, at byte 118 of the fourth record (the label's 20 added twice).",
         make: || stopped(|r| put(r, 118, 2, 40)),
     },
     Sample {
         name: "refusal-17",
+        last_line: "572 17 0",
         about: "N 65537, one over the program's buffer: the fourth record, whole, with 65417 bytes of data.",
         make: too_long,
     },
@@ -87,18 +103,26 @@ pub const SAMPLES: [Sample; 13] = [
 pub const LISTED: [Sample; 5] = [
     Sample {
         name: "example",
+        last_line: "120 0 0",
         about: "Document 01's example: one telemetry record of 120 bytes, number 7.",
         make: || plain(7, 0),
     },
-    Sample { name: "empty", about: "No byte.", make: Vec::new },
+    Sample { name: "empty", last_line: "0 0 0", about: "No byte.", make: Vec::new },
     Sample {
         name: "longest",
+        last_line: "65776 0 0",
         about: "The longest record that fits the program's buffer, between two of 120 bytes; the greatest number.",
         make: || [plain(1, 0), plain(2, list::WINDOW - 120), plain(u32::MAX, 0)].concat(),
     },
-    Sample { name: "mixed", about: "Records of many lengths: the buffer is filled anew several times.", make: mixed },
+    Sample {
+        name: "mixed",
+        last_line: "150582 0 0",
+        about: "Records of many lengths: the buffer is filled anew several times.",
+        make: mixed,
+    },
     Sample {
         name: "over-cut",
+        last_line: "120 17 0",
         about: "The stream ends behind the label of a record one byte too long for the buffer: 17 stands before 6.",
         make: || [&plain(7, 0)[..], &plain(8, list::WINDOW - 119)[..record::LABEL]].concat(),
     },

@@ -154,10 +154,19 @@ fn record_words(record: &Record) -> String {
     format!("0 {} {} {major} {minor} {mission} {format}", record.kind, record.length)
 }
 
-fn line_of_record(answer: Result<Record, u32>) -> String {
+fn line_of_record(answer: Result<Record, Refused>) -> String {
     match answer {
         Ok(record) => record_words(&record),
-        Err(refusal) => refusal.to_string(),
+        Err(refused) => refusal_words(refused),
+    }
+}
+
+/// The number, and the offset in the record or the byte count, where one goes with it.
+fn refusal_words(refused: Refused) -> String {
+    match refused {
+        Refused::Short { number, bytes } => format!("{number} {bytes}"),
+        Refused::Field { number, offset } => format!("{number} {offset}"),
+        Refused::Number(number) => number.to_string(),
     }
 }
 
@@ -169,8 +178,7 @@ fn line_of_headers(answer: Result<(Record, Fields), Refused>) -> String {
     match answer {
         Ok((record, Fields::Telemetry(fields))) => format!("{} {}", record_words(&record), telemetry_words(&fields)),
         Ok((record, Fields::Rsr(fields))) => format!("{} {}", record_words(&record), rsr_words(&fields)),
-        Err(Refused::Number(refusal)) => refusal.to_string(),
-        Err(Refused::Field(offset)) => format!("12 {offset}"),
+        Err(refused) => refusal_words(refused),
     }
 }
 
@@ -225,14 +233,14 @@ fn line_of_key(answer: Result<u64, u32>) -> String {
 }
 
 fn line_of_stop(stop: &Stop) -> String {
-    format!("{} {} {}", stop.count, stop.place, stop.number)
+    format!("{} {} {} {}", stop.count, stop.place, stop.number, stop.detail)
 }
 
 fn line_of_step(step: Step) -> String {
     match step {
         Step::Found(record, next) => format!("{} {}", record_words(&record), next.place),
         Step::Done(cursor) => format!("done {}", cursor.place),
-        Step::Refused(refusal, cursor) => format!("{refusal} {}", cursor.place),
+        Step::Refused(refused, cursor) => format!("{} {}", refusal_words(refused), cursor.place),
     }
 }
 

@@ -1,12 +1,14 @@
 //! Document 01's worked examples, and the calls held to plainer or other definitions of themselves.
 
 use crate::book::{Book, Call};
+use crate::coverage::Coverage;
 use crate::ledger::{self, Report};
 use crate::make::{self, Rng};
 use crate::record::{self, Fields, Record, Refused, Rsr, Telemetry, RSR, TELEMETRY};
 use crate::script::{self, Frame};
 use crate::stream::{self, Cursor, Entry, Step, Stop};
 use crate::{keys, list, nights, random, sample};
+use std::collections::BTreeSet;
 use std::io::{self, Read};
 
 /// A record written out by hand, from the paper's first table; `label_length` as given, the rest right.
@@ -44,6 +46,14 @@ fn rsr_secondary() -> Vec<u8> {
     value
 }
 
+fn field(number: u32, offset: usize) -> Refused {
+    Refused::Field { number, offset }
+}
+
+fn short(number: u32, bytes: usize) -> Refused {
+    Refused::Short { number, bytes }
+}
+
 fn fresh() -> Vec<u8> {
     let mut s = vec![0xAA; 6_776];
     assert_eq!(ledger::fresh(&mut s), Ok(()));
@@ -69,7 +79,7 @@ fn p1_shortest_telemetry() {
     assert_eq!(record::read_one(&s), Ok(Record { kind: 1, length: 120, primary: [21, 4, 255, 0] }));
     assert!(record::data_part(&s).is_empty());
     assert_eq!(record::secondary_part(&s).len(), 80);
-    assert_eq!(record::read_one(&telemetry_by_hand(99, &[])), Err(5));
+    assert_eq!(record::read_one(&telemetry_by_hand(99, &[])), Err(field(5, 12)));
 }
 
 #[test]
@@ -78,16 +88,16 @@ fn p2_longest_telemetry() {
     let s = telemetry_by_hand(65_635, &data);
     assert_eq!(record::read_one(&s).map(|r| r.length), Ok(65_655));
     assert_eq!(record::data_part(&s), &data[..]);
-    assert_eq!(record::read_one(&telemetry_by_hand(65_636, &data)), Err(5));
+    assert_eq!(record::read_one(&telemetry_by_hand(65_636, &data)), Err(field(5, 12)));
 }
 
 #[test]
 fn p3_shortest_rsr() {
     let s = by_hand(RSR, 240, &[0; 220], &[]);
     assert_eq!(record::read_one(&s).map(|r| (r.kind, r.length)), Ok((2, 260)));
-    assert_eq!(record::read_one(&by_hand(RSR, 239, &[0; 220], &[])), Err(5));
-    assert_eq!(record::read_one(&by_hand(RSR, 65_776, &[0; 220], &[])), Err(5));
-    assert_eq!(record::read_one(&by_hand(RSR, 65_775, &[0; 220], &[])), Err(6));
+    assert_eq!(record::read_one(&by_hand(RSR, 239, &[0; 220], &[])), Err(field(5, 12)));
+    assert_eq!(record::read_one(&by_hand(RSR, 65_776, &[0; 220], &[])), Err(field(5, 12)));
+    assert_eq!(record::read_one(&by_hand(RSR, 65_775, &[0; 220], &[])), Err(short(6, 260)));
 }
 
 #[test]
@@ -209,10 +219,10 @@ fn listed(input: impl Read) -> String {
 fn listing_example() {
     let mut s = telemetry_by_hand(100, &[]);
     s[57] = 7;
-    assert_eq!(listed(&s[..]), "place length kind number\n0 120 T 7\n120 0\n");
-    assert_eq!(listed(&s[..119]), "place length kind number\n0 6\n");
-    assert_eq!(listed(&s[..19]), "place length kind number\n0 1\n");
-    assert_eq!(listed(&s[..0]), "place length kind number\n0 0\n");
+    assert_eq!(listed(&s[..]), "place length kind number\n0 120 T 7\n120 0 0\n");
+    assert_eq!(listed(&s[..119]), "place length kind number\n0 6 119\n");
+    assert_eq!(listed(&s[..19]), "place length kind number\n0 1 19\n");
+    assert_eq!(listed(&s[..0]), "place length kind number\n0 0 0\n");
 }
 
 /// A reader that gives one byte at a time, and after `good` bytes fails.
@@ -246,7 +256,7 @@ fn listing_is_that_of_the_whole_stream() {
         expected += &format!("{} {} {} {}\n", e.place, e.length, if e.kind == 1 { "T" } else { "R" }, e.number);
     }
     assert_eq!((stop.number, entries[whole].length), (0, 65_537));
-    expected += &format!("{} 17\n", entries[whole].place);
+    expected += &format!("{} 17 0\n", entries[whole].place);
     assert_eq!(listed(&s[..]), expected);
     assert_eq!(listed(Slow { bytes: &s, good: usize::MAX }), expected);
     // 17 stands before 6: the label alone is enough.
@@ -335,34 +345,76 @@ fn writer_refusals() {
     assert_eq!(record::write_one(2, [0; 4], &[0; 220], &[0; 40], &mut out), Ok(300));
 }
 
-/// The table's order: each damage is given although all later ones are there too.
+/// The table's order: each damage is given although all later ones are there too. Type stands before length.
 #[test]
 fn the_higher_refusal_is_given() {
     let good = by_hand(RSR, 244, &rsr_secondary(), &[1, 2, 3, 4]);
-    let damages: [(u32, usize, u8); 10] = [
-        (2, 0, 1),
-        (3, 7, 1),
-        (4, 8, 1),
-        (5, 19, 0),
-        (7, 21, 9),
-        (8, 27, 9),
-        (9, 33, 9),
-        (10, 257, 9),
-        (11, 259, 9),
-        (12, 52, 9),
+    let damages: [(u32, usize, usize, u8); 15] = [
+        (2, 0, 3, 1),
+        (3, 4, 7, 1),
+        (4, 8, 8, 1),
+        (5, 12, 16, 1),
+        (7, 20, 20, 9),
+        (7, 22, 23, 9),
+        (8, 24, 25, 9),
+        (8, 26, 26, 9),
+        (9, 32, 33, 9),
+        (9, 34, 35, 9),
+        (10, 256, 257, 9),
+        (11, 258, 259, 9),
+        (12, 28, 28, 9),
+        (12, 52, 52, 9),
+        (12, 62, 62, 9),
     ];
     let mut s = good.clone();
-    for (number, at, value) in damages.iter().rev() {
-        s[*at] = *value;
-        let refused = record::read_headers(&s, RSR).unwrap_err();
-        assert_eq!(refused, if *number == 12 { Refused::Field(52) } else { Refused::Number(*number) });
-        if (7..=11).contains(number) {
-            assert_eq!(record::read_one(&s[..263]), Err(6));
+    for (number, offset, at, value) in damages.into_iter().rev() {
+        s[at] = value;
+        assert_eq!(record::read_headers(&s, RSR), Err(field(number, offset)));
+        if number <= 11 {
+            assert_eq!(record::read_one(&s), Err(field(number, offset)));
+        }
+        if number >= 7 {
+            assert_eq!(record::read_one(&s[..263]), Err(short(6, 263)));
         }
     }
-    assert_eq!(record::read_one(&s[..19]), Err(1));
+    for length in [0, 19] {
+        assert_eq!(record::read_one(&s[..length]), Err(short(1, length)));
+    }
     assert_eq!(record::read_headers(&good, TELEMETRY), Err(Refused::Number(15)));
     assert_eq!(record::read_headers(&good, 3), Err(Refused::Number(15)));
+}
+
+/// Whatever byte of the labels is changed, the refusal is that of its field.
+#[test]
+fn every_byte_of_the_labels_is_judged() {
+    for (kind, data_label, s) in
+        [(TELEMETRY, 116, telemetry_by_hand(104, b"data")), (RSR, 256, by_hand(RSR, 244, &rsr_secondary(), b"data"))]
+    {
+        // First byte and width of each field, with its refusal.
+        let fields = [
+            (0, 4, 2),
+            (4, 4, 3),
+            (8, 4, 4),
+            (20, 2, 7),
+            (22, 2, 7),
+            (24, 2, 8),
+            (26, 2, 8),
+            (32, 2, 9),
+            (34, 2, 9),
+            (data_label, 2, 10),
+            (data_label + 2, 2, 11),
+        ];
+        for (first, width, number) in fields {
+            for (at, bit) in (first..first + width).flat_map(|at| (0..8).map(move |bit| (at, bit))) {
+                let mut wrong = s.clone();
+                wrong[at] ^= 1 << bit;
+                assert_eq!(record::read_one(&wrong), Err(field(number, first)), "kind {kind}, byte {at}");
+                let prefix = telemetry_by_hand(101, b"1");
+                let stop = Stop { count: 1, place: 121, number, detail: 121 + first as u64 };
+                assert_eq!(stream::walk(&[prefix, wrong].concat()), stop);
+            }
+        }
+    }
 }
 
 #[test]
@@ -391,7 +443,7 @@ fn rsr_ranges() {
                 s[at] = *value as u8;
             }
             let answer = record::read_headers(&s, RSR);
-            assert_eq!(answer.err(), if right { None } else { Some(Refused::Field(at)) }, "{at} {value}");
+            assert_eq!(answer.err(), if right { None } else { Some(field(12, at)) }, "{at} {value}");
         }
     }
 }
@@ -405,7 +457,7 @@ fn telemetry_band() {
         (3, b'K', Ok(Some(b'K'))),
         (0b1111_1101, b'?', Ok(None)),
         (0b1111_1110, b'X', Ok(Some(b'X'))),
-        (2, b'?', Err(Refused::Field(58))),
+        (2, b'?', Err(field(12, 58))),
     ] {
         let mut s = telemetry_by_hand(100, &[]);
         s[58] = band;
@@ -442,19 +494,22 @@ fn keys_at_their_widths() {
 fn walks_and_lists() {
     let (t, r) = (telemetry_by_hand(100, &[]), by_hand(RSR, 242, &rsr_secondary(), &[1, 2]));
     let s = [&t[..], &r, &t, &r[..30]].concat();
-    assert_eq!(stream::walk(&s), Stop { count: 3, place: 502, number: 6 });
-    assert_eq!(stream::walk(&s[..502]), Stop { count: 3, place: 502, number: 0 });
-    assert_eq!(stream::walk(&[]), Stop { count: 0, place: 0, number: 0 });
-    assert_eq!(Cursor { place: 502 }.step(&s), Step::Refused(6, Cursor { place: 502 }));
+    let stop = |count, place, number, detail| Stop { count, place, number, detail };
+    assert_eq!(stream::walk(&s), stop(3, 502, 6, 30));
+    assert_eq!(stream::walk(&s[..502]), stop(3, 502, 0, 0));
+    assert_eq!(stream::walk(&s[..521]), stop(3, 502, 1, 19));
+    assert_eq!(stream::walk(&[]), stop(0, 0, 0, 0));
+    assert_eq!(Cursor { place: 502 }.step(&s), Step::Refused(short(6, 30), Cursor { place: 502 }));
+    assert_eq!(Cursor { place: 1 }.step(&s), Step::Refused(field(2, 0), Cursor { place: 1 }));
     assert_eq!(Cursor { place: u64::MAX }.step(&s), Step::Done(Cursor { place: u64::MAX }));
     let mut places = [9; 3];
     let (mut lengths, mut kinds, mut numbers) = ([9; 2], [9; 4], [9; 3]);
-    let stop = stream::number_lists(&s, &mut places, &mut lengths, &mut kinds, &mut numbers);
-    assert_eq!(stop, Stop { count: 2, place: 382, number: 16 });
+    let stopped = stream::number_lists(&s, &mut places, &mut lengths, &mut kinds, &mut numbers);
+    assert_eq!(stopped, stop(2, 382, 16, 0));
     assert_eq!((places, lengths, kinds, numbers), ([0, 120, 9], [120, 262], [1, 2, 9, 9], [0, 0, 9]));
     // No entry is free, but no whole record stands there either.
-    assert_eq!(stream::table(&s[382..440], &mut []), Stop { count: 0, place: 0, number: 6 });
-    assert_eq!(stream::table(&[], &mut []), Stop { count: 0, place: 0, number: 0 });
+    assert_eq!(stream::table(&s[382..440], &mut []), stop(0, 0, 6, 58));
+    assert_eq!(stream::table(&[], &mut []), stop(0, 0, 0, 0));
 }
 
 /// The book's call that a frame makes, if it is one.
@@ -577,8 +632,10 @@ fn script_lines() {
             of(4, 3, &r),
             write(0),
             of(8, 0, &t),
+            of(8, 0, &t[..119]),
             list,
             step(0),
+            step(119),
             step(120),
             step(121),
             of(7, 256, &[]),
@@ -588,16 +645,18 @@ fn script_lines() {
         ]),
         [
             "0 1 120 21 4 255 0",
-            "6",
+            "6 50",
             "0 0",
             "3 891568578",
             "0 1 120 21 4 255 0 0 0 0 0 none 0 0 0 0",
             "0 2 263 21 4 255 0 0 0 0 0 0 0 0 0 83 75 1 0 -1 127 0 0 0 0 2008 366 0 4398046511104",
             "15",
             "13 0",
-            "1 120 0",
-            "0 0 16 7 7 7 7",
+            "1 120 0 0",
+            "0 0 6 119",
+            "0 0 16 0 7 7 7 7",
             "0 1 120 21 4 255 0 120",
+            "1 1 119",
             "done 120",
             "done 121",
             "22",
@@ -620,27 +679,23 @@ fn bad_frames() {
         assert_eq!(lines(&[good.clone(), Frame { op, ..Frame::default() }, good.clone()]), ["0 0", "bad frame"]);
     }
     let most = Frame { op: 8, a: vec![0; 131_072], b: vec![0; 66_000], ..Frame::default() };
-    assert_eq!(lines(&[most]), ["0 0 2"]);
+    assert_eq!(lines(&[most]), ["0 0 2 0"]);
     assert_eq!(lines(&[Frame { op: 8, a: vec![0; 131_073], ..Frame::default() }]), ["bad frame"]);
     assert_eq!(lines(&[Frame { op: 8, b: vec![0; 66_001], ..Frame::default() }]), ["bad frame"]);
 }
 
 #[test]
 fn random_scripts_meet_every_refusal() {
+    let mut behind = BTreeSet::new();
     for seed in 100..140 {
-        let mut met = [0; 32];
-        let mut calls = script::Calls::default();
-        let mut bytes = 0;
-        for frame in random::script(seed, 2_000) {
-            bytes += 40 + frame.a.len() + frame.b.len();
-            met[script::refusal_in(frame.op, &calls.line(&frame).unwrap()) as usize] += 1;
-        }
-        for number in (1..=16).chain(20..=31) {
-            assert!(met[number] > 0, "seed {seed}: no {number}");
-        }
-        assert_eq!(met[17], 0);
-        assert!(bytes <= 1_500_000, "seed {seed}: {bytes} bytes");
+        let mut script = Vec::new();
+        random::script(seed, 2_000).iter().for_each(|frame| frame.write(&mut script).unwrap());
+        let coverage = Coverage::of(&script);
+        assert!(coverage.is_whole(), "seed {seed}, missing: {:?}", coverage.missing());
+        assert!(script.len() <= 1_500_000, "seed {seed}: {} bytes", script.len());
+        behind.extend(coverage.behind());
     }
+    assert!(behind.into_iter().eq((0..=11).chain([16])));
 }
 
 #[test]
@@ -648,7 +703,8 @@ fn samples_are_stored_and_told_of() {
     let folder = concat!(env!("CARGO_MANIFEST_DIR"), "/../samples");
     let page = std::fs::read_to_string(format!("{folder}/README.md")).unwrap();
     for sample in &sample::SAMPLES {
-        assert!(page.contains(&format!("| `{}` | {} |", sample.name, sample.about)), "{}", sample.name);
+        let told = format!("| `{}` | `{}` | {} |", sample.name, sample.last_line, sample.about);
+        assert!(page.contains(&told), "{}", sample.name);
         let stored = std::fs::read(format!("{folder}/{}", sample.name)).unwrap();
         assert!(sample::sample(sample.name).unwrap() == stored, "{}", sample.name);
     }
@@ -656,12 +712,13 @@ fn samples_are_stored_and_told_of() {
 
 #[test]
 fn samples_stop_as_named() {
-    for sample in &sample::SAMPLES {
+    for sample in sample::SAMPLES.iter().chain(&sample::LISTED) {
         let stream = sample::sample(sample.name).unwrap();
-        let number = sample.name.strip_prefix("refusal-").map_or(0, |number| number.parse().unwrap());
         let text = listed(&stream[..]);
-        let stop = if number == 0 { stream.len() } else { 120 + 268 + 184 };
-        assert_eq!(text.lines().last(), Some(&format!("{stop} {number}")[..]), "{}", sample.name);
-        assert!(stream.len() <= if number == 17 { 70_000 } else { 65_536 });
+        assert_eq!(text.lines().last(), Some(sample.last_line), "{}", sample.name);
+        if let Some(number) = sample.name.strip_prefix("refusal-") {
+            assert_eq!(sample.last_line.split(' ').nth(1), Some(number.trim_start_matches('0')));
+        }
+        assert!(stream.len() <= 160_000);
     }
 }

@@ -13,6 +13,7 @@ struct Answer {
     count: usize,
     place: usize,
     number: u32,
+    detail: usize,
 }
 
 extern "C" {
@@ -34,7 +35,7 @@ extern "C" {
 }
 
 fn stop(a: Answer) -> Stop {
-    Stop { count: a.count as u64, place: a.place as u64, number: a.number }
+    Stop { count: a.count as u64, place: a.place as u64, number: a.number, detail: a.detail as u64 }
 }
 
 // Each pointer is good for its length, which is all that the functions ask.
