@@ -5,6 +5,7 @@ use headers::RsrSignal;
 use headers::RsrSource;
 use headers::RsrTime;
 use headers::TelemetryFields;
+use sfdu::Fault;
 use sfdu::Primary;
 use sheet::Answer;
 use sheet::ROWS;
@@ -15,7 +16,7 @@ ghost use mathlib.Core.List.{[], _∷_, _++_, map};
 ghost use Prim.Native.Nat.{_+_, _*_, _^_};
 ghost use lib.ListN.{getD};
 ghost use Rattle.sheet.specs.Words.{answerWords, reportAnswerWords};
-ghost use Rattle.sfdu.specs.Read.{primaryWords};
+ghost use Rattle.sfdu.specs.Read.{primaryWords, faultWords};
 ghost use Rattle.headers.specs.Words.{number};
 ghost use Rattle.headers.specs.Headers.{readHeaders, bandWord, telemetryFieldWords, sourceWords, signalWords, timeWords};
 ghost use Rattle.stream.specs.Listing.{walked};
@@ -25,14 +26,14 @@ ghost use Rattle.model.specs.Counts.{rowReport};
 ghost use Rattle.layout.specs.Layout.{call, report, onSheet};
 ghost use Rattle.bench.specs.Digest.{value, onto, digest, flag, counts, counted};
 
-// The words of an accepted answer that the kinds begin with, and that of a field out of range; and what adds nothing to a number.
+// The words of an accepted answer that the kinds begin with, and that of a kind not asked for; and what adds nothing to a number.
 const ACCEPTED: u64 = 0;
 
 const TELEMETRY: u64 = 1;
 
 const RSR: u64 = 2;
 
-const FIELD_RANGE: u64 = 12;
+const WRONG_KIND: u64 = 15;
 
 const NOTHING: u64 = 0;
 
@@ -67,9 +68,16 @@ pub extern "C" fn bench_read_headers(s: &[u8], wanted: u32) -> u64
             primary,
             rsr_onto(source, signal, time, key ^ NOTHING),
         ),
-        Headers::OutOfRange(at) => FIELD_RANGE ^ (at as u64 ^ NOTHING),
-        Headers::Refused(why) => refusals::number(why) as u64 ^ NOTHING,
+        Headers::Refused(fault) => fault_onto(fault, NOTHING),
+        Headers::WrongKind => WRONG_KIND ^ NOTHING,
     }
+}
+
+fn fault_onto(fault: Fault, rest: u64) -> u64
+    ensures { λ r. ⌜ r ≡ onto (map number (faultWords fault)) rest ⌝ }
+{
+    let refusal = fault.refusal;
+    refusals::number(refusal) as u64 ^ (fault.at as u64 ^ rest)
 }
 
 fn accepted_onto(kind: u64, size: usize, primary: Primary, rest: u64) -> u64

@@ -8,7 +8,7 @@ use lib.Dec.{lit<}
 use borrow.Author.Tests.{lt-ltb, le-ltb}
 use Rattle.model.specs.Step.{alreadySo}
 use Rattle.model.specs.Positions.{rowLength}
-use Rattle.refusals.specs.Judge.{verdict}
+use Rattle.refusals.specs.Judge.{judge}
 use Rattle.changes.specs.Rows.{tickedAt}
 use Rattle.changes.specs.Bytes.{Outcome, judged, marked, markPosition}
 
@@ -47,17 +47,17 @@ bit-under b =
 module _ (i : ℕ) (row : List ℕ) where
   -- a position that is not in the row
   pub mark-outside : (on : Bool) → rowLength ≤ i → _≡_ {A = Outcome} (28 ∷ [], row) (markPosition on i row)
-  unfolding markPosition judged verdict
+  unfolding markPosition judged judge
   mark-outside on h = rw (le-ltb i rowLength h)
 
   -- one that is as it should become
   pub mark-same : (on : Bool) → i < rowLength → tickedAt row 0 i ≡ on → _≡_ {A = Outcome} (alreadySo on ∷ [], row) (markPosition on i row)
-  unfolding markPosition judged verdict
+  unfolding markPosition judged judge
   mark-same true h e = rw (lt-ltb i rowLength h, e)
   mark-same false h e = rw (lt-ltb i rowLength h, e)
 
   -- one that is changed
   pub mark-changed : (on : Bool) → i < rowLength → tickedAt row 0 i ≡ not on → _≡_ {A = Outcome} (0 ∷ [], marked on row i) (markPosition on i row)
-  unfolding markPosition judged verdict
+  unfolding markPosition judged judge
   mark-changed true h e = rw (lt-ltb i rowLength h, e)
   mark-changed false h e = rw (lt-ltb i rowLength h, e)

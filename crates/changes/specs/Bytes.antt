@@ -8,7 +8,7 @@ use mathlib.Core.Option.{Option, none, some}
 use lib.Dec.{eqb, ltb}
 use lib.ListN.{replicate}
 use Rattle.octets.specs.Octets.{bytesOf, part, put, sameAt}
-use Rattle.refusals.specs.Judge.{Row, _when_, judge}
+use Rattle.refusals.specs.Judge.{Rule, _when_, verdict}
 use Rattle.model.specs.Positions.{position, numberAt, inRow, size, missing, least}
 use Rattle.model.specs.Step.{alreadySo}
 use Rattle.sheet.specs.Sheet.{sheetSize, rowSize, rowCount, rowsStart, openedAt, workedAt, deskSize, deskCount, desksStart, headerNumberSize, usedAt, rowAt, deskAt, used, keyAt, firstNumberAt, deskRow}
@@ -18,8 +18,8 @@ abbrev pub Outcome : Type 0
 Outcome = List ℕ × List ℕ
 
 -- A call judged by rows of the refusal table, in the table's order: a refusal leaves the sheet as it was.
-unfoldable pub judged : List Row → Outcome → List ℕ → Outcome
-judged rows outcome s = judge (λ n. (n ∷ [], s)) rows outcome
+unfoldable pub judged : List (Rule ℕ) → Outcome → List ℕ → Outcome
+judged rules outcome s = cond (eqb (verdict rules) 0) outcome (verdict rules ∷ [], s)
 
 abbrev pub done : List ℕ
 done = 0 ∷ []
@@ -84,7 +84,7 @@ abbrev pub marked : Bool → List ℕ → ℕ → List ℕ
 marked on row i = cond on (setTick row 0 i) (clearTick row 0 i)
 
 -- The refusals that the row itself decides: "29 and 30 are judged on that copy".
-abbrev pub markRows : Bool → List ℕ → ℕ → List Row
+abbrev pub markRows : Bool → List ℕ → ℕ → List (Rule ℕ)
 markRows on row i = (28 when not (inRow i)) ∷ (alreadySo on when Bool·beq (tickedAt row 0 i) on) ∷ []
 
 -- A tick or an untick of position i, and of number n, in a row's bytes.

@@ -2,13 +2,12 @@
 use Prim.Native.Nat.{ℕ}
 use native.Mathlib.Omega.{arith}
 use mathlib.Core.List.{List, _∷_, [], map}
-use mathlib.Core.Path.{_≡_, ap}
+use mathlib.Core.Path.{_≡_, refl, ap}
 use Rattle.refusals.specs.Table.{numberOf}
-use Rattle.refusals.proofs.Laws.{number-injective}
 use lib.ListN.{take, drop}
 use Rattle.sfdu.specs.declared.Primary.{Primary}
 use Rattle.sfdu.specs.Read.{primaryWords}
-use Rattle.sfdu.proofs.Words.{same-primary}
+use Rattle.sfdu.proofs.Words.{same-primary, same-fault}
 use Rattle.headers.specs.declared.Band.{Band}
 use Rattle.headers.specs.declared.Band.the-variants.{Letter, Unused}
 use Rattle.headers.specs.declared.TelemetryFields.{TelemetryFields}
@@ -16,7 +15,7 @@ use Rattle.headers.specs.declared.RsrSource.{RsrSource}
 use Rattle.headers.specs.declared.RsrSignal.{RsrSignal}
 use Rattle.headers.specs.declared.RsrTime.{RsrTime}
 use Rattle.headers.specs.declared.Headers.{Headers}
-use Rattle.headers.specs.declared.Headers.the-variants.{Telemetry, Rsr, OutOfRange, Refused}
+use Rattle.headers.specs.declared.Headers.the-variants.{Telemetry, Rsr, Refused, WrongKind}
 use Rattle.headers.specs.Words.{Word, number}
 use Rattle.headers.specs.Headers.{bandWord, telemetryFieldWords, sourceWords, signalWords, timeWords, wordsOf}
 
@@ -113,17 +112,20 @@ same-headers (Rsr n p f s t key) (Rsr m q g u v l) e =
     let time = same-time t v (ap (part 25 3) e) in
     let k : key ≡ l = same-number key l (ap (part 28 1) e) in
     λ i. Rsr (size i) (primary i) (source i) (signal i) (time i) (k i)
-same-headers (OutOfRange x) (OutOfRange y) e = cc
-same-headers (Refused r) (Refused s) e = let n : numberOf r ≡ numberOf s = cc in ap Refused (number-injective r s n)
+same-headers (Refused f) (Refused g) e =
+    let n : numberOf (f .refusal) ≡ numberOf (g .refusal) = cc in
+    let at : f .at ≡ g .at = cc in
+    ap Refused (same-fault f g (rw (n, at)))
+same-headers WrongKind WrongKind e = refl
 same-headers (Telemetry n p f key) (Rsr m q g u v l) e = let z : _≡_ {A = ℕ} 1 2 = cc in absurd (omega arith)
 same-headers (Rsr m q g u v l) (Telemetry n p f key) e = let z : _≡_ {A = ℕ} 2 1 = cc in absurd (omega arith)
-same-headers (Telemetry n p f key) (OutOfRange y) e = let z : _≡_ {A = ℕ} 0 12 = cc in absurd (omega arith)
-same-headers (OutOfRange y) (Telemetry n p f key) e = let z : _≡_ {A = ℕ} 12 0 = cc in absurd (omega arith)
-same-headers (Rsr m q g u v l) (OutOfRange y) e = let z : _≡_ {A = ℕ} 0 12 = cc in absurd (omega arith)
-same-headers (OutOfRange y) (Rsr m q g u v l) e = let z : _≡_ {A = ℕ} 12 0 = cc in absurd (omega arith)
-same-headers (Telemetry n p f key) (Refused s) e = let z : _≡_ {A = ℕ} 0 1 = cc in absurd (omega arith)
-same-headers (Refused s) (Telemetry n p f key) e = let z : _≡_ {A = ℕ} 0 1 = cc in absurd (omega arith)
-same-headers (Rsr m q g u v l) (Refused s) e = let z : _≡_ {A = ℕ} 0 1 = cc in absurd (omega arith)
-same-headers (Refused s) (Rsr m q g u v l) e = let z : _≡_ {A = ℕ} 0 1 = cc in absurd (omega arith)
-same-headers (OutOfRange y) (Refused s) e = let z : _≡_ {A = ℕ} 0 1 = cc in absurd (omega arith)
-same-headers (Refused s) (OutOfRange y) e = let z : _≡_ {A = ℕ} 0 1 = cc in absurd (omega arith)
+same-headers (Telemetry n p f key) WrongKind e = let z : _≡_ {A = ℕ} 0 1 = cc in absurd (omega arith)
+same-headers WrongKind (Telemetry n p f key) e = let z : _≡_ {A = ℕ} 0 1 = cc in absurd (omega arith)
+same-headers (Rsr m q g u v l) WrongKind e = let z : _≡_ {A = ℕ} 0 1 = cc in absurd (omega arith)
+same-headers WrongKind (Rsr m q g u v l) e = let z : _≡_ {A = ℕ} 0 1 = cc in absurd (omega arith)
+same-headers (Telemetry n p f key) (Refused h) e = let z : _≡_ {A = ℕ} 0 1 = cc in absurd (omega arith)
+same-headers (Refused h) (Telemetry n p f key) e = let z : _≡_ {A = ℕ} 0 1 = cc in absurd (omega arith)
+same-headers (Rsr m q g u v l) (Refused h) e = let z : _≡_ {A = ℕ} 0 1 = cc in absurd (omega arith)
+same-headers (Refused h) (Rsr m q g u v l) e = let z : _≡_ {A = ℕ} 0 1 = cc in absurd (omega arith)
+same-headers WrongKind (Refused h) e = let z : _≡_ {A = ℕ} 0 1 = cc in absurd (omega arith)
+same-headers (Refused h) WrongKind e = let z : _≡_ {A = ℕ} 0 1 = cc in absurd (omega arith)

@@ -3,14 +3,14 @@ use Prim.Native.Nat.{ℕ}
 use mathlib.Core.Bool.{not, cond}
 use mathlib.Core.List.{List, [], _∷_, _++_, map}
 use lib.Dec.{eqb}
-use Rattle.refusals.specs.Judge.{_when_, judge}
+use Rattle.refusals.specs.Judge.{_when_, judge, answered}
 use Rattle.refusals.specs.Table.{numberOf}
-use Rattle.refusals.specs.declared.Refusal.the-variants.{FieldRange}
+use Rattle.refusals.specs.declared.Refusal.the-variants.{FieldRange, WrongKind as WrongKindRefusal}
 use Rattle.keys.specs.Key.{telemetryKey, rsrKey}
 use Rattle.sfdu.specs.declared.Kind.{Kind}
 use Rattle.sfdu.specs.declared.Kind.the-variants.{Telemetry, Rsr}
 use Rattle.sfdu.specs.Nesting.{kindNumber}
-use Rattle.sfdu.specs.Read.{primaryWords, primaryOf, kindOf, recordLength, readRows}
+use Rattle.sfdu.specs.Read.{primaryWords, faultWords, primaryOf, kindOf, recordLength, readRules}
 use Rattle.headers.specs.declared.Band.{Band}
 use Rattle.headers.specs.declared.Band.the-variants.{Letter, Unused}
 use Rattle.headers.specs.declared.TelemetryFields.{TelemetryFields}
@@ -18,7 +18,7 @@ use Rattle.headers.specs.declared.RsrSource.{RsrSource}
 use Rattle.headers.specs.declared.RsrSignal.{RsrSignal}
 use Rattle.headers.specs.declared.RsrTime.{RsrTime}
 use Rattle.headers.specs.declared.Headers.{Headers}
-use Rattle.headers.specs.declared.Headers.the-variants.{Telemetry as TelemetryHeaders, Rsr as RsrHeaders, OutOfRange, Refused}
+use Rattle.headers.specs.declared.Headers.the-variants.{Telemetry as TelemetryHeaders, Rsr as RsrHeaders, Refused, WrongKind}
 use Rattle.headers.specs.Words.{Word, number, signed, none}
 use Rattle.headers.specs.Fields.{
   spacecraft,
@@ -51,7 +51,7 @@ use Rattle.headers.specs.Fields.{
   overrideFrequency,
   recordNumber,
 }
-use Rattle.headers.specs.Ranges.{fault}
+use Rattle.headers.specs.Ranges.{fieldRules}
 
 -- ---- what an answer says: each case's number and values, in the paper's order
 
@@ -91,12 +91,15 @@ accepted k size primary fields key = number 0 ∷ number (kindNumber k) ∷ numb
 abbrev pub outOfRange : ℕ → List Word
 outOfRange at = number (numberOf FieldRange) ∷ number at ∷ []
 
+abbrev pub wrongKind : List Word
+wrongKind = number (numberOf WrongKindRefusal) ∷ []
+
 abbrev pub wordsOf : Headers → List Word
 wordsOf (TelemetryHeaders size primary fields key) = accepted Telemetry size (primaryWords primary) (telemetryFieldWords fields) key
 wordsOf (RsrHeaders size primary from signal time key) =
     accepted Rsr size (primaryWords primary) (sourceWords from ++ signalWords signal ++ timeWords time) key
-wordsOf (OutOfRange at) = outOfRange at
-wordsOf (Refused r) = number (numberOf r) ∷ []
+wordsOf (Refused f) = map number (faultWords f)
+wordsOf WrongKind = wrongKind
 
 -- ---- the fields and the key of a record
 
@@ -140,9 +143,10 @@ acceptedFields k s = accepted k (recordLength s) (primaryOf s) (fieldsOf k s) (k
 
 -- 12, judged last: the offset of the lowest field out of range; else the fields.
 abbrev pub judgedFields : Kind → List ℕ → List Word
-judgedFields k s = cond (eqb (fault k s) 0) (acceptedFields k s) (outOfRange (fault k s))
+judgedFields k s = judge outOfRange (fieldRules k s) (acceptedFields k s)
 
 -- Read one's refusals, then 15, then 12.
 unfoldable pub readHeaders : (wanted : ℕ) → List ℕ → List Word
 readHeaders wanted s =
-    judge (λ n. number n ∷ []) (readRows s ++ (15 when not (eqb wanted (kindNumber (kindOf s)))) ∷ []) (judgedFields (kindOf s) s)
+    judge (map number) (readRules s)
+    (answered ((wrongKind when not (eqb wanted (kindNumber (kindOf s)))) ∷ []) (judgedFields (kindOf s) s))

@@ -5,10 +5,12 @@ use mathlib.Core.Bool.{Bool, not, _&&_, _||_}
 use mathlib.Core.List.{List, [], _∷_, _++_, map}
 use lib.Dec.{eqb, leb}
 use lib.ListN.{getD}
-use Rattle.refusals.specs.Judge.{Row, _when_, verdict}
+use Rattle.refusals.specs.Judge.{Rule, _when_}
 use Rattle.sfdu.specs.declared.Kind.{Kind}
 use Rattle.sfdu.specs.declared.Kind.the-variants.{Telemetry, Rsr}
+use Rattle.sfdu.specs.declared.Checked.{Checked}
 use Rattle.sfdu.specs.Nesting.{primaryValueAt, secondaryAt}
+use Rattle.sfdu.specs.Read.{checked}
 use Rattle.headers.specs.declared.Allowed.{Allowed}
 use Rattle.headers.specs.declared.Allowed.the-variants.{Between, Bands}
 use Rattle.headers.specs.declared.Judged.{Judged}
@@ -55,20 +57,20 @@ judgedBytes =
     ∷ record { at = secondaryAt + peakAt; allowed = Between 0 128 }
     ∷ []
 
-abbrev pub byteRow : List ℕ → Judged → Row
-byteRow s f = (f .at) when not (inRange (f .allowed) (getD s (f .at) 0))
+abbrev pub byteRule : List ℕ → Judged → Rule ℕ
+byteRule s f = (f .at) when not (inRange (f .allowed) (getD s (f .at) 0))
 
-abbrev pub byteRows : List ℕ → List Row
-byteRows s = map (byteRow s) judgedBytes
+abbrev pub byteRules : List ℕ → List (Rule ℕ)
+byteRules s = map (byteRule s) judgedBytes
 
-abbrev pub dateRows : List ℕ → List Row
-dateRows s = ((secondaryAt + yearAt) when not (isYear (year s))) ∷ ((secondaryAt + dayAt) when not (isDay (year s) (day s))) ∷ []
+abbrev pub dateRules : List ℕ → List (Rule ℕ)
+dateRules s = ((secondaryAt + yearAt) when not (isYear (year s))) ∷ ((secondaryAt + dayAt) when not (isDay (year s) (day s))) ∷ []
 
 -- Each judged field, from the lowest: its offset, given when it is out of range.
-abbrev pub fieldRows : Kind → List ℕ → List Row
-fieldRows Telemetry s = ((secondaryAt + uplinkAt) when (hasBand s && not (isBand (uplink s)))) ∷ []
-fieldRows Rsr s = byteRows s ++ dateRows s
+abbrev pub fieldRules : Kind → List ℕ → List (Rule ℕ)
+fieldRules Telemetry s = ((secondaryAt + uplinkAt) when (hasBand s && not (isBand (uplink s)))) ∷ []
+fieldRules Rsr s = byteRules s ++ dateRules s
 
--- The offset of the lowest field out of range, or 0 where none is.
-unfoldable pub fault : Kind → List ℕ → ℕ
-fault k s = verdict (fieldRows k s)
+-- The lowest field out of range.
+unfoldable pub fault : Kind → List ℕ → Checked
+fault k s = checked (fieldRules k s)

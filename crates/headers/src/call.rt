@@ -8,7 +8,6 @@ ghost use Rattle.headers.specs.Headers.{wordsOf, readHeaders};
 use crate::Headers;
 use crate::rsr;
 use crate::telemetry;
-use refusals::Refusal;
 use sfdu::Kind;
 use sfdu::Read;
 
@@ -25,14 +24,14 @@ pub fn read_headers(s: &[u8], wanted: u32) -> Headers
             primary,
         } => {
             if wanted != sfdu::kind_number(kind) {
-                return Headers::Refused(Refusal::WrongKind);
+                return Headers::WrongKind;
             }
             match kind {
                 Kind::Telemetry => return telemetry::fields(s, size, primary),
                 Kind::Rsr => return rsr::fields(s, size, primary),
             }
         }
-        Read::Refused(r) => Headers::Refused(r),
+        Read::Refused(f) => Headers::Refused(f),
     }
 }
 

@@ -5,7 +5,7 @@ mod telemetry;
 
 pub use call::read_headers;
 pub use call::record_number;
-use refusals::Refusal;
+use sfdu::Fault;
 use sfdu::Primary;
 
 // The uplink band of a telemetry record; none where the predicts mode says that it means nothing.
@@ -71,8 +71,8 @@ pub struct Judged {
     pub allowed: Allowed,
 }
 
-// What reading the headers of a record finds: its length, its primary value, its fields and its stream key; or that the
-// field that starts at an offset is out of range; or another refusal.
+// What reading the headers of a record finds: its length, its primary value, its fields and its stream key; or a
+// refusal, with the offset or the count that goes with it; or that it is of the other kind.
 pub enum Headers {
     Telemetry {
         size: usize,
@@ -88,6 +88,6 @@ pub enum Headers {
         time: RsrTime,
         key: u64,
     },
-    OutOfRange(usize),
-    Refused(Refusal),
+    Refused(Fault),
+    WrongKind,
 }

@@ -2,14 +2,13 @@
 ghost use mathlib.Core.Path.{_≡_};
 ghost use Prim.Native.Nat.{_≤_};
 ghost use lib.ListN.{length};
-ghost use Rattle.refusals.specs.Judge.{verdict};
 ghost use Rattle.sfdu.specs.declared.Kind.the-variants.{Rsr};
 ghost use Rattle.sfdu.specs.Nesting.{dataValueAt};
-ghost use Rattle.sfdu.specs.Read.{primaryWords, primaryOf, recordLength};
+ghost use Rattle.sfdu.specs.Read.{primaryWords, primaryOf, recordLength, checked};
 ghost use Rattle.headers.specs.Date.{isYear, isDay};
 ghost use Rattle.headers.specs.Fields.{recordNumber, signedByte};
 ghost use Rattle.headers.specs.Headers.{wordsOf, acceptedFields, judgedFields, sourceWords, sourceOf, signalWords, signalOf, timeWords, timeOf};
-ghost use Rattle.headers.specs.Ranges.{fault, inRange, isRsrBand, byteRows, dateRows};
+ghost use Rattle.headers.specs.Ranges.{fault, inRange, isRsrBand, byteRules, dateRules};
 use crate::Allowed;
 use crate::Headers;
 use crate::Judged;
@@ -18,6 +17,9 @@ use crate::RsrSource;
 use crate::RsrTime;
 use octets::read_be;
 use octets::read_u16;
+use refusals::Refusal;
+use sfdu::Checked;
+use sfdu::Fault;
 use sfdu::PRIMARY_VALUE_AT;
 use sfdu::Primary;
 use sfdu::SECONDARY_AT;
@@ -122,9 +124,12 @@ pub fn fields(s: &[u8], size: usize, primary: Primary) -> Headers
     requires { ⌜ (size ≡ recordLength (now s)) × (primaryWords primary ≡ primaryOf (now s)) × (dataValueAt Rsr ≤ length (now s)) ⌝ }
     ensures { λ r. ⌜ wordsOf r ≡ judgedFields Rsr (now (s .entry)) ⌝ }
 {
-    let at = field_fault(s);
-    if at != 0 {
-        return Headers::OutOfRange(at);
+    let checked = field_fault(s);
+    if let Checked::Wrong(at) = checked {
+        return Headers::Refused(Fault {
+            refusal: Refusal::FieldRange,
+            at,
+        });
     }
     read_fields(s, size, primary)
 }
@@ -152,23 +157,23 @@ fn read_fields(s: &[u8], size: usize, primary: Primary) -> Headers
     }
 }
 
-// The offset of the lowest field out of range, or 0.
-fn field_fault(s: &[u8]) -> usize
+// The lowest field out of range.
+fn field_fault(s: &[u8]) -> Checked
     requires { ⌜ dataValueAt Rsr ≤ length (now s) ⌝ }
     ensures { λ r. ⌜ r ≡ fault Rsr (now (s .entry)) ⌝ }
 {
-    let at = byte_fault(s);
-    if at != 0 {
-        return at;
+    let checked = byte_fault(s);
+    if let Checked::Wrong(at) = checked {
+        return Checked::Wrong(at);
     }
     date_fault(s)
 }
 
 // The same for the judged bytes alone. The table is made once, before the loop: LLVM then unrolls the loop, and each entry is a
 // constant.
-fn byte_fault(s: &[u8]) -> usize
+fn byte_fault(s: &[u8]) -> Checked
     requires { ⌜ dataValueAt Rsr ≤ length (now s) ⌝ }
-    ensures { λ r. ⌜ r ≡ verdict (byteRows (now (s .entry))) ⌝ }
+    ensures { λ r. ⌜ r ≡ checked (byteRules (now (s .entry))) ⌝ }
 {
     let table = JUDGED;
     for i in 0..table.len() {
@@ -176,10 +181,10 @@ fn byte_fault(s: &[u8]) -> usize
         let at = field.at;
         let allowed = field.allowed;
         if !in_range(allowed, s[at]) {
-            return at;
+            return Checked::Wrong(at);
         }
     }
-    0
+    Checked::Right
 }
 
 fn in_range(allowed: Allowed, b: u8) -> bool
@@ -197,19 +202,19 @@ pub fn is_band(b: u8) -> bool
     (b == b'S') | (b == b'X') | (b == b'K')
 }
 
-fn date_fault(s: &[u8]) -> usize
+fn date_fault(s: &[u8]) -> Checked
     requires { ⌜ dataValueAt Rsr ≤ length (now s) ⌝ }
-    ensures { λ r. ⌜ r ≡ verdict (dateRows (now (s .entry))) ⌝ }
+    ensures { λ r. ⌜ r ≡ checked (dateRules (now (s .entry))) ⌝ }
 {
     let year = read_u16(s, YEAR_AT);
     if !is_year(year) {
-        return YEAR_AT;
+        return Checked::Wrong(YEAR_AT);
     }
     let day = read_u16(s, DAY_AT);
     if !is_day(year, day) {
-        return DAY_AT;
+        return Checked::Wrong(DAY_AT);
     }
-    0
+    Checked::Right
 }
 
 fn is_year(year: u16) -> bool

@@ -16,6 +16,9 @@ use crate::TelemetryFields;
 use octets::read_be;
 use octets::read_u16;
 use octets::read_u32;
+use refusals::Refusal;
+use sfdu::Checked;
+use sfdu::Fault;
 use sfdu::Primary;
 use sfdu::SECONDARY_AT;
 
@@ -43,9 +46,12 @@ pub fn fields(s: &[u8], size: usize, primary: Primary) -> Headers
     requires { ⌜ (size ≡ recordLength (now s)) × (primaryWords primary ≡ primaryOf (now s)) × (dataValueAt Telemetry ≤ length (now s)) ⌝ }
     ensures { λ r. ⌜ wordsOf r ≡ judgedFields Telemetry (now (s .entry)) ⌝ }
 {
-    let at = band_fault(s);
-    if at != 0 {
-        return Headers::OutOfRange(at);
+    let checked = band_fault(s);
+    if let Checked::Wrong(at) = checked {
+        return Headers::Refused(Fault {
+            refusal: Refusal::FieldRange,
+            at,
+        });
     }
     let fields = read_fields(s);
     let key = keys::telemetry_key_of(
@@ -63,17 +69,17 @@ pub fn fields(s: &[u8], size: usize, primary: Primary) -> Headers
 }
 
 // The band's offset where it means something and is no band, else 0.
-fn band_fault(s: &[u8]) -> usize
+fn band_fault(s: &[u8]) -> Checked
     requires { ⌜ dataValueAt Telemetry ≤ length (now s) ⌝ }
     ensures { λ r. ⌜ r ≡ fault Telemetry (now (s .entry)) ⌝ }
 {
     if !has_band(s) {
-        return 0;
+        return Checked::Right;
     }
     if is_band(s[UPLINK_AT]) {
-        return 0;
+        return Checked::Right;
     }
-    UPLINK_AT
+    Checked::Wrong(UPLINK_AT)
 }
 
 fn has_band(s: &[u8]) -> bool

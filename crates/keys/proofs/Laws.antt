@@ -7,7 +7,7 @@ use mathlib.Core.Bool.{Bool, true, false, not, _&&_, _||_}
 use mathlib.Core.List.{[], _∷_}
 use lib.Dec.{leb, ltb}
 use borrow.Author.Tests.{ltb-true, ltb-false, lt-ltb, le-leb, not-false}
-use Rattle.refusals.specs.Judge.{_when_, verdict}
+use Rattle.refusals.specs.Judge.{_when_, judge}
 use Rattle.refusals.proofs.Laws.{number-injective}
 use Rattle.keys.specs.Key.{rsrStart, rsrEnd, validKey, telemetryKey, rsrKey, made, telemetryKeyCall, rsrKeyCall}
 use Rattle.keys.specs.declared.KeyAnswer.{KeyAnswer}
@@ -118,7 +118,7 @@ unpack m n o p key hn ho hp h =
 answered : (a m b n c o d p formula key : ℕ)
     → made ((22 when not (ltb a m && ltb b n && ltb c o && ltb d p)) ∷ []) formula ≡ 0 ∷ key ∷ []
     → Below a m b n c o d p × (key ≡ formula)
-unfolding verdict
+unfolding judge
 answered a m b n c o d p formula key = at (ltb a m && ltb b n && ltb c o && ltb d p) refl
   where
     at : (fit : Bool) → (ltb a m && ltb b n && ltb c o && ltb d p) ≡ fit → made ((22 when not fit) ∷ []) formula ≡ 0 ∷ key ∷ []
@@ -137,11 +137,11 @@ rsr-made a b c d key e = answered a _ b _ c _ d _ _ key e
 
 -- Numbers that fit make the key.
 pub telemetry-answers : (a b c d : ℕ) → Below a (2 ^ 10) b (2 ^ 8) c (2 ^ 16) d (2 ^ 8) → telemetryKeyCall a b c d ≡ 0 ∷ telemetryKey a b c d ∷ []
-unfolding telemetryKeyCall verdict
+unfolding telemetryKeyCall judge
 telemetry-answers a b c d w = rw (fitting a (2 ^ 10) b (2 ^ 8) c (2 ^ 16) d (2 ^ 8) w)
 
 pub rsr-answers : (a b c d : ℕ) → Below a (2 ^ 8) b (2 ^ 8) c (2 ^ 8) d (2 ^ 8) → rsrKeyCall a b c d ≡ 0 ∷ rsrKey a b c d ∷ []
-unfolding rsrKeyCall verdict
+unfolding rsrKeyCall judge
 rsr-answers a b c d w = rw (fitting a (2 ^ 8) b (2 ^ 8) c (2 ^ 8) d (2 ^ 8) w)
 
 -- A made telemetry key lies below the RSR keys, and a made RSR key among them.
@@ -181,7 +181,7 @@ pub record Named (key : ℕ) : Type 0 where
   pub is : keyCall stream ≡ 0 ∷ key ∷ []
 
 pub valid-named : (key : ℕ) → validKey key ≡ true → Named key
-unfolding telemetryKeyCall rsrKeyCall verdict
+unfolding telemetryKeyCall rsrKeyCall judge
 valid-named key e = at (ltb key rsrStart) refl
   where
     at : (t : Bool) → ltb key rsrStart ≡ t → Named key

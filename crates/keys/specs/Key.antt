@@ -4,7 +4,7 @@ use Prim.Native.Nat.{ℕ, _+_, _*_, _^_}
 use mathlib.Core.Bool.{Bool, not, _&&_, _||_}
 use mathlib.Core.List.{List, [], _∷_}
 use lib.Dec.{leb, ltb}
-use Rattle.refusals.specs.Judge.{Row, _when_, answered}
+use Rattle.refusals.specs.Judge.{Rule, _when_, judge}
 
 -- "Telemetry: spacecraft x 2^32 + source x 2^24 + equipment x 2^8 + virtual stream."
 abbrev pub telemetryKey : (spacecraft source equipment stream : ℕ) → ℕ
@@ -45,8 +45,8 @@ abbrev pub rsrFits : (spacecraft station receiver subchannel : ℕ) → Bool
 rsrFits spacecraft station receiver subchannel = fits 8 spacecraft && fits 8 station && fits 8 receiver && fits 8 subchannel
 
 -- The answer of a call that makes a key: 0 and the key, or the refusal's number alone.
-abbrev pub made : List Row → (key : ℕ) → List ℕ
-made rows key = answered rows (0 ∷ key ∷ [])
+abbrev pub made : List (Rule ℕ) → (key : ℕ) → List ℕ
+made rules key = judge (λ n. n ∷ []) rules (0 ∷ key ∷ [])
 
 -- "A call for each kind makes the key from its four numbers; 22 where one is wider than its field."
 unfoldable pub telemetryKeyCall : (spacecraft source equipment stream : ℕ) → List ℕ

@@ -10,7 +10,7 @@ use lib.Dec.{eqb, ltb, lit<}
 use lib.ListN.{length, getD, set, length-set}
 use lib.Seq.{getD-set-other}
 use borrow.Author.Tests.{ltb-true, eqb-true, eqb-false, not-false}
-use Rattle.refusals.specs.Judge.{Row, _when_, verdict}
+use Rattle.refusals.specs.Judge.{Rule, _when_, verdict, judge}
 use Rattle.refusals.proofs.Judged.{NoneHolds, Numbered, verdict-none}
 use Rattle.model.specs.Positions.{Positions, noTicks, same, position}
 use Rattle.model.specs.Book.{Place, free, row, Desk, closed, working, Book, place, desk, putPlace, putDesk, isFree, ticksOf, withTicks, isDesk, isOpen, hasKey, placeWith, allUsed, positionAt}
@@ -38,7 +38,7 @@ use Rattle.layout.proofs.Right.{n, in-order, few, used-is, row-used, ro
 -- ---- judging
 
 -- the rows of a refusal table, where the first is 20
-pub not-right : (s : List ℕ) (rows : List Row) (outcome : Outcome) → right s ≡ false → judged ((20 when not (right s)) ∷ rows) outcome s ≡ (20 ∷ [], s)
+pub not-right : (s : List ℕ) (rows : List (Rule ℕ)) (outcome : Outcome) → right s ≡ false → judged ((20 when not (right s)) ∷ rows) outcome s ≡ (20 ∷ [], s)
 not-right s rows outcome e = refuses rows outcome s 20 (ap not e) (lit< tt)
 
 -- no row of the model's has the number 0
@@ -71,10 +71,10 @@ module _ (b : Book) (ok : WellFormed b) where
   s = layout b
 
   -- a call whose rows are the model's, and which leaves the sheet where it is refused
-  by-rows : (c : Call) (rows : List Row) (outcome : Outcome) → verdict rows ≡ verdict (refusals c b) → ((number : ℕ) → afterRefusal number c b ≡ b)
+  by-rows : (c : Call) (rows : List (Rule ℕ)) (outcome : Outcome) → verdict rows ≡ verdict (refusals c b) → ((number : ℕ) → afterRefusal number c b ≡ b)
       → (NoneHolds (refusals c b) → outcome ≡ laidOut (answerWords (effect c b .answer), effect c b .book))
       → judged ((20 when not (right s)) ∷ rows) outcome s ≡ laidOut (call c b)
-  unfolding judged verdict step
+  unfolding judged judge step
   by-rows c rows outcome e stays h = rw (layout-right b ok, e) (by (verdict (refusals c b)) (eqb (verdict (refusals c b)) 0) refl (λ v. h (verdict-none (refusals c b) (numbered c b) v)))
     where
       by : (v : ℕ) (t : Bool) → eqb v 0 ≡ t → (v ≡ 0 → outcome ≡ laidOut (answerWords (effect c b .answer), effect c b .book))
@@ -89,7 +89,7 @@ module _ (b : Book) (ok : WellFormed b) where
       → ((r : ℕ) (opened worked : Positions) → isDesk d ≡ true → desk b d ≡ working r opened worked → outcome ≡ laidOut (answerWords (g .answer), g .book))
       → judged ((20 when not (right s)) ∷ (21 when not (ltb d deskCount)) ∷ (27 when isClosed s d) ∷ []) outcome s
       ≡ laidOut (answerWords (g .answer), g .book)
-  unfolding judged verdict
+  unfolding judged judge
   by-desk d outcome g none shut open-law = rw (layout-right b ok, closed-law b (shape ok) d) (by (isDesk d) refl (desk b d) refl)
     where
       by : (t : Bool) → isDesk d ≡ t → (x : Desk) → desk b d ≡ x
@@ -113,7 +113,7 @@ module _ (b : Book) (ok : WellFormed b) where
   full = rw (used-is b ok, all-used (in-order b ok), ok .places-count)
 
   pub find-call : (key : ℕ) → findCall key s ≡ laidOut (call (Find key) b)
-  unfolding findCall refusals effect afterRefusal verdict
+  unfolding findCall refusals effect afterRefusal judge
   find-call key =
       by-rows (Find key) _ _ (rw (has-key key)) (λ _. refl) (λ v. rw (row-with key (not-false _ (v .1 .0))))
 
@@ -147,7 +147,7 @@ module _ (b : Book) (ok : WellFormed b) where
       ∙ rw count
 
   pub enrol-call : (key first : ℕ) → enrolCall key first s ≡ laidOut (call (Enrol key first) b)
-  unfolding enrolCall refusals effect afterRefusal verdict
+  unfolding enrolCall refusals effect afterRefusal judge
   enrol-call key first =
       by-rows (Enrol key first) _ _ (rw (has-key key, full)) (λ _. refl) (λ v.
       let m : n b ok ≡ rowCount → ⊥ = eqb-false _ _ (rw (used-is b ok) at (full ∙ v .1 .1 .0)) in
@@ -164,7 +164,7 @@ module _ (b : Book) (ok : WellFormed b) where
       ap (λ (x : List ℕ). put s (deskAt d) (openDesk r x x)) bytes ∙ desk-put b (shape ok) d (working r t t) l
 
   pub open-call : (d r : ℕ) → openCall d r s ≡ laidOut (call (Open d r) b)
-  unfolding openCall refusals effect afterRefusal verdict
+  unfolding openCall refusals effect afterRefusal judge
   open-call d r =
       by-rows (Open d r) _ _
       (rw (used-is b ok, row-used b ok r, Bool·not-not, closed-law b (shape ok) d, Bool·not-not))
@@ -178,7 +178,7 @@ module _ (b : Book) (ok : WellFormed b) where
   clear-law x h d l = desk-put x h d closed l
 
   pub drop-call : (d : ℕ) → dropCall d s ≡ laidOut (call (Drop d) b)
-  unfolding dropCall refusals effect afterRefusal verdict
+  unfolding dropCall refusals effect afterRefusal judge
   drop-call d =
       by-rows (Drop d) _ _
       (rw (closed-law b (shape ok) d))
@@ -288,7 +288,7 @@ module _ (b : Book) (ok : WellFormed b) where
   -- ---- row report, first gap
 
   pub report-call : (r : ℕ) → reportCall r s ≡ laidOut (report (λ x. rowReport x r) b)
-  unfolding reportCall judged verdict
+  unfolding reportCall judged judge
   report-call r = rw (layout-right b ok, used-is b ok, row-used b ok r) (by (place b r) refl)
     where
       by : (p : Place) → place b r ≡ p → judged ((20 when not true) ∷ (25 when not (not (isFree (place b r)))) ∷ []) (Bytes.reportWords s (rowAt r), s) s ≡ laidOut (report (λ x. rowReport x r) b)
@@ -296,6 +296,6 @@ module _ (b : Book) (ok : WellFormed b) where
       by (row key first ticks) e = rw (e, report-law (row-read b ok r key first ticks e))
 
   pub gap-call : gapCall s ≡ laidOut (report firstGap b)
-  unfolding gapCall judged verdict
+  unfolding gapCall judged judge
   gap-call =
       rw (layout-right b ok, used-is b ok, gap-law (in-order b ok) s 0 (λ i k first ticks e. rw zero-add (row-read b ok i k first ticks e)))

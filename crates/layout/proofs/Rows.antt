@@ -8,7 +8,7 @@ use mathlib.Core.Path.{_≡_, refl, sym, ap, _∙_}
 use lib.Dec.{eqb, lit<}
 use lib.ListN.{length, getD, set, length-append, length-replicate}
 use borrow.Author.Tests.{ltb-true, eqb-true}
-use Rattle.refusals.specs.Judge.{verdict}
+use Rattle.refusals.specs.Judge.{verdict, judge}
 use Rattle.keys.proofs.Laws.{below-valid}
 use Rattle.model.specs.Positions.{rowLength, Positions, has, position, inRow}
 use Rattle.model.specs.Book.{Place, free, row}
@@ -148,7 +148,7 @@ module _ (key first : ℕ) (t : Positions) (ok : PlaceOk (row key first t)) wher
 
   -- the row is refused a mark for what the set is
   verdict-law : (flag : Bool) (i : ℕ) → verdict (markRows flag bytes i) ≡ markVerdict flag i t
-  unfolding verdict markVerdict
+  unfolding judge markVerdict
   verdict-law flag i = by (inRow i) refl
     where
       by : (x : Bool) → inRow i ≡ x → verdict (markRows flag bytes i) ≡ markVerdict flag i t

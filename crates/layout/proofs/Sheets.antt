@@ -6,7 +6,7 @@ use mathlib.Core.List.{List, [], _∷_, _++_, append-assoc}
 use mathlib.Core.Path.{_≡_, refl, sym, ap, _∙_}
 use lib.Dec.{eqb}
 use lib.ListN.{length, replicate, replicate-append-replicate}
-use Rattle.refusals.specs.Judge.{verdict}
+use Rattle.refusals.specs.Judge.{judge}
 use Rattle.model.specs.Book.{free, closed, Book, fresh}
 use Rattle.model.specs.Step.{Call, Enrol, Find, Open, Mark, Save, Drop, step}
 use Rattle.model.specs.WellFormed.{WellFormed, InRange}
@@ -101,7 +101,7 @@ unfolding freshSheet layout countUsed
 fresh-layout = sym (two-zeros (headerBytes 0) (rowSize * rowCount) (deskSize * deskCount) fresh-places fresh-desks)
 
 pub fresh-law : (s : List ℕ) → freshCall s ≡ freshOn s
-unfolding freshCall freshOn judged verdict
+unfolding freshCall freshOn judged judge
 fresh-law s = by (eqb (length s) sheetSize) refl
   where
     by : (t : Bool) → eqb (length s) sheetSize ≡ t → freshCall s ≡ freshOn s

@@ -5,7 +5,7 @@ use mathlib.Core.List.{List, [], _∷_}
 use native.Mathlib.Omega.{arith}
 use mathlib.Core.Bool.{true, false, not}
 use mathlib.Core.Path.{_≡_, sym, ap, _∙_}
-use Rattle.refusals.specs.Judge.{Row}
+use Rattle.refusals.specs.Judge.{Rule}
 use Rattle.model.specs.Step.{Call, Enrol, Find, Open, Mark, Save, Drop}
 use Rattle.model.specs.Counts.{rowReport, firstGap}
 use Rattle.octets.proofs.Laws.{Bytes}
@@ -18,7 +18,7 @@ use Rattle.layout.proofs.Sheets.{call-law, report-law, gap-law}
 use Rattle.verdicts.proofs.Judged.{Law}
 use Rattle.verdicts.specs.Verdicts.{enrolRows, findRows, openRows, deskRows, reportRows}
 
-abbrev pub rowsOf : Call → List ℕ → List Row
+abbrev pub rowsOf : Call → List ℕ → List (Rule ℕ)
 rowsOf (Enrol key first) s = enrolRows key s
 rowsOf (Find key) s = findRows key s
 rowsOf (Open d r) s = openRows d r s

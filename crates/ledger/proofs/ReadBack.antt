@@ -6,7 +6,7 @@ use mathlib.Core.List.{List, [], _∷_}
 use mathlib.Core.Path.{_≡_, refl, sym, ap, _∙_}
 use lib.Dec.{eqb}
 use borrow.Author.Tests.{eqb-true}
-use Rattle.refusals.specs.Judge.{Row, verdict}
+use Rattle.refusals.specs.Judge.{Rule, verdict}
 use Rattle.model.specs.Step.{Enrol}
 use Rattle.octets.proofs.Laws.{Bytes}
 use Rattle.sheet.specs.Sheet.{keySize, firstSize, rowAt, used}
@@ -26,7 +26,7 @@ pub enrol-reads-back : (s t : List ℕ) (key first row : ℕ) → Bytes s → ke
 unfolding judged verdictWords
 enrol-reads-back s t key first row bytes k f e = by (eqb (verdict rows) 0) refl
   where
-    rows : List Row
+    rows : List (Rule ℕ)
     rows = enrolRows key s
 
     done : _≡_ {A = Outcome} (0 ∷ row ∷ [], t) (judged rows (0 ∷ used s ∷ [], enrolAt (used s) key first s) s)

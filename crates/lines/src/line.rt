@@ -1,10 +1,10 @@
 // The words of a line.
 use refusals::Refusal;
 
-// The most numbers of a list, and of words: the call that answers lists has four, behind three words.
+// The most numbers of a list, and of words: the call that answers lists has four, behind four words.
 pub const MOST_LIST: usize = 64;
 
-pub const MOST_WORDS: usize = 3 + 4 * MOST_LIST;
+pub const MOST_WORDS: usize = 4 + 4 * MOST_LIST;
 
 // The number of an accepted call.
 pub const ACCEPTED: u32 = 0;

@@ -10,6 +10,8 @@ use headers::RsrSource;
 use headers::RsrTime;
 use headers::TelemetryFields;
 use keys::KeyAnswer;
+use refusals::Refusal;
+use sfdu::Fault;
 use sfdu::Kind;
 use sfdu::Primary;
 use sfdu::Read;
@@ -18,9 +20,6 @@ use stream::Cursor;
 use stream::Step;
 use stream::Stop;
 use stream::Walked;
-
-// The refusal number of a field out of range, which has an offset behind it.
-const OUT_OF_RANGE: u8 = 12;
 
 // The most bytes that write one is lent, and what they hold before.
 const MOST_SLICE: usize = 70000;
@@ -37,8 +36,14 @@ pub fn read_one(s: &[u8]) -> Line {
             size,
             primary,
         } => record(kind, size, primary),
-        Read::Refused(why) => Line::refused(why),
+        Read::Refused(fault) => refused(fault),
     }
+}
+
+// The number that goes with a refusal stands behind it.
+fn refused(fault: Fault) -> Line {
+    let refusal = fault.refusal;
+    Line::refused(refusal).size(fault.at)
 }
 
 fn record(kind: Kind, size: usize, primary: Primary) -> Line {
@@ -72,8 +77,8 @@ pub fn read_headers(s: &[u8], wanted: u32) -> Line {
             time,
             key,
         } => rsr(size, primary, source, signal, time, key),
-        Headers::OutOfRange(offset) => Line::empty().number8(OUT_OF_RANGE).size(offset),
-        Headers::Refused(why) => Line::refused(why),
+        Headers::Refused(fault) => refused(fault),
+        Headers::WrongKind => Line::refused(Refusal::WrongKind),
     }
 }
 
@@ -188,12 +193,24 @@ pub fn stopped(walked: Walked) -> Line {
         .size(walked.count)
         .size(walked.place)
         .number32(stop_number(stop))
+        .size(beside(stop))
 }
 
 fn stop_number(stop: Stop) -> u32 {
     match stop {
         Stop::End => ACCEPTED,
-        Stop::Refused(why) => refusals::number(why),
+        Stop::Refused(fault) => {
+            let refusal = fault.refusal;
+            refusals::number(refusal)
+        }
+    }
+}
+
+// The number that goes with the stop number: none, 0, at the end.
+fn beside(stop: Stop) -> usize {
+    match stop {
+        Stop::End => 0,
+        Stop::Refused(fault) => fault.at,
     }
 }
 
@@ -208,6 +225,6 @@ pub fn step(s: &[u8], place: u64) -> Line {
             next,
         } => record(kind, size, primary).size(next.at),
         Step::Done(cursor) => Line::empty().done().size(cursor.at),
-        Step::Refused(why, cursor) => Line::refused(why).size(cursor.at),
+        Step::Refused(fault, cursor) => refused(fault).size(cursor.at),
     }
 }

@@ -8,10 +8,10 @@ use lib.ListN.{length, take, drop, length-drop}
 use lib.Seq.{take-length}
 use Rattle.sfdu.specs.declared.Kind.{Kind}
 use Rattle.sfdu.specs.Nesting.{kindNumber}
-use Rattle.listing.specs.Text.{line, lastLine}
+use Rattle.listing.specs.Text.{line, lastLine, mostLast}
 use Rattle.listing.specs.Listing.{bufferSize}
 use Rattle.listing.specs.Window.{Puts, Drains, foundIn, cutShort, mostText}
-use Rattle.listing.proofs.Judging.{whole-record, FoundRecord, FoundStop, found-record, found-stop, found-more, stop-below}
+use Rattle.listing.proofs.Judging.{whole-record, FoundRecord, FoundStop, found-record, found-stop, found-more}
 use Rattle.listing.proofs.Laid.{nothing, then}
 use Rattle.listing.proofs.Streams.{Underway, begins, goes, stops}
 
@@ -20,28 +20,26 @@ use Rattle.listing.proofs.Streams.{Underway, begins, goes, stops}
 there : (w : List ℕ) (at : ℕ) → take (length w - at) (drop at w) ≡ drop at w
 there w at = rw (← length-drop at w, take-length)
 
-pub part-fits : (w : List ℕ) (at : ℕ) → length w ≤ bufferSize → length (take (length w - at) (drop at w)) ≤ bufferSize
-part-fits w at h = rw (there w at, length-drop at w) (omega arith)
+pub part-length : (w : List ℕ) (at : ℕ) → length (take (length w - at) (drop at w)) ≡ length w - at
+part-length w at = rw (there w at) (length-drop at w)
 
-module _ (w : List ℕ) (at : ℕ) (last : Bool) where
-  pub record-there : (k : Kind) (n m : ℕ) → 0 ∷ kindNumber k ∷ n ∷ m ∷ [] ≡ foundIn (take (length w - at) (drop at w)) last
+module _ (place : ℕ) (w : List ℕ) (at : ℕ) (last : Bool) where
+  pub record-there : (k : Kind) (n m : ℕ) → 0 ∷ kindNumber k ∷ n ∷ m ∷ [] ≡ foundIn place (take (length w - at) (drop at w)) last
       → FoundRecord (drop at w) k n m
-  record-there k n m e = found-record (drop at w) last k n m (e ∙ ap (λ (x : List ℕ). foundIn x last) (there w at))
+  record-there k n m e = found-record place (drop at w) last k n m (e ∙ ap (λ (x : List ℕ). foundIn place x last) (there w at))
 
-  pub stop-there : (n : ℕ) → n ∷ [] ≡ foundIn (take (length w - at) (drop at w)) last → FoundStop (drop at w) last n
-  stop-there n e = found-stop (drop at w) last n (e ∙ ap (λ (x : List ℕ). foundIn x last) (there w at))
+  pub stop-there : (n m : ℕ) → n ∷ m ∷ [] ≡ foundIn place (take (length w - at) (drop at w)) last → FoundStop place (drop at w) last n m
+  stop-there n m e = found-stop place (drop at w) last n m (e ∙ ap (λ (x : List ℕ). foundIn place x last) (there w at))
 
-  pub more-there : [] ≡ foundIn (take (length w - at) (drop at w)) last → (last ≡ false) × (cutShort (drop at w) ≡ true)
-  more-there e = found-more (drop at w) last (e ∙ ap (λ (x : List ℕ). foundIn x last) (there w at))
+  pub more-there : [] ≡ foundIn place (take (length w - at) (drop at w)) last → (last ≡ false) × (cutShort (drop at w) ≡ true)
+  more-there e = found-more place (drop at w) last (e ∙ ap (λ (x : List ℕ). foundIn place x last) (there w at))
 
+module _ (w : List ℕ) (at : ℕ) where
   pub record-bounds : (k : Kind) (n m : ℕ) → FoundRecord (drop at w) k n m → (120 ≤ n) × (n ≤ bufferSize) × (at + n ≤ length w)
   record-bounds k n m f =
       let r = whole-record (drop at w) (f .is-whole) in
       let l = length-drop at w in
       (omega (arith, f .size), omega (arith, f .size), omega (arith, f .size))
-
-  pub stop-small : (n : ℕ) → FoundStop (drop at w) last n → n < 100
-  stop-small n f = omega (arith, f .number, stop-below (drop at w))
 
 -- ---- the loop
 
@@ -72,16 +70,16 @@ module _ (w : List ℕ) (place : ℕ) (last : Bool) (out₀ : List ℕ) (start :
   module _ (out : List ℕ) (at end : ℕ) (r : Round w place last out₀ start out at end) where
     -- room for a line, and for the last one
     pub line-room : (k : Kind) (n m : ℕ) → FoundRecord (drop at w) k n m → end + 40 ≤ length out
-    line-room k n m f = let b = record-bounds w at last k n m f in omega (arith, r .few, r .fits, r .room, r .same)
+    line-room k n m f = let b = record-bounds w at k n m f in omega (arith, r .few, r .fits, r .room, r .same)
 
-    pub last-room : end + 24 ≤ length out
+    pub last-room : end + mostLast ≤ length out
     last-room = omega (arith, r .few, r .fits, r .room, r .same, r .under .within)
 
     pub round-goes : (k : Kind) (n m : ℕ) (new : List ℕ) (q : ℕ) → FoundRecord (drop at w) k n m
         → Puts out new end q (line (place + at) n k m) → q ≤ end + 40 → length new ≡ length out
         → Round w place last out₀ start new (at + n) q
     round-goes k n m new q f p short same =
-        let b = record-bounds w at last k n m f in
+        let b = record-bounds w at k n m f in
         let l = line-room k n m f in
         record {
           t = r .t ++ line (place + at) n k m;
@@ -94,21 +92,22 @@ module _ (w : List ℕ) (place : ℕ) (last : Bool) (out₀ : List ℕ) (start :
           room = r .room;
         }
 
-    pub round-waits : [] ≡ foundIn (take (length w - at) (drop at w)) last → Drains w place last out₀ out start (record { used = at; end = end; done = false })
+    pub round-waits : [] ≡ foundIn (place + at) (take (length w - at) (drop at w)) last → Drains w place last out₀ out start (record { used = at; end = end; done = false })
     round-waits e = record {
       t = r .t;
-      lines = record { within = r .under .within; says = r .under .says; wants = λ _. more-there w at last e };
+      lines = record { within = r .under .within; says = r .under .says; wants = λ _. more-there (place + at) w at last e };
       puts = r .puts;
       within = omega (arith, last-room);
     }
 
-    pub round-stops : (n : ℕ) (new : List ℕ) (q : ℕ) → FoundStop (drop at w) last n → Puts out new end q (lastLine (place + at) n) → q ≤ end + 24
-        → length new ≡ length out → Drains w place last out₀ new start (record { used = at; end = q; done = true })
-    round-stops n new q f p short same = record {
-      t = r .t ++ lastLine (place + at) n;
+    pub round-stops : (n m : ℕ) (new : List ℕ) (q : ℕ) → FoundStop (place + at) (drop at w) last n m
+        → Puts out new end q (lastLine (place + at) (n ∷ m ∷ [])) → q ≤ end + mostLast → length new ≡ length out
+        → Drains w place last out₀ new start (record { used = at; end = q; done = true })
+    round-stops n m new q f p short same = record {
+      t = r .t ++ lastLine (place + at) (n ∷ m ∷ []);
       lines = record {
         within = r .under .within;
-        says = stops w place last at (r .t) (r .under) n f;
+        says = stops w place last at (r .t) (r .under) n m f;
         wants = λ (z : _≡_ {A = Bool} true false). let y : _≡_ {A = ℕ} 0 1 = cc in absurd (omega arith);
       };
       puts = then (r .puts) p (omega (arith, r .same, last-room));

@@ -3,27 +3,26 @@
 use Prim.Native.Nat.{ℕ, zero, suc, _+_, _-_, _≤_, _<_}
 use native.Mathlib.Nat.{le-refl}
 use native.Mathlib.Omega.{arith}
-use mathlib.Core.Bool.{Bool, true, false, _||_, false≢true}
-use mathlib.Core.List.{List, _++_}
-use mathlib.Core.Logic.{_≢_}
+use mathlib.Core.Bool.{Bool, true, false, false≢true}
+use mathlib.Core.List.{List, [], _∷_, _++_}
 use mathlib.Core.Path.{_≡_, refl, sym, ap, _∙_}
-use borrow.Author.Tests.{le-ltb, ltb-false, eqb-false, eqb-true, ne-eqb, not-false}
-use lib.Dec.{eqb, ltb}
+use borrow.Author.Tests.{le-ltb, ltb-false, ne-eqb, not-false}
+use lib.Dec.{ltb}
 use lib.ListN.{length, length-append, List·getD-append}
-use Rattle.refusals.specs.Judge.{Row, verdict}
+use Rattle.refusals.specs.Judge.{Rule, judge, answered}
 use Rattle.octets.specs.Octets.{all, sameAt}
 use Rattle.octets.proofs.Parts.{number-first}
 use Rattle.sfdu.specs.declared.Kind.{Kind}
 use Rattle.sfdu.specs.declared.Kind.the-variants.{Telemetry, Rsr}
-use Rattle.refusals.proofs.Judged.{NoneHolds}
+use Rattle.refusals.proofs.Judged.{NoneHolds, First, here}
 use Rattle.sfdu.specs.Nesting.{authority, control, authorityAt, controlAt, kindBytes, kindAt, tagSize, labelSize, blockLabelSize, dataAt, dataValueAt, aggregationAt, primaryAt, secondaryAt}
-use Rattle.sfdu.specs.Read.{hasKind, kindOf, labelLength, recordLength, lengthInRange, blockType, blockLength, isBlock, headerRows, dataRows}
+use Rattle.sfdu.specs.Read.{hasKind, kindOf, labelLength, recordLength, lengthInRange, blockType, blockLength, cutRule, isCount}
 use Rattle.sfdu.proofs.Placed.{placed}
 use Rattle.headers.specs.Fields.{recordNumber}
-use Rattle.listing.specs.Listing.{refusal, whole, stopNumber, recordLine}
-use Rattle.listing.specs.Window.{cutShort}
-use Rattle.listing.proofs.Rows.{behind, agree}
-use Rattle.listing.proofs.Judging.{labelled, headers-within, front, back, refusal-rows, whole-record}
+use Rattle.listing.specs.Listing.{overRule, refusal, whole, stopWords, recordLine}
+use Rattle.listing.specs.Window.{givesCount, cutShort}
+use Rattle.listing.proofs.Rows.{pass, first-behind, agree}
+use Rattle.listing.proofs.Judging.{front, back, refusal-is, labelled, headers-within, whole-record, whole-refusal, nothing-whole, something-refused, refused-something}
 
 -- ---- bytes of the first of two lists
 
@@ -31,10 +30,6 @@ all-same : (n : ℕ) (p q : ℕ → Bool) → ((i : ℕ) → i < n → p i ≡ q
 unfolding all
 all-same zero p q h = refl
 all-same (suc n) p q h = rw (all-same n p q (λ i l. h i (omega arith)), h n (le-refl _))
-
-or-false : (a b : Bool) → (a || b) ≡ false → (a ≡ false) × (b ≡ false)
-or-false true b e = absurd (false≢true (sym e))
-or-false false b e = (refl, e)
 
 module _ (s m : List ℕ) where
   same-first : (a : ℕ) (t : List ℕ) (n : ℕ) → a + n ≤ length s → sameAt (s ++ m) a t 0 n ≡ sameAt s a t 0 n
@@ -77,10 +72,6 @@ module _ (s m : List ℕ) where
   unfolding blockLength
   size-same at h = number-first s m _ _ (omega arith)
 
-  block-same : (at type size : ℕ) → at + blockLabelSize ≤ length s → isBlock (s ++ m) at type size ≡ isBlock s at type size
-  unfolding isBlock
-  block-same at type size h = rw (type-same at h, size-same at h)
-
   module _ (k : Kind) (h : dataValueAt k ≤ length s) where
     number-same : recordNumber k (s ++ m) ≡ recordNumber k s
     unfolding recordNumber
@@ -99,13 +90,15 @@ module _ (s m : List ℕ) where
     data-within : dataAt k + blockLabelSize ≤ length s
     data-within = let p = placed k in omega arith
 
-    blocks-same : verdict (headerRows k (s ++ m) ++ dataRows k (s ++ m)) ≡ verdict (headerRows k s ++ dataRows k s)
-    unfolding verdict
+    blocks-same : back k (s ++ m) ≡ back k s
     blocks-same =
         rw (
-          block-same aggregationAt _ _ (first aggregationAt (omega arith)),
-          block-same primaryAt _ _ (first primaryAt (omega arith)),
-          block-same secondaryAt _ _ (first secondaryAt (omega arith)),
+          type-same aggregationAt (first aggregationAt (omega arith)),
+          size-same aggregationAt (first aggregationAt (omega arith)),
+          type-same primaryAt (first primaryAt (omega arith)),
+          size-same primaryAt (first primaryAt (omega arith)),
+          type-same secondaryAt (first secondaryAt (omega arith)),
+          size-same secondaryAt (first secondaryAt (omega arith)),
           type-same (dataAt k) data-within,
           size-same (dataAt k) data-within,
           length-same long,
@@ -113,13 +106,13 @@ module _ (s m : List ℕ) where
 
   -- ---- the refusal
 
-  pub front-same : labelSize ≤ length s → front (s ++ m) ≡ front s
-  front-same h =
-      let shorter : ltb (length s) labelSize ≡ false = le-ltb (length s) labelSize h in
-      let longer : ltb (length (s ++ m)) labelSize ≡ false = le-ltb (length (s ++ m)) labelSize (omega (arith, longer)) in
+  -- the rules from 2 to 17
+  abbrev first-rules : List ℕ → List (Rule (List ℕ))
+  first-rules x = front x ++ overRule x ∷ []
+
+  first-same : labelSize ≤ length s → first-rules (s ++ m) ≡ first-rules s
+  first-same h =
       rw (
-        shorter,
-        longer,
         same-first authorityAt authority tagSize (omega arith),
         same-first controlAt control tagSize (omega arith),
         kind-first h Telemetry,
@@ -129,38 +122,46 @@ module _ (s m : List ℕ) where
         length-same h,
       )
 
-  -- where no row before 6 applies, and 6 does not either, nothing changes behind
-  back-same : labelSize ≤ length s → refusal s ≢ 6 → NoneHolds (front s) → verdict (back (kindOf s) (s ++ m)) ≡ verdict (back (kindOf s) s)
-  unfolding verdict
-  back-same h ne n = by (ltb (length s) (recordLength s)) refl
+  -- where none of them applies, and 6 does not either, nothing changes behind
+  back-same : (h : labelSize ≤ length s) → cutShort s ≡ false → NoneHolds (first-rules s)
+      → answered (cutRule (s ++ m) ∷ back (kindOf s) (s ++ m)) [] ≡ answered (cutRule s ∷ back (kindOf s) s) []
+  unfolding judge cutShort isCount
+  back-same h uncut n = by (ltb (length s) (recordLength s)) refl
     where
-      by : (b : Bool) → ltb (length s) (recordLength s) ≡ b → verdict (back (kindOf s) (s ++ m)) ≡ verdict (back (kindOf s) s)
-      by true e = absurd (ne (refusal-rows s ∙ behind (front s) (back (kindOf s) s) n ∙ rw e))
+      six : ltb (length s) (recordLength s) ≡ true → refusal s ≡ 6 ∷ length s ∷ []
+      six e = refusal-is s (pass (le-ltb _ _ h) (first-behind (first-rules s) n (rw e here)))
+
+      by : (b : Bool) → ltb (length s) (recordLength s) ≡ b
+          → answered (cutRule (s ++ m) ∷ back (kindOf s) (s ++ m)) [] ≡ answered (cutRule s ∷ back (kindOf s) s) []
+      by true e = absurd (false≢true (sym uncut ∙ ap givesCount (six e)))
       by false e =
-          let d = headers-within s (not-false _ (n .1 .1 .1 .1 .0)) in
+          let d = headers-within s (not-false _ (n .1 .1 .1 .0)) in
           let l : recordLength s ≤ length s = ltb-false _ _ e in
           let still : ltb (length (s ++ m)) (recordLength (s ++ m)) ≡ false = le-ltb (length (s ++ m)) (recordLength (s ++ m)) (omega (arith, longer, length-same h)) in
-          rw (still, e) (blocks-same (kindOf s) (omega arith))
+          rw (still, e) (ap (λ (r : List (Rule (List ℕ))). answered r []) (blocks-same (kindOf s) (omega arith)))
+
+  -- behind a label, 1 does not apply
+  behind-1 : (x : List ℕ) → labelSize ≤ length x → refusal x ≡ answered (first-rules x ++ cutRule x ∷ back (kindOf x) x) []
+  unfolding refusal judge
+  behind-1 x h = rw (le-ltb (length x) labelSize h)
 
   pub refusal-stays : cutShort s ≡ false → refusal (s ++ m) ≡ refusal s
-  unfolding cutShort
-  refusal-stays e =
-      let o = or-false (eqb (refusal s) 1) (eqb (refusal s) 6) e in
-      let h = labelled s (eqb-false _ _ (o .0)) in
-      refusal-rows (s ++ m)
-      ∙ ap (λ (r : List Row). verdict (r ++ back (kindOf (s ++ m)) (s ++ m))) (front-same h)
-      ∙ ap (λ (k : Kind). verdict (front s ++ back k (s ++ m))) (kind-same h)
-      ∙ agree (front s) (back (kindOf s) s) (back (kindOf s) (s ++ m)) (back-same h (eqb-false _ _ (o .1)))
-      ∙ sym (refusal-rows s)
+  refusal-stays uncut =
+      let h = labelled s uncut in
+      behind-1 (s ++ m) (omega (arith, longer))
+      ∙ ap (λ (r : List (Rule (List ℕ))). answered (r ++ cutRule (s ++ m) ∷ back (kindOf (s ++ m)) (s ++ m)) []) (first-same h)
+      ∙ ap (λ (k : Kind). answered (first-rules s ++ cutRule (s ++ m) ∷ back k (s ++ m)) []) (kind-same h)
+      ∙ agree (λ given. given) (first-rules s) [] (cutRule (s ++ m) ∷ back (kindOf s) (s ++ m)) (cutRule s ∷ back (kindOf s) s) (back-same h uncut)
+      ∙ sym (behind-1 s h)
 
   -- ---- a whole record, and a stop
 
   pub whole-stays : whole s ≡ true → whole (s ++ m) ≡ true
-  unfolding whole cutShort
+  unfolding cutShort
   whole-stays e =
-      let z : refusal s ≡ 0 = eqb-true _ _ e in
-      let c : cutShort s ≡ false = rw z in
-      rw (refusal-stays c) e
+      let r = whole-refusal s e in
+      let c : cutShort s ≡ false = rw r in
+      nothing-whole (s ++ m) (refusal-stays c ∙ r)
 
   pub record-same : whole s ≡ true → (recordLength (s ++ m) ≡ recordLength s) × ((place : ℕ) → recordLine place (s ++ m) ≡ recordLine place s)
   unfolding recordLine
@@ -169,8 +170,12 @@ module _ (s m : List ℕ) where
       let h : labelSize ≤ length s = omega arith in
       (length-same h, λ place. rw (kind-same h, length-same h, number-same (kindOf s) (omega arith)))
 
-  pub stop-stays : whole s ≡ false → cutShort s ≡ false → (whole (s ++ m) ≡ false) × (stopNumber (s ++ m) ≡ stopNumber s)
-  unfolding whole stopNumber cutShort
+  pub stop-stays : whole s ≡ false → cutShort s ≡ false
+      → (whole (s ++ m) ≡ false) × ((place : ℕ) → stopWords place (s ++ m) ≡ stopWords place s)
+  unfolding stopWords
   stop-stays e c =
-      let h = labelled s (eqb-false _ _ (or-false _ _ c .0)) in
-      (rw (refusal-stays c) e, rw (refusal-stays c, ne-eqb (length s) 0 (λ q. omega arith), ne-eqb (length (s ++ m)) 0 (λ q. omega (arith, longer))))
+      let h = labelled s c in
+      let r = refusal-stays c in (
+        something-refused (s ++ m) (λ q. refused-something s e (sym r ∙ q)),
+        λ place. rw (r, ne-eqb (length s) 0 (λ q. omega arith), ne-eqb (length (s ++ m)) 0 (λ q. omega (arith, longer))),
+      )

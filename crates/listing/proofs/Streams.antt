@@ -3,14 +3,14 @@ use Prim.Native.Nat.{ℕ, zero, suc, _+_, _≤_, _<_}
 use native.Mathlib.Nat.{add-zero, add-assoc}
 use native.Mathlib.Omega.{arith}
 use mathlib.Core.Bool.{Bool, true, false, not, cond, _&&_}
-use mathlib.Core.List.{List, [], _++_, append-assoc, append-nil}
+use mathlib.Core.List.{List, [], _∷_, _++_, append-assoc, append-nil}
 use mathlib.Core.Path.{_≡_, refl, sym, ap, _∙_}
 use lib.ListN.{length, drop, length-drop}
 use lib.Seq.{drop-drop, drop-append-le}
 use Rattle.sfdu.specs.declared.Kind.{Kind}
 use Rattle.sfdu.specs.Read.{recordLength}
 use Rattle.listing.specs.Text.{line, lastLine}
-use Rattle.listing.specs.Listing.{whole, stopNumber, recordLine, linesIn, linesFrom}
+use Rattle.listing.specs.Listing.{whole, stopWords, recordLine, linesIn, linesFrom}
 use Rattle.listing.specs.Window.{cutShort, GoesOn}
 use Rattle.listing.proofs.Judging.{Whole, whole-record, FoundRecord, FoundStop}
 use Rattle.listing.proofs.Stable.{whole-stays, record-same, stop-stays}
@@ -27,8 +27,8 @@ enough (suc f) (suc g) place s hf hg =
   where
     by : (b : Bool) → whole s ≡ b
         → (Whole s → linesIn f (place + recordLength s) (drop (recordLength s) s) ≡ linesIn g (place + recordLength s) (drop (recordLength s) s))
-        → cond b (recordLine place s ++ linesIn f (place + recordLength s) (drop (recordLength s) s)) (lastLine place (stopNumber s))
-        ≡ cond b (recordLine place s ++ linesIn g (place + recordLength s) (drop (recordLength s) s)) (lastLine place (stopNumber s))
+        → cond b (recordLine place s ++ linesIn f (place + recordLength s) (drop (recordLength s) s)) (lastLine place (stopWords place s))
+        ≡ cond b (recordLine place s ++ linesIn g (place + recordLength s) (drop (recordLength s) s)) (lastLine place (stopWords place s))
     by true e less = ap (λ (t : List ℕ). recordLine place s ++ t) (less (whole-record s e))
     by false e less = refl
 
@@ -39,7 +39,7 @@ lines-whole place s e =
     let r = whole-record s e in
     rw e (ap (λ (t : List ℕ). recordLine place s ++ t) (enough (length s) (suc (length (drop (recordLength s) s))) (place + recordLength s) (drop (recordLength s) s) (simp length-drop (omega arith)) (omega arith)))
 
-pub lines-stop : (place : ℕ) (s : List ℕ) → whole s ≡ false → linesFrom place s ≡ lastLine place (stopNumber s)
+pub lines-stop : (place : ℕ) (s : List ℕ) → whole s ≡ false → linesFrom place s ≡ lastLine place (stopWords place s)
 unfolding linesFrom linesIn
 lines-stop place s e = rw e
 
@@ -54,12 +54,12 @@ window-whole place s more e =
     ∙ rw (same .1 place, same .0, drop-append-le (recordLength s) s more (r .within))
 
 window-stop : (place : ℕ) (s more : List ℕ) (last : Bool) → GoesOn last more → whole s ≡ false → (cutShort s && not last) ≡ false
-    → linesFrom place (s ++ more) ≡ lastLine place (stopNumber s)
+    → linesFrom place (s ++ more) ≡ lastLine place (stopWords place s)
 window-stop place s more last on e c = by (cutShort s) last refl refl
   where
-    by : (b l : Bool) → cutShort s ≡ b → last ≡ l → linesFrom place (s ++ more) ≡ lastLine place (stopNumber s)
+    by : (b l : Bool) → cutShort s ≡ b → last ≡ l → linesFrom place (s ++ more) ≡ lastLine place (stopWords place s)
     by b true q t = rw (on t, append-nil) (lines-stop place s e)
-    by false false q t = let k = stop-stays s more e q in lines-stop place (s ++ more) (k .0) ∙ ap (lastLine place) (k .1)
+    by false false q t = let k = stop-stays s more e q in lines-stop place (s ++ more) (k .0) ∙ ap (lastLine place) (k .1 place)
     by true false q t = let z : _≡_ {A = Bool} true false = sym (rw (q, t)) ∙ c in let y : _≡_ {A = ℕ} 0 1 = cc in absurd (omega arith)
 
 -- ---- a window under way: t is the text for its first `at` bytes
@@ -86,6 +86,7 @@ module _ (w : List ℕ) (place : ℕ) (last : Bool) where
               ∙ rw (← f .size, ← f .number, ← f .kind, drop-drop, ← append-assoc t, add-assoc place at n);
         }
 
-    pub stops : (n : ℕ) → FoundStop (drop at w) last n → (more : List ℕ) → GoesOn last more → linesFrom place (w ++ more) ≡ (t ++ lastLine (place + at) n) ++ []
-    stops n f more on =
-        u .says more on ∙ rw (window-stop (place + at) (drop at w) more last on (f .none) (f .known), f .number, append-nil)
+    pub stops : (n m : ℕ) → FoundStop (place + at) (drop at w) last n m → (more : List ℕ) → GoesOn last more
+        → linesFrom place (w ++ more) ≡ (t ++ lastLine (place + at) (n ∷ m ∷ [])) ++ []
+    stops n m f more on =
+        u .says more on ∙ rw (window-stop (place + at) (drop at w) more last on (f .none) (f .known), f .words, append-nil)

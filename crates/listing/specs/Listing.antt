@@ -1,12 +1,11 @@
--- The listing of a whole stream. Document 01, "The program", "Walk" and refusal 17. Assumes nothing.
+-- The listing of a whole stream. Document 01, "The program", "Walk" and refusal 17; document 02, Req 05. Assumes nothing.
 use Prim.Native.Nat.{ℕ, zero, suc, _+_}
-use mathlib.Core.Bool.{Bool, not, cond}
+use mathlib.Core.Bool.{Bool, cond}
 use mathlib.Core.List.{List, [], _∷_, _++_}
 use lib.ListN.{length, drop}
 use lib.Dec.{eqb, ltb}
-use Rattle.refusals.specs.Judge.{Row, _when_, verdict}
-use Rattle.sfdu.specs.declared.Kind.{Kind}
-use Rattle.sfdu.specs.Read.{kindOf, recordLength, lengthInRange, labelRows, headerRows, dataRows}
+use Rattle.refusals.specs.Judge.{Rule, _when_, answered, noneApplies}
+use Rattle.sfdu.specs.Read.{kindOf, recordLength, labelRules, rangeRule, cutRule, headerRules, dataRules, inStream}
 use Rattle.headers.specs.Fields.{recordNumber}
 use Rattle.listing.specs.Text.{heading, line, lastLine}
 
@@ -16,39 +15,44 @@ bufferSize = 65536
 
 -- ---- the record at the start of s, the rest of a stream
 
--- Read one's refusals from 5 to 6, with 17 between them: "judged straight after 5: N over 65,536, its buffer".
-abbrev pub sizeRows : Kind → List ℕ → List Row
-sizeRows k s =
-    (5 when not (lengthInRange k s))
-    ∷ (17 when ltb bufferSize (recordLength s))
-    ∷ (6 when ltb (length s) (recordLength s))
-    ∷ []
+-- 17, which no number goes with: "N over 65,536, its buffer".
+abbrev pub overRule : List ℕ → Rule (List ℕ)
+overRule s = (17 ∷ []) when ltb bufferSize (recordLength s)
 
-abbrev pub listRows : List ℕ → List Row
-listRows s = labelRows s ++ sizeRows (kindOf s) s ++ headerRows (kindOf s) s ++ dataRows (kindOf s) s
+-- Read one's rules with 17 "judged straight after 5".
+abbrev pub listRules : List ℕ → List (Rule (List ℕ))
+listRules s =
+    labelRules s ++ (rangeRule (kindOf s) s ∷ overRule s ∷ cutRule s ∷ []) ++ headerRules (kindOf s) s ++ dataRules (kindOf s) s
 
-unfoldable pub refusal : List ℕ → ℕ
-refusal s = verdict (listRows s)
+-- What the first that applies gives, and nothing where none does.
+unfoldable pub refusal : List ℕ → List ℕ
+refusal s = answered (listRules s) []
 
 -- A whole record stands there: none of them applies.
 unfoldable pub whole : List ℕ → Bool
-whole s = eqb (refusal s) 0
+whole s = noneApplies (listRules s)
 
--- "0 when the stop place is the end, else the refusal of the record there".
-unfoldable pub stopNumber : List ℕ → ℕ
-stopNumber s = cond (eqb (length s) 0) 0 (refusal s)
+-- Why the listing stops there: the stop number, "0 when the stop place is the end, else the refusal of the record there", and the
+-- "third number, 0 when there is none".
+abbrev pub orZero : List ℕ → List ℕ
+orZero [] = []
+orZero (n ∷ []) = n ∷ 0 ∷ []
+orZero (n ∷ m ∷ rest) = n ∷ m ∷ rest
+
+unfoldable pub stopWords : (place : ℕ) → List ℕ → List ℕ
+stopWords place s = cond (eqb (length s) 0) (0 ∷ 0 ∷ []) (orZero (inStream place (refusal s)))
 
 -- ---- the text
 
 unfoldable pub recordLine : (place : ℕ) → List ℕ → List ℕ
 recordLine place s = line place (recordLength s) (kindOf s) (recordNumber (kindOf s) s)
 
--- A line for each whole record from a place on, and the last line: "stop place and stop number". s is what stands there. `most`
+-- A line for each whole record from a place on, and the last line: the stop place and why there. s is what stands there. `most`
 -- bounds the records.
 unfoldable pub linesIn : (most : ℕ) → (place : ℕ) → List ℕ → List ℕ
 linesIn zero place s = []
 linesIn (suc most) place s =
-    cond (whole s) (recordLine place s ++ linesIn most (place + recordLength s) (drop (recordLength s) s)) (lastLine place (stopNumber s))
+    cond (whole s) (recordLine place s ++ linesIn most (place + recordLength s) (drop (recordLength s) s)) (lastLine place (stopWords place s))
 
 -- There are fewer records than bytes, and a last line.
 unfoldable pub linesFrom : (place : ℕ) → List ℕ → List ℕ

@@ -1,5 +1,5 @@
--- The lines of a listing. Document 01, "The program, given one telemetry record .., writes exactly". Bytes are ASCII. Assumes
--- nothing.
+-- The lines of a listing. Document 01, "The program, given one telemetry record .., writes exactly"; document 02, Req 05. Bytes are
+-- ASCII. Assumes nothing.
 use Prim.Native.Nat.{ℕ, zero, suc, _/_}
 use mathlib.Core.Bool.{cond}
 use mathlib.Core.List.{List, [], _∷_, _++_}
@@ -44,10 +44,16 @@ line place size kind number = word place space ++ word size space ++ (letter kin
 abbrev pub mostLine : ℕ
 mostLine = 40
 
--- 120 0
-unfoldable pub lastLine : (place number : ℕ) → List ℕ
-lastLine place number = word place space ++ word number lineEnd
+-- Numbers, a space between them.
+unfoldable pub numbersLine : List ℕ → List ℕ
+numbersLine [] = []
+numbersLine (n ∷ []) = word n lineEnd
+numbersLine (n ∷ m ∷ rest) = word n space ++ numbersLine (m ∷ rest)
 
--- Its most bytes: the stop place has 20 digits at most, and the stop number 2.
+-- 120 0 0
+unfoldable pub lastLine : (place : ℕ) (why : List ℕ) → List ℕ
+lastLine place why = numbersLine (place ∷ why)
+
+-- Its most bytes: the stop place and the third number have 20 digits at most, and the stop number, a `u32`, 10.
 abbrev pub mostLast : ℕ
-mostLast = 24
+mostLast = 53

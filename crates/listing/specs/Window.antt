@@ -1,40 +1,46 @@
 -- What the program's buffer, a window onto the stream, gives: what the whole stream would give, however it goes on. Assumes
 -- nothing.
 use Prim.Native.Nat.{ℕ, _+_, _-_, _/_, _≤_, _<_, _^_}
-use mathlib.Core.Bool.{Bool, true, false, not, cond, _&&_, _||_}
+use mathlib.Core.Bool.{Bool, true, false, not, cond, _&&_}
 use mathlib.Core.List.{List, [], _∷_, _++_}
 use mathlib.Core.Path.{_≡_}
 use lib.ListN.{length, take, drop}
 use lib.Dec.{eqb}
 use Rattle.octets.specs.Octets.{part, put}
 use Rattle.sfdu.specs.Nesting.{kindNumber}
-use Rattle.sfdu.specs.Read.{kindOf, recordLength}
+use Rattle.sfdu.specs.Read.{kindOf, recordLength, isCount}
 use Rattle.headers.specs.Fields.{recordNumber}
 use Rattle.listing.specs.declared.Found.{Found}
 use Rattle.listing.specs.declared.Found.the-variants.{Record, More, Stop}
 use Rattle.listing.specs.declared.Drained.{Drained}
 use Rattle.listing.specs.declared.State.{State}
 use Rattle.listing.specs.Text.{mostLast}
-use Rattle.listing.specs.Listing.{bufferSize, refusal, whole, stopNumber, linesFrom}
+use Rattle.listing.specs.Listing.{bufferSize, refusal, whole, stopWords, linesFrom}
 
 -- ---- the record at the start of s, what the window holds from a place on
 
--- 0, the kind, N and the record number; the stop number; or nothing, where more of the stream is wanted.
+-- 0, the kind, N and the record number; the stop number and the number that goes with it; or nothing, where more of the stream is
+-- wanted.
 abbrev pub wordsOf : Found → List ℕ
 wordsOf (Record kind n number) = 0 ∷ kindNumber kind ∷ n ∷ number ∷ []
-wordsOf (Stop number) = number ∷ []
+wordsOf (Stop number beside) = number ∷ beside ∷ []
 wordsOf More = []
 
--- What the whole stream says of it.
-unfoldable pub foundAt : List ℕ → List ℕ
-foundAt s = cond (whole s) (0 ∷ kindNumber (kindOf s) ∷ recordLength s ∷ recordNumber (kindOf s) s ∷ []) (stopNumber s ∷ [])
+-- What the whole stream says of it, where that place is `place`.
+unfoldable pub foundAt : (place : ℕ) → List ℕ → List ℕ
+foundAt place s = cond (whole s) (0 ∷ kindNumber (kindOf s) ∷ recordLength s ∷ recordNumber (kindOf s) s ∷ []) (stopWords place s)
 
--- Refusals 1 and 6 are judged only where the stream ends with the window ("a record cut off by the end").
+-- Refusals 1 and 6, which count the bytes that were there, are judged only where the stream ends with the window ("a record cut off
+-- by the end").
+abbrev pub givesCount : List ℕ → Bool
+givesCount [] = false
+givesCount (n ∷ rest) = isCount n
+
 unfoldable pub cutShort : List ℕ → Bool
-cutShort s = eqb (refusal s) 1 || eqb (refusal s) 6
+cutShort s = givesCount (refusal s)
 
-unfoldable pub foundIn : List ℕ → (last : Bool) → List ℕ
-foundIn s last = cond (cutShort s && not last) [] (foundAt s)
+unfoldable pub foundIn : (place : ℕ) → List ℕ → (last : Bool) → List ℕ
+foundIn place s last = cond (cutShort s && not last) [] (foundAt place s)
 
 -- ---- text laid out
 

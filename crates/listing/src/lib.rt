@@ -15,8 +15,8 @@ pub enum Found {
     },
     // The window ends too early to say, and more of the stream may come.
     More,
-    // The end of the stream (0), or the refusal of the record there.
-    Stop(u32),
+    // The end of the stream (0), or the refusal of the record there; and the number that goes with it, 0 where none does.
+    Stop(u32, u64),
 }
 
 // How far a window was gone over: bytes of it used, where the text ends, and whether the last line is there.

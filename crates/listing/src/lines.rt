@@ -85,12 +85,13 @@ pub fn put_line(
     put_word(out, c, number as u64, LINE_END)
 }
 
-// The last line: the stop place and the stop number.
-pub fn put_last(out: &mut [u8], at: usize, place: u64, number: u32) -> usize
-    requires { ⌜ (at + mostLast ≤ length (now out)) × (number < 100) ⌝ }
-    ensures { λ r. ⌜ Puts (now (out .entry)) (now (out .exit)) at r (lastLine place number) ⌝ }
+// The last line: the stop place, the stop number, and the number that goes with it.
+pub fn put_last(out: &mut [u8], at: usize, place: u64, number: u32, beside: u64) -> usize
+    requires { ⌜ at + mostLast ≤ length (now out) ⌝ }
+    ensures { λ r. ⌜ Puts (now (out .entry)) (now (out .exit)) at r (lastLine place (number ∷ beside ∷ [])) ⌝ }
     ensures { λ r. ⌜ r ≤ at + mostLast ⌝ }
 {
     let a = put_word(out, at, place, SPACE);
-    put_word(out, a, number as u64, LINE_END)
+    let b = put_word(out, a, number as u64, SPACE);
+    put_word(out, b, beside, LINE_END)
 }

@@ -1,12 +1,11 @@
 // The window onto the stream: what stands at a place of it, and the listing of a piece more of the stream.
 ghost use mathlib.Core.Path.{_≡_};
-ghost use mathlib.Core.Logic.{_≢_};
+ghost use mathlib.Core.List.{[], _∷_};
 ghost use Prim.Native.Nat.{_+_, _≤_, _<_, _^_};
 ghost use lib.ListN.{length};
 ghost use lib.Dec.{ltb};
-ghost use Rattle.refusals.specs.Judge.{verdict};
 ghost use Rattle.sfdu.specs.Nesting.{labelSize};
-ghost use Rattle.sfdu.specs.Read.{recordLength, readRows};
+ghost use Rattle.sfdu.specs.Read.{recordLength, readOne};
 ghost use Rattle.listing.specs.Listing.{bufferSize};
 ghost use Rattle.listing.specs.Window.{wordsOf, foundIn, mostText, Drains, Ready, Lists};
 use crate::Drained;
@@ -32,10 +31,11 @@ const TRUNCATED: u32 = 6;
 
 const OVER_BUFFER: u32 = 17;
 
-// The record at the start of `s`, what the window holds from a place on. `last` says that the stream ends with the window.
-pub fn judge(s: &[u8], last: bool) -> Found
-    requires { ⌜ length (now s) ≤ bufferSize ⌝ }
-    ensures { λ r. ⌜ wordsOf r ≡ foundIn (now (s .entry)) last ⌝ }
+// The record at the start of `s`, what the window holds from a place of the stream on. `last` says that the stream ends with the
+// window.
+pub fn judge(s: &[u8], place: u64, last: bool) -> Found
+    requires { ⌜ (length (now s) ≤ bufferSize) × (place + length (now s) < 2 ^ 64) ⌝ }
+    ensures { λ r. ⌜ wordsOf r ≡ foundIn place (now (s .entry)) last ⌝ }
 {
     let read = read_one(s);
     match read {
@@ -48,21 +48,24 @@ pub fn judge(s: &[u8], last: bool) -> Found
             size,
             number: record_number(s, kind),
         },
-        Read::Refused(r) => stop(s, last, refusals::number(r)),
+        Read::Refused(fault) => {
+            let refusal = fault.refusal;
+            stop(s, place, last, refusals::number(refusal), fault.at)
+        }
     }
 }
 
-// The same where read one refuses by that number.
-fn stop(s: &[u8], last: bool, number: u32) -> Found
-    requires { ⌜ (length (now s) ≤ bufferSize) × (number ≡ verdict (readRows (now s))) × (number ≢ 0) ⌝ }
-    ensures { λ r. ⌜ wordsOf r ≡ foundIn (now (s .entry)) last ⌝ }
+// The same where read one refuses by these two numbers.
+fn stop(s: &[u8], place: u64, last: bool, number: u32, at: usize) -> Found
+    requires { ⌜ (length (now s) ≤ bufferSize) × (place + length (now s) < 2 ^ 64) × (number ∷ at ∷ [] ≡ readOne (now s)) ⌝ }
+    ensures { λ r. ⌜ wordsOf r ≡ foundIn place (now (s .entry)) last ⌝ }
 {
     if number == TRUNCATED {
         if is_over(s) {
-            return Found::Stop(OVER_BUFFER);
+            return Found::Stop(OVER_BUFFER, 0);
         }
         return if last {
-            Found::Stop(TRUNCATED)
+            Found::Stop(TRUNCATED, at as u64)
         } else {
             Found::More
         };
@@ -72,12 +75,12 @@ fn stop(s: &[u8], last: bool, number: u32) -> Found
             return Found::More;
         }
         return if s.len() == 0 {
-            Found::Stop(0)
+            Found::Stop(0, 0)
         } else {
-            Found::Stop(TOO_SHORT)
+            Found::Stop(TOO_SHORT, at as u64)
         };
     }
-    Found::Stop(number)
+    Found::Stop(number, place + at as u64)
 }
 
 // Whether the record's length is over the window's.
@@ -97,10 +100,11 @@ fn drain(w: &[u8], place: u64, last: bool, out: &mut [u8], start: usize) -> Drai
     let mut at = 0;
     let mut end = start;
     loop {
-        let found = judge(&w[at..], last);
+        let here = place + at as u64;
+        let found = judge(&w[at..], here, last);
         match found {
             Found::Record { kind, size, number } => {
-                end = put_line(out, end, place + at as u64, size, kind, number);
+                end = put_line(out, end, here, size, kind, number);
                 at = at + size;
             }
             Found::More => {
@@ -110,8 +114,8 @@ fn drain(w: &[u8], place: u64, last: bool, out: &mut [u8], start: usize) -> Drai
                     done: false,
                 };
             }
-            Found::Stop(number) => {
-                end = put_last(out, end, place + at as u64, number);
+            Found::Stop(number, beside) => {
+                end = put_last(out, end, here, number, beside);
                 return Drained {
                     used: at,
                     end,

@@ -5,7 +5,7 @@ use mathlib.Core.Bool.{Bool, true, false, cond, not, false≢true}
 use lib.Dec.{eqb}
 use lib.ListN.{set}
 use borrow.Author.Tests.{eqb-true, not-false}
-use Rattle.refusals.specs.Judge.{verdict}
+use Rattle.refusals.specs.Judge.{judge}
 use Rattle.keys.specs.Key.{validKey}
 use Rattle.model.specs.Positions.{Positions, noTicks, same}
 use Rattle.model.specs.Book.{row, Desk, closed, working, Book, place, desk, putPlace, putDesk, isFree, ticksOf, withTicks, isDesk, isOpen, hasKey, placeWith, allUsed, lowestFree, positionAt}
@@ -67,7 +67,7 @@ is-closed closed e = refl
 is-closed (working r opened worked) e = absurd (false≢true (sym e))
 
 pub outcome : (c : Call) (b : Book) → Outcome b c (step c b)
-unfolding step refusals verdict effect afterRefusal
+unfolding step refusals judge effect afterRefusal
 outcome (Enrol key first) b =
     by-test P (not (validKey key)) (λ _. refusal 22 refl) λ v.
     by-test P (hasKey key (b .places)) (λ _. refusal 23 refl) λ k.

@@ -10,7 +10,7 @@ use lib.Dec.{eqb}
 use lib.ListN.{getD, set}
 use lib.Seq.{getD-set-same, getD-set-other, set-set, set-getD}
 use borrow.Author.Tests.{eq-eqb, ne-eqb}
-use Rattle.refusals.specs.Judge.{verdict}
+use Rattle.refusals.specs.Judge.{judge}
 use Rattle.model.specs.Positions.{Positions, same}
 use Rattle.model.specs.Book.{Place, free, row, Desk, closed, working, Book, idle, fresh, place, desk, putPlace, putDesk, ticksOf, withTicks, isDesk, positionAt}
 use Rattle.model.specs.Step.{Call, Enrol, Find, Open, Mark, Save, Drop, Answer, done, refused, Reply, reply, refusals, effect, step, Entry, _⇒_, callOf, run}
@@ -226,7 +226,7 @@ module _ (b : Book) (past : List Entry) (h : Inv b (inLog past)) where
       fits = k .has-row ∙ ap (row (k .key) (k .first)) (sym (ap ticksOf (k .has-row)) ∙ same-true _ _ t)
 
   pub good : {c : Call} {s : Reply} → Outcome b c s → Good b past c s
-  unfolding step refusals verdict effect kept noted
+  unfolding step refusals judge effect kept noted
   good (refusal {c = c} number m) = refusal-good c number m
   good (enrolment a) =
       record {

@@ -5,7 +5,7 @@ use mathlib.Core.Bool.{Bool, true, false, cond, not, Bool·beq}
 use mathlib.Core.List.{List, [], _∷_}
 use lib.Dec.{eqb}
 use lib.ListN.{set}
-use Rattle.refusals.specs.Judge.{Row, _when_, verdict}
+use Rattle.refusals.specs.Judge.{Rule, _when_, verdict}
 use Rattle.keys.specs.Key.{validKey}
 use Rattle.model.specs.Positions.{noTicks, has, same, inRow}
 use Rattle.model.specs.Book.{row, closed, working, Book, place, desk, putPlace, putDesk, isFree, ticksOf, withTicks, isDesk, isOpen, placeOf, openedOf, workedOf, withWorked, openPlace, hasKey, placeWith, allUsed, lowestFree, positionAt}
@@ -58,7 +58,7 @@ alreadySo true = 29
 alreadySo false = 30
 
 -- What each call is refused for, in the table's order.
-unfoldable pub refusals : Call → Book → List Row
+unfoldable pub refusals : Call → Book → List (Rule ℕ)
 refusals (Enrol key first) b =
     (22 when not (validKey key)) ∷ (23 when hasKey key (b .places)) ∷ (24 when allUsed (b .places)) ∷ []
 refusals (Find key) b = (22 when not (validKey key)) ∷ (25 when not (hasKey key (b .places))) ∷ []

@@ -1,61 +1,109 @@
--- Laws of a list of refusals: what is known where none applies. Assumes nothing.
+-- Laws of a list of rules: either none applies, or one is the first. Assumes nothing.
 use Prim.Native.Nat.{ℕ, _<_}
 use native.Mathlib.Omega.{arith}
-use mathlib.Core.Bool.{Bool, true, false}
+use mathlib.Core.Bool.{Bool, true, false, false≢true}
 use mathlib.Core.List.{List, [], _∷_, _++_}
-use mathlib.Core.Path.{_≡_, refl}
-use lib.Dec.{eqb}
-use borrow.Author.Tests.{eqb-true}
-use Rattle.refusals.specs.Judge.{Row, _when_, verdict, answered}
+use mathlib.Core.Path.{_≡_, refl, sym, _∙_}
+use Rattle.refusals.specs.Judge.{Rule, _when_, judge, each, noneApplies, verdict}
 
--- No row's condition holds.
-abbrev pub NoneHolds : List Row → Type 0
+-- No rule's condition holds.
+abbrev pub NoneHolds : {A : Type 0} → List (Rule A) → Type 0
 NoneHolds [] = Unit {0}
-NoneHolds ((n when c) ∷ rows) = (c ≡ false) × NoneHolds rows
+NoneHolds ((given when c) ∷ rules) = (c ≡ false) × NoneHolds rules
 
--- No row has the number 0.
-abbrev pub Numbered : List Row → Type 0
-Numbered [] = Unit {0}
-Numbered ((n when c) ∷ rows) = (0 < n) × Numbered rows
-
--- What each row gives has the property P.
-abbrev pub AllGive : (ℕ → Type 0) → List Row → Type 0
+-- What each rule gives has the property P.
+abbrev pub AllGive : {A : Type 0} → (A → Type 0) → List (Rule A) → Type 0
 AllGive P [] = Unit {0}
-AllGive P ((n when c) ∷ rows) = P n × AllGive P rows
+AllGive P ((given when c) ∷ rules) = P given × AllGive P rules
 
-pub verdict-gives : (P : ℕ → Type 0) → P 0 → (rows : List Row) → AllGive P rows → P (verdict rows)
-unfolding verdict
-verdict-gives P z [] h = z
-verdict-gives P z ((n when true) ∷ rows) h = h .0
-verdict-gives P z ((n when false) ∷ rows) h = verdict-gives P z rows (h .1)
+-- The first rule that applies gives g.
+pub data First {A : Type 0} : List (Rule A) → A → Type 0 where
+  here : {g : A} {rules : List (Rule A)} → First ((g when true) ∷ rules) g
+  later : {g h : A} {rules : List (Rule A)} → First rules g → First ((h when false) ∷ rules) g
 
-pub none-verdict : (rows : List Row) → NoneHolds rows → verdict rows ≡ 0
-unfolding verdict
-none-verdict [] h = refl
-none-verdict ((n when c) ∷ rows) h = rw (h .0) (none-verdict rows (h .1))
+-- What a list of rules comes to.
+pub data Outcome {A : Type 0} (rules : List (Rule A)) : Type 0 where
+  none : NoneHolds rules → Outcome rules
+  first : (g : A) → First rules g → Outcome rules
 
-pub verdict-none : (rows : List Row) → Numbered rows → verdict rows ≡ 0 → NoneHolds rows
-unfolding verdict
-verdict-none [] q e = tt
-verdict-none ((n when true) ∷ rows) q e = absurd (omega (arith, q .0, e))
-verdict-none ((n when false) ∷ rows) q e = (refl, verdict-none rows (q .1) e)
-
--- An answer that begins with 0 is no refusal.
-pub answered-none : (rows : List Row) (words rest : List ℕ) → answered rows words ≡ 0 ∷ rest → verdict rows ≡ 0
-answered-none rows words rest e = by (eqb (verdict rows) 0) refl
+pub outcome : {A : Type 0} (rules : List (Rule A)) → Outcome rules
+outcome [] = none tt
+outcome ((g when true) ∷ rules) = first g here
+outcome ((h when false) ∷ rules) = by (outcome rules)
   where
-    by : (b : Bool) → eqb (verdict rows) 0 ≡ b → verdict rows ≡ 0
-    by true t = eqb-true _ _ t
-    by false t = let f : verdict rows ∷ [] ≡ 0 ∷ rest = rw t at e in cc
+    by : Outcome rules → Outcome ((h when false) ∷ rules)
+    by (none n) = none (refl, n)
+    by (first g f) = first g (later f)
 
--- Two lists of rows, one after the other.
-pub verdict-first : (xs ys : List Row) → (verdict xs ≡ 0 → ⊥) → verdict (xs ++ ys) ≡ verdict xs
-unfolding verdict
-verdict-first [] ys h = absurd (h refl)
-verdict-first ((n when true) ∷ xs) ys h = refl
-verdict-first ((n when false) ∷ xs) ys h = verdict-first xs ys h
+pub none-judge : {A B : Type 0} (f : A → B) (rules : List (Rule A)) (answer : B) → NoneHolds rules → judge f rules answer ≡ answer
+unfolding judge
+none-judge f [] answer h = refl
+none-judge f ((g when c) ∷ rules) answer h = rw (h .0) (none-judge f rules answer (h .1))
 
-pub verdict-append : (xs ys : List Row) → NoneHolds xs → verdict (xs ++ ys) ≡ verdict ys
-unfolding verdict
-verdict-append [] ys h = refl
-verdict-append ((n when c) ∷ xs) ys h = rw (h .0) (verdict-append xs ys (h .1))
+pub first-judge : {A B : Type 0} (f : A → B) {rules : List (Rule A)} {g : A} (answer : B) → First rules g → judge f rules answer ≡ f g
+unfolding judge
+first-judge f answer here = refl
+first-judge f answer (later r) = first-judge f answer r
+
+pub first-gives : {A : Type 0} (P : A → Type 0) {rules : List (Rule A)} {g : A} → AllGive P rules → First rules g → P g
+first-gives P h here = h .0
+first-gives P h (later r) = first-gives P (h .1) r
+
+-- What each rule gives has the property P where it is the first that applies.
+abbrev pub FirstGives : {A : Type 0} → (A → Type 0) → List (Rule A) → Type 0
+FirstGives P [] = Unit {0}
+FirstGives P ((given when c) ∷ rules) = (c ≡ true → P given) × (c ≡ false → FirstGives P rules)
+
+pub first-has : {A : Type 0} (P : A → Type 0) {rules : List (Rule A)} {g : A} → FirstGives P rules → First rules g → P g
+first-has P h here = h .0 refl
+first-has P h (later r) = first-has P (h .1 refl) r
+
+-- One list behind another is judged where the first has nothing to say.
+pub judge-append : {A B : Type 0} (f : A → B) (xs ys : List (Rule A)) (answer : B) → judge f (xs ++ ys) answer ≡ judge f xs (judge f ys answer)
+unfolding judge
+judge-append f [] ys answer = refl
+judge-append f ((g when true) ∷ xs) ys answer = refl
+judge-append f ((g when false) ∷ xs) ys answer = judge-append f xs ys answer
+
+pub judge-each : {A B C : Type 0} (g : B → C) (f : A → B) (rules : List (Rule A)) (more : List (Rule B)) (answer : C)
+    → judge g (each f rules ++ more) answer ≡ judge (λ x. g (f x)) rules (judge g more answer)
+unfolding judge
+judge-each g f [] more answer = refl
+judge-each g f ((x when true) ∷ rules) more answer = refl
+judge-each g f ((x when false) ∷ rules) more answer = judge-each g f rules more answer
+
+-- No rule applies, as a test.
+pub none-applies : {A : Type 0} (rules : List (Rule A)) → NoneHolds rules → noneApplies rules ≡ true
+none-applies rules h = none-judge (λ given. false) rules true h
+
+pub none-hold : {A : Type 0} (rules : List (Rule A)) → noneApplies rules ≡ true → NoneHolds rules
+none-hold rules e = by (outcome rules)
+  where
+    by : Outcome rules → NoneHolds rules
+    by (none n) = n
+    by (first g f) = absurd (false≢true (sym (first-judge (λ given. false) true f) ∙ e))
+
+pub one-first : {A : Type 0} (rules : List (Rule A)) → noneApplies rules ≡ false → (g : A) × First rules g
+one-first {A} rules e = by (outcome rules)
+  where
+    by : Outcome rules → (g : A) × First rules g
+    by (none n) = absurd (false≢true (sym e ∙ none-applies rules n))
+    by (first g f) = (g, f)
+
+-- ---- rules that give numbers
+
+-- No rule gives 0.
+abbrev pub Numbered : List (Rule ℕ) → Type 0
+Numbered rules = AllGive (λ n. 0 < n) rules
+
+pub none-verdict : (rules : List (Rule ℕ)) → NoneHolds rules → verdict rules ≡ 0
+none-verdict rules h = none-judge (λ given. given) rules 0 h
+
+pub verdict-none : (rules : List (Rule ℕ)) → Numbered rules → verdict rules ≡ 0 → NoneHolds rules
+verdict-none rules q e = by (outcome rules)
+  where
+    by : Outcome rules → NoneHolds rules
+    by (none n) = n
+    by (first g f) =
+        let p : 0 < g = first-gives (λ n. 0 < n) q f in
+        absurd (omega (arith, first-judge (λ given. given) 0 f))

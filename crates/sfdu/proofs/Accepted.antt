@@ -1,13 +1,13 @@
 -- What is known of a slice that read one accepts. Assumes nothing.
-use Prim.Native.Nat.{ℕ, _+_, _-_, _≤_}
+use Prim.Native.Nat.{ℕ, _+_, _-_, _≤_, _<_}
 use native.Mathlib.Omega.{arith}
-use mathlib.Core.Bool.{Bool, true, false, _&&_, _||_}
+use mathlib.Core.Bool.{Bool, true, false, not, _&&_, _||_}
 use mathlib.Core.List.{List, [], _∷_}
 use mathlib.Core.Path.{_≡_, refl, sym, _∙_}
-use borrow.Author.Tests.{leb-true, ltb-false, eqb-true, eq-eqb, not-false}
-use lib.Dec.{leb, lit<}
+use borrow.Author.Tests.{leb-true, ltb-false, eqb-true, not-false}
+use lib.Dec.{eqb, leb, lit<}
 use lib.ListN.{length}
-use Rattle.refusals.proofs.Judged.{NoneHolds, Numbered, none-verdict, verdict-none, answered-none}
+use Rattle.refusals.proofs.Judged.{NoneHolds, AllGive, Outcome, none, first, outcome, none-judge, none-hold, none-applies, first-judge, first-gives}
 use Rattle.octets.specs.Octets.{sameAt}
 use Rattle.octets.proofs.Laws.{and-split}
 use Rattle.sfdu.specs.declared.Kind.{Kind}
@@ -35,7 +35,7 @@ use Rattle.sfdu.specs.Nesting.{
   leastLabelLength,
   mostLabelLength,
 }
-use Rattle.sfdu.specs.Read.{hasKind, kindOf, labelLength, recordLength, blockType, blockLength, lengthInRange, isBlock, primaryOf, readRows, accepts, recordWords, readOne}
+use Rattle.sfdu.specs.Read.{hasKind, kindOf, labelLength, recordLength, blockType, blockLength, lengthInRange, primaryOf, readRules, accepts, recordWords, readOne}
 
 pub in-range : (k : Kind) (s : List ℕ) → lengthInRange k s ≡ true
     → (leastLabelLength k ≤ labelLength s) × (labelLength s ≤ mostLabelLength k)
@@ -52,30 +52,96 @@ pub record-length : (s : List ℕ) (n : ℕ) → n ≡ labelLength s → labelSi
 unfolding recordLength
 record-length s n e = rw e
 
-pub block-is : (s : List ℕ) (at type size : ℕ) → isBlock s at type size ≡ true → (blockType s at ≡ type) × (blockLength s at ≡ size)
-unfolding isBlock
-block-is s at type size e = let p = and-split _ _ e in (eqb-true _ _ (p .0), eqb-true _ _ (p .1))
+-- The block at an offset has that type and that length.
+pub record IsBlock (s : List ℕ) (at type size : ℕ) : Type 0 where
+  pub class : blockType s at ≡ type
+  pub size-is : blockLength s at ≡ size
 
 -- ---- the words of an accepted slice
 
-numbered : (s : List ℕ) → Numbered (readRows s)
-numbered s =
-    (lit< tt, (lit< tt, (lit< tt, (lit< tt, (lit< tt, (lit< tt, (lit< tt, (lit< tt, (lit< tt, (lit< tt, (lit< tt, tt)))))))))))
-
-pub none-holds : (s : List ℕ) → accepts s ≡ true → NoneHolds (readRows s)
+pub none-holds : (s : List ℕ) → accepts s ≡ true → NoneHolds (readRules s)
 unfolding accepts
-none-holds s e = verdict-none (readRows s) (numbered s) (eqb-true _ _ e)
+none-holds s e = none-hold (readRules s) e
 
 pub accepted-words : (s : List ℕ) → accepts s ≡ true → readOne s ≡ recordWords (kindOf s) s
 unfolding readOne
-accepted-words s e = rw (none-verdict (readRows s) (none-holds s e))
+accepted-words s e = none-judge (λ given. given) (readRules s) _ (none-holds s e)
+
+-- The words of a refusal of read one: a number from 1 to 11, and a second one.
+pub record RefusalWords (w : List ℕ) : Type 0 where
+  pub number : ℕ
+  pub second : ℕ
+  pub positive : 0 < number
+  pub small : number < 12
+  pub words : w ≡ number ∷ second ∷ []
+
+refuses : (n m : ℕ) → 0 < n → n < 12 → RefusalWords (n ∷ m ∷ [])
+refuses n m h l = record { number = n; second = m; positive = h; small = l; words = refl }
+
+all-refuse : (s : List ℕ) → AllGive RefusalWords (readRules s)
+all-refuse s = (
+  refuses _ _ (lit< tt) (lit< tt),
+  (
+    refuses _ _ (lit< tt) (lit< tt),
+    (
+      refuses _ _ (lit< tt) (lit< tt),
+      (
+        refuses _ _ (lit< tt) (lit< tt),
+        (
+          refuses _ _ (lit< tt) (lit< tt),
+          (
+            refuses _ _ (lit< tt) (lit< tt),
+            (
+              refuses _ _ (lit< tt) (lit< tt),
+              (
+                refuses _ _ (lit< tt) (lit< tt),
+                (
+                  refuses _ _ (lit< tt) (lit< tt),
+                  (
+                    refuses _ _ (lit< tt) (lit< tt),
+                    (
+                      refuses _ _ (lit< tt) (lit< tt),
+                      (
+                        refuses _ _ (lit< tt) (lit< tt),
+                        (
+                          refuses _ _ (lit< tt) (lit< tt),
+                          (refuses _ _ (lit< tt) (lit< tt), tt),
+                        ),
+                      ),
+                    ),
+                  ),
+                ),
+              ),
+            ),
+          ),
+        ),
+      ),
+    ),
+  ),
+)
+
+-- Read one accepts, or what it answers is a refusal.
+pub data Reads (s : List ℕ) : Type 0 where
+  accepted-one : accepts s ≡ true → Reads s
+  refused-one : RefusalWords (readOne s) → Reads s
+
+pub reads : (s : List ℕ) → Reads s
+unfolding readOne accepts
+reads s = by (outcome (readRules s))
+  where
+    by : Outcome (readRules s) → Reads s
+    by (none n) = accepted-one (none-applies (readRules s) n)
+    by (first g f) = refused-one (rw (first-judge (λ given. given) (recordWords (kindOf s) s) f) (first-gives RefusalWords (all-refuse s) f))
 
 pub words-accepted : (s rest : List ℕ) → readOne s ≡ 0 ∷ rest → accepts s ≡ true
-unfolding readOne accepts
-words-accepted s rest e = eq-eqb _ _ (answered-none (readRows s) (recordWords (kindOf s) s) rest e)
+words-accepted s rest e = by (reads s)
+  where
+    by : Reads s → accepts s ≡ true
+    by (accepted-one a) = a
+    by (refused-one r) = let z : r .number ≡ 0 = cc (r .words, e) in absurd (omega (arith, r .positive))
 
-pub words-refused : (s : List ℕ) (n : ℕ) → readOne s ≡ n ∷ [] → accepts s ≡ false
-words-refused s n e = by (accepts s) refl
+pub words-refused : (s : List ℕ) (n m : ℕ) → readOne s ≡ n ∷ m ∷ [] → accepts s ≡ false
+words-refused s n m e = by (accepts s) refl
   where
     by : (b : Bool) → accepts s ≡ b → b ≡ false
     by true a = let z : _≡_ {A = ℕ} 0 1 = cc (accepted-words s a, e) in absurd (omega arith)
@@ -116,9 +182,9 @@ pub record Accepted (s : List ℕ) : Type 0 where
   pub most : labelLength s ≤ mostLabelLength (kindOf s)
   pub size : labelSize + labelLength s ≡ recordLength s
   pub whole : recordLength s ≤ length s
-  pub aggregation : isBlock s aggregationAt aggregationType (aggregationLength (kindOf s)) ≡ true
-  pub primary : isBlock s primaryAt primaryType primaryLength ≡ true
-  pub secondary : isBlock s secondaryAt (secondaryType (kindOf s)) (secondaryLength (kindOf s)) ≡ true
+  pub aggregation : IsBlock s aggregationAt aggregationType (aggregationLength (kindOf s))
+  pub primary : IsBlock s primaryAt primaryType primaryLength
+  pub secondary : IsBlock s secondaryAt (secondaryType (kindOf s)) (secondaryLength (kindOf s))
   pub data-type : blockType s (dataAt (kindOf s)) ≡ dataType
   pub data-length : blockLength s (dataAt (kindOf s)) ≡ recordLength s - dataValueAt (kindOf s)
 
@@ -130,6 +196,10 @@ picked s e = by (hasKind Telemetry s) refl
     by : (b : Bool) → hasKind Telemetry s ≡ b → hasKind (kindOf s) s ≡ true
     by true t = rw (t, t)
     by false t = rw (t, rw t at e)
+
+block : {s : List ℕ} {at type size : ℕ} → not (eqb (blockType s at) type) ≡ false → not (eqb (blockLength s at) size) ≡ false
+    → IsBlock s at type size
+block a b = record { class = eqb-true _ _ (not-false _ a); size-is = eqb-true _ _ (not-false _ b) }
 
 pub accepted : (s : List ℕ) → accepts s ≡ true → Accepted s
 accepted s a =
@@ -145,9 +215,9 @@ accepted s a =
       most = r .1;
       size = record-length s (labelLength s) refl;
       whole = ltb-false _ _ (h .1 .1 .1 .1 .1 .0);
-      aggregation = not-false _ (blocks .0);
-      primary = not-false _ (blocks .1 .0);
-      secondary = not-false _ (blocks .1 .1 .0);
-      data-type = eqb-true _ _ (not-false _ (blocks .1 .1 .1 .0));
-      data-length = eqb-true _ _ (not-false _ (blocks .1 .1 .1 .1 .0));
+      aggregation = block (blocks .0) (blocks .1 .0);
+      primary = block (blocks .1 .1 .0) (blocks .1 .1 .1 .0);
+      secondary = block (blocks .1 .1 .1 .1 .0) (blocks .1 .1 .1 .1 .1 .0);
+      data-type = eqb-true _ _ (not-false _ (blocks .1 .1 .1 .1 .1 .1 .0));
+      data-length = eqb-true _ _ (not-false _ (blocks .1 .1 .1 .1 .1 .1 .1 .0));
     }

@@ -3,17 +3,17 @@ use Prim.Native.Nat.{ℕ, _+_, _-_, _≤_, _<_}
 use native.Mathlib.Omega.{arith}
 use mathlib.Core.Bool.{Bool, true, false}
 use mathlib.Core.List.{List, [], _∷_, _++_}
-use mathlib.Core.Path.{_≡_, refl, ap, _∙_}
-use borrow.Author.Tests.{le-ltb, eqb-false}
+use mathlib.Core.Path.{_≡_, refl, sym, ap, _∙_}
+use borrow.Author.Tests.{le-ltb}
 use lib.Dec.{lit<}
-use Rattle.refusals.specs.Judge.{Row, _when_, verdict, answered}
-use Rattle.refusals.proofs.Judged.{AllGive, verdict-gives, none-verdict, verdict-first, verdict-append}
+use Rattle.refusals.specs.Judge.{_when_, judge, answered}
+use Rattle.refusals.proofs.Judged.{AllGive, Outcome, none, first, outcome, none-judge, none-applies, first-judge, first-gives, judge-append}
 use Rattle.sfdu.specs.declared.Kind.{Kind}
-use Rattle.sfdu.specs.Nesting.{blockLabelSize, aggregationAt, primaryAt, secondaryAt, dataAt, dataValueAt, aggregationLength, primaryLength, secondaryLength, aggregationType, primaryType, secondaryType}
-use Rattle.sfdu.specs.Read.{kindOf, recordLength, blockLength, readRows, accepts, recordWords, readOne}
-use Rattle.sfdu.specs.Nested.{Block, aggregation, primary, secondary, data-block, startOf, enclosingEnd, blockEnd, Nested, AcceptedNest, someEndsPast, rowsWith18, Without18, Never18}
+use Rattle.sfdu.specs.Nesting.{blockLabelSize, aggregationAt, primaryAt, secondaryAt, dataAt, dataValueAt, aggregationLength, primaryLength, secondaryLength}
+use Rattle.sfdu.specs.Read.{kindOf, recordLength, blockLength, _giving_, readRules, accepts, recordWords, readOne}
+use Rattle.sfdu.specs.Nested.{Block, aggregation, primary, secondary, data-block, startOf, enclosingEnd, blockEnd, Nested, AcceptedNest, someEndsPast, readWith18, Without18, Never18}
 use Rattle.sfdu.proofs.Placed.{placed}
-use Rattle.sfdu.proofs.Accepted.{Accepted, accepted, block-is, none-holds}
+use Rattle.sfdu.proofs.Accepted.{Accepted, accepted}
 
 pub accepted-nest : AcceptedNest
 unfolding blockEnd
@@ -21,9 +21,9 @@ accepted-nest s e =
     let k = kindOf s in
     let a : Accepted s = accepted s e in
     let p = placed k in
-    let x : blockLength s aggregationAt ≡ aggregationLength k = block-is s aggregationAt aggregationType (aggregationLength k) (a .aggregation) .1 in
-    let y : blockLength s primaryAt ≡ primaryLength = block-is s primaryAt primaryType primaryLength (a .primary) .1 in
-    let z : blockLength s secondaryAt ≡ secondaryLength k = block-is s secondaryAt (secondaryType k) (secondaryLength k) (a .secondary) .1 in
+    let x : blockLength s aggregationAt ≡ aggregationLength k = a .aggregation .size-is in
+    let y : blockLength s primaryAt ≡ primaryLength = a .primary .size-is in
+    let z : blockLength s secondaryAt ≡ secondaryLength k = a .secondary .size-is in
     record {
       within = λ b. by-block b (omega arith) (omega arith) (omega arith) (omega arith);
       behind-label = refl;
@@ -48,32 +48,71 @@ none-ends-past s e =
     let w = accepted-nest s e .within in
     rw (le-ltb _ _ (w aggregation), le-ltb _ _ (w primary), le-ltb _ _ (w secondary), le-ltb _ _ (w data-block))
 
-below-18 : (s : List ℕ) → AllGive (λ n. n < 18) (readRows s)
-below-18 s =
-    (lit< tt, (lit< tt, (lit< tt, (lit< tt, (lit< tt, (lit< tt, (lit< tt, (lit< tt, (lit< tt, (lit< tt, (lit< tt, tt)))))))))))
-
-refused : (s : List ℕ) → accepts s ≡ false → verdict (readRows s) ≡ 0 → ⊥
-unfolding accepts
-refused s e z = eqb-false _ _ e z
-
-without : (s : List ℕ) → verdict (rowsWith18 s) ≡ verdict (readRows s)
-unfolding verdict
-without s = by (accepts s) refl
+-- No rule that is left gives 18, and an accepted answer begins with 0.
+not-18 : (s rest : List ℕ) → readOne s ≡ 18 ∷ rest → ⊥
+unfolding readOne
+not-18 s rest e = by (outcome (readRules s))
   where
-    row : List Row
-    row = (18 when someEndsPast (kindOf s) s) ∷ []
+    P : List ℕ → Type 0
+    P w = w ≡ 18 ∷ rest → ⊥
 
-    by : (b : Bool) → accepts s ≡ b → verdict (rowsWith18 s) ≡ verdict (readRows s)
-    by true e = let n = none-holds s e in verdict-append (readRows s) row n ∙ rw (none-ends-past s e, none-verdict (readRows s) n)
-    by false e = verdict-first (readRows s) row (refused s e)
+    other : (n m : ℕ) → n < 18 → P (n ∷ m ∷ [])
+    other n m h e = let z : n ≡ 18 = cc in omega arith
+
+    all : AllGive P (readRules s)
+    all = (
+      other _ _ (lit< tt),
+      (
+        other _ _ (lit< tt),
+        (
+          other _ _ (lit< tt),
+          (
+            other _ _ (lit< tt),
+            (
+              other _ _ (lit< tt),
+              (
+                other _ _ (lit< tt),
+                (
+                  other _ _ (lit< tt),
+                  (
+                    other _ _ (lit< tt),
+                    (
+                      other _ _ (lit< tt),
+                      (
+                        other _ _ (lit< tt),
+                        (
+                          other _ _ (lit< tt),
+                          (other _ _ (lit< tt), (other _ _ (lit< tt), (other _ _ (lit< tt), tt))),
+                        ),
+                      ),
+                    ),
+                  ),
+                ),
+              ),
+            ),
+          ),
+        ),
+      ),
+    )
+
+    by : Outcome (readRules s) → ⊥
+    by (none n) =
+        let z : _≡_ {A = ℕ} 0 18 = cc (none-judge (λ given. given) (readRules s) (recordWords (kindOf s) s) n, e) in omega arith
+    by (first g f) = first-gives P all f (sym (first-judge (λ given. given) (recordWords (kindOf s) s) f) ∙ e)
+
+without : (m : ℕ) (s : List ℕ) → readWith18 m s ≡ readOne s
+unfolding readWith18 readOne accepts judge
+without m s = rw (judge-append (λ given. given) (readRules s) ((18 giving m when someEndsPast (kindOf s) s) ∷ []) (recordWords (kindOf s) s)) (by (outcome (readRules s)))
+  where
+    w : List ℕ
+    w = recordWords (kindOf s) s
+
+    last : List ℕ
+    last = answered ((18 giving m when someEndsPast (kindOf s) s) ∷ []) w
+
+    by : Outcome (readRules s) → answered (readRules s) last ≡ answered (readRules s) w
+    by (none n) = ap (λ (x : List ℕ). answered (readRules s) x) (rw (none-ends-past s (none-applies (readRules s) n)))
+    by (first g f) = first-judge (λ given. given) last f ∙ sym (first-judge (λ given. given) w f)
 
 pub never-18 : Never18
-unfolding readOne
-never-18 s =
-    let small : verdict (readRows s) < 18 = verdict-gives (λ n. n < 18) (lit< tt) (readRows s) (below-18 s) in
-    let same = without s in
-    record {
-      never = λ e. omega arith;
-      same-verdict = same;
-      same-answer = rw same;
-    }
+never-18 m s = record { never = λ rest e. not-18 s rest (sym (without m s) ∙ e); same = without m s }

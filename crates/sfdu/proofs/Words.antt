@@ -4,11 +4,12 @@ use native.Mathlib.Omega.{arith}
 use mathlib.Core.Path.{_≡_, ap}
 use Rattle.refusals.specs.Table.{numberOf}
 use Rattle.refusals.proofs.Laws.{number-injective}
+use Rattle.sfdu.specs.declared.Fault.{Fault}
 use Rattle.sfdu.specs.declared.Primary.{Primary}
 use Rattle.sfdu.specs.declared.Read.{Read}
 use Rattle.sfdu.specs.declared.Read.the-variants.{Record, Refused}
 use Rattle.sfdu.specs.Nesting.{kindNumber}
-use Rattle.sfdu.specs.Read.{wordsOf, primaryWords}
+use Rattle.sfdu.specs.Read.{wordsOf, faultWords, primaryWords}
 use Rattle.sfdu.proofs.Accepted.{same-kind}
 
 pub same-primary : (p q : Primary) → primaryWords p ≡ primaryWords q → p ≡ q
@@ -19,6 +20,13 @@ same-primary p q e =
     let format : p .format ≡ q .format = cc in
     λ i. record { major = major i; minor = minor i; mission = mission i; format = format i }
 
+pub same-fault : (f g : Fault) → faultWords f ≡ faultWords g → f ≡ g
+same-fault f g e =
+    let n : numberOf (f .refusal) ≡ numberOf (g .refusal) = cc in
+    let at : f .at ≡ g .at = cc in
+    let refusal : f .refusal ≡ g .refusal = number-injective _ _ n in
+    λ i. record { refusal = refusal i; at = at i }
+
 pub same-read : (a b : Read) → wordsOf a ≡ wordsOf b → a ≡ b
 same-read (Record k n p) (Record l m q) e =
     let kinds : kindNumber k ≡ kindNumber l = cc in
@@ -27,6 +35,6 @@ same-read (Record k n p) (Record l m q) e =
     let primary : p ≡ q = same-primary p q words in
     let size : n ≡ m = cc in
     cc
-same-read (Record k n p) (Refused r) e = let z : _≡_ {A = ℕ} 0 1 = cc in absurd (omega arith)
-same-read (Refused r) (Record k n p) e = let z : _≡_ {A = ℕ} 0 1 = cc in absurd (omega arith)
-same-read (Refused r) (Refused s) e = let n : numberOf r ≡ numberOf s = cc in ap Refused (number-injective r s n)
+same-read (Record k n p) (Refused f) e = let z : _≡_ {A = ℕ} 0 1 = cc in absurd (omega arith)
+same-read (Refused f) (Record k n p) e = let z : _≡_ {A = ℕ} 0 1 = cc in absurd (omega arith)
+same-read (Refused f) (Refused g) e = ap Refused (same-fault f g e)

@@ -6,10 +6,10 @@ use mathlib.Core.List.{List, [], _∷_, _++_}
 use mathlib.Core.Logic.{_≢_}
 use mathlib.Core.Path.{_≡_}
 use lib.Dec.{ltb}
-use Rattle.refusals.specs.Judge.{Row, _when_, verdict, answered}
+use Rattle.refusals.specs.Judge.{_when_, answered}
 use Rattle.sfdu.specs.declared.Kind.{Kind}
 use Rattle.sfdu.specs.Nesting.{labelSize, blockLabelSize, aggregationAt, primaryAt, secondaryAt, dataAt}
-use Rattle.sfdu.specs.Read.{kindOf, recordLength, blockLength, readRows, accepts, recordWords, readOne}
+use Rattle.sfdu.specs.Read.{kindOf, recordLength, blockLength, _giving_, readRules, accepts, recordWords, readOne}
 
 -- The four blocks of a record.
 pub data Block : Type 0 where
@@ -57,15 +57,14 @@ endsPast k s b = ltb (enclosingEnd s b) (blockEnd s (startOf k b))
 abbrev pub someEndsPast : Kind → List ℕ → Bool
 someEndsPast k s = endsPast k s aggregation || endsPast k s primary || endsPast k s secondary || endsPast k s data-block
 
--- Read one's rows as document 01 had them, 18 last.
-abbrev pub rowsWith18 : List ℕ → List Row
-rowsWith18 s = readRows s ++ (18 when someEndsPast (kindOf s) s) ∷ []
+-- Document 01's read one, with the rule of 18 last, whatever number goes with it.
+unfoldable pub readWith18 : ℕ → List ℕ → List ℕ
+readWith18 m s = answered (readRules s ++ (18 giving m when someEndsPast (kindOf s) s) ∷ []) (recordWords (kindOf s) s)
 
--- It is never given, and no answer changes without it.
-pub record Without18 (s : List ℕ) : Type 0 where
-  pub never : verdict (rowsWith18 s) ≢ 18
-  pub same-verdict : verdict (rowsWith18 s) ≡ verdict (readRows s)
-  pub same-answer : answered (rowsWith18 s) (recordWords (kindOf s) s) ≡ readOne s
+-- 18 is never given, and no answer changes without it.
+pub record Without18 (m : ℕ) (s : List ℕ) : Type 0 where
+  pub never : (rest : List ℕ) → readWith18 m s ≢ 18 ∷ rest
+  pub same : readWith18 m s ≡ readOne s
 
 abbrev pub Never18 : Type 0
-Never18 = (s : List ℕ) → Without18 s
+Never18 = (m : ℕ) (s : List ℕ) → Without18 m s

@@ -1,15 +1,19 @@
--- Document 01, "Calls on records" and "Refusal numbers" 1 to 11: the first record of a lent slice s. Assumes nothing.
+-- Document 01, "Calls on records" and "Refusal numbers" 1 to 11, with document 02, Req 05: the first record of a lent slice s. Assumes
+-- nothing.
 use Prim.Native.Nat.{ℕ, _+_, _-_}
 use mathlib.Core.Bool.{Bool, not, cond, _&&_, _||_}
 use mathlib.Core.List.{List, [], _∷_, _++_}
 use lib.ListN.{length, getD}
 use lib.Dec.{eqb, leb, ltb}
-use Rattle.refusals.specs.Judge.{Row, _when_, verdict, answered}
+use Rattle.refusals.specs.Judge.{Rule, _when_, judge, each, answered, noneApplies}
 use Rattle.refusals.specs.Table.{numberOf}
 use Rattle.octets.specs.Octets.{numberAt, part, sameAt}
 use Rattle.sfdu.specs.declared.Kind.{Kind}
 use Rattle.sfdu.specs.declared.Kind.the-variants.{Telemetry, Rsr}
+use Rattle.sfdu.specs.declared.Fault.{Fault}
 use Rattle.sfdu.specs.declared.Primary.{Primary}
+use Rattle.sfdu.specs.declared.Checked.{Checked}
+use Rattle.sfdu.specs.declared.Checked.the-variants.{Right, Wrong}
 use Rattle.sfdu.specs.declared.Read.{Read}
 use Rattle.sfdu.specs.declared.Read.the-variants.{Record, Refused}
 use Rattle.sfdu.specs.Nesting.{
@@ -48,10 +52,14 @@ use Rattle.sfdu.specs.Nesting.{
 abbrev pub primaryWords : Primary → List ℕ
 primaryWords p = p .major ∷ p .minor ∷ p .mission ∷ p .format ∷ []
 
--- Read one: 0, the kind, N and the four primary values, or the refusal's number.
+-- A refusal: its number, and the number that goes with it.
+abbrev pub faultWords : Fault → List ℕ
+faultWords f = numberOf (f .refusal) ∷ f .at ∷ []
+
+-- Read one: 0, the kind, N and the four primary values, or the refusal.
 abbrev pub wordsOf : Read → List ℕ
 wordsOf (Record kind n p) = 0 ∷ kindNumber kind ∷ n ∷ primaryWords p
-wordsOf (Refused r) = numberOf r ∷ []
+wordsOf (Refused f) = faultWords f
 
 -- ---- the parts of a slice that its label speaks of
 
@@ -76,44 +84,75 @@ blockType s at = numberAt s at wordSize
 unfoldable pub blockLength : List ℕ → ℕ → ℕ
 blockLength s at = numberAt s (at + wordSize) wordSize
 
+-- What a check of fields finds: the offset that its rules give, or that all are right.
+abbrev pub checked : List (Rule ℕ) → Checked
+checked rules = judge Wrong rules Right
+
 -- ---- the refusals, in the table's order
 
 unfoldable pub lengthInRange : Kind → List ℕ → Bool
 lengthInRange k s = leb (leastLabelLength k) (labelLength s) && leb (labelLength s) (mostLabelLength k)
 
-unfoldable pub isBlock : List ℕ → ℕ → (type size : ℕ) → Bool
-isBlock s at type size = eqb (blockType s at) type && eqb (blockLength s at) size
+-- Each rule is "n giving m when ..": refusal n, with the offset m of the first byte of the field that is wrong; of 1 and 6 m is the
+-- number of bytes that were there.
+infix 45 _giving_
+abbrev pub _giving_ : ℕ → ℕ → List ℕ
+n giving m = n ∷ m ∷ []
 
-abbrev pub labelRows : List ℕ → List Row
-labelRows s =
-    (1 when ltb (length s) labelSize)
-    ∷ (2 when not (sameAt s authorityAt authority 0 tagSize))
-    ∷ (3 when not (sameAt s controlAt control 0 tagSize))
-    ∷ (4 when not (hasKind Telemetry s || hasKind Rsr s))
+abbrev pub tagRules : List ℕ → List (Rule (List ℕ))
+tagRules s =
+    (2 giving authorityAt when not (sameAt s authorityAt authority 0 tagSize))
+    ∷ (3 giving controlAt when not (sameAt s controlAt control 0 tagSize))
+    ∷ (4 giving kindAt when not (hasKind Telemetry s || hasKind Rsr s))
     ∷ []
 
-abbrev pub lengthRows : Kind → List ℕ → List Row
-lengthRows k s = (5 when not (lengthInRange k s)) ∷ (6 when ltb (length s) (recordLength s)) ∷ []
+abbrev pub labelRules : List ℕ → List (Rule (List ℕ))
+labelRules s = (1 giving length s when ltb (length s) labelSize) ∷ tagRules s
 
-abbrev pub headerRows : Kind → List ℕ → List Row
-headerRows k s =
-    (7 when not (isBlock s aggregationAt aggregationType (aggregationLength k)))
-    ∷ (8 when not (isBlock s primaryAt primaryType primaryLength))
-    ∷ (9 when not (isBlock s secondaryAt (secondaryType k) (secondaryLength k)))
+abbrev pub rangeRule : Kind → List ℕ → Rule (List ℕ)
+rangeRule k s = 5 giving lengthAt when not (lengthInRange k s)
+
+abbrev pub cutRule : List ℕ → Rule (List ℕ)
+cutRule s = 6 giving length s when ltb (length s) (recordLength s)
+
+abbrev pub lengthRules : Kind → List ℕ → List (Rule (List ℕ))
+lengthRules k s = rangeRule k s ∷ cutRule s ∷ []
+
+-- A block's label: "type before length". Each field's offset, given when it is wrong.
+abbrev pub typeAndLength : List ℕ → (at type size : ℕ) → List (Rule ℕ)
+typeAndLength s at type size = (at when not (eqb (blockType s at) type)) ∷ ((at + wordSize) when not (eqb (blockLength s at) size)) ∷ []
+
+abbrev pub blockRules : (n : ℕ) → List ℕ → (at type size : ℕ) → List (Rule (List ℕ))
+blockRules n s at type size = each (λ field. n giving field) (typeAndLength s at type size)
+
+abbrev pub headerRules : Kind → List ℕ → List (Rule (List ℕ))
+headerRules k s =
+    blockRules 7 s aggregationAt aggregationType (aggregationLength k) ++ blockRules 8 s primaryAt primaryType primaryLength
+    ++ blockRules 9 s secondaryAt (secondaryType k) (secondaryLength k)
+
+abbrev pub dataRules : Kind → List ℕ → List (Rule (List ℕ))
+dataRules k s =
+    (10 giving dataAt k when not (eqb (blockType s (dataAt k)) dataType))
+    ∷ (11 giving (dataAt k + wordSize) when not (eqb (blockLength s (dataAt k)) (recordLength s - dataValueAt k)))
     ∷ []
 
-abbrev pub dataRows : Kind → List ℕ → List Row
-dataRows k s =
-    (10 when not (eqb (blockType s (dataAt k)) dataType))
-    ∷ (11 when not (eqb (blockLength s (dataAt k)) (recordLength s - dataValueAt k)))
-    ∷ []
+abbrev pub readRules : List ℕ → List (Rule (List ℕ))
+readRules s = labelRules s ++ lengthRules (kindOf s) s ++ headerRules (kindOf s) s ++ dataRules (kindOf s) s
 
-abbrev pub readRows : List ℕ → List Row
-readRows s = labelRows s ++ lengthRows (kindOf s) s ++ headerRows (kindOf s) s ++ dataRows (kindOf s) s
+-- 1 and 6 give a count of bytes.
+unfoldable pub isCount : ℕ → Bool
+isCount n = eqb n 1 || eqb n 6
+
+-- The refusal of the record at a place of a stream: "offsets (not the byte counts of 1 and 6) then counting from the stream's
+-- start".
+unfoldable pub inStream : (place : ℕ) → List ℕ → List ℕ
+inStream place [] = []
+inStream place (n ∷ []) = n ∷ []
+inStream place (n ∷ m ∷ rest) = n ∷ cond (isCount n) m (place + m) ∷ rest
 
 -- Read one accepts the slice.
 unfoldable pub accepts : List ℕ → Bool
-accepts s = eqb (verdict (readRows s)) 0
+accepts s = noneApplies (readRules s)
 
 -- ---- the calls
 
@@ -124,7 +163,7 @@ abbrev pub recordWords : Kind → List ℕ → List ℕ
 recordWords k s = 0 ∷ kindNumber k ∷ recordLength s ∷ primaryOf s
 
 unfoldable pub readOne : List ℕ → List ℕ
-readOne s = answered (readRows s) (recordWords (kindOf s) s)
+readOne s = answered (readRules s) (recordWords (kindOf s) s)
 
 -- The part calls: where the part starts and how long it is; the empty part at the slice's start where read one refuses.
 unfoldable pub secondaryStart : List ℕ → ℕ

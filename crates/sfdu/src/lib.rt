@@ -47,6 +47,19 @@ pub struct Primary {
     pub format: u8,
 }
 
+// A refusal, and the number that goes with it: the offset from the record's start of the first byte of the field that is wrong; for
+// `TooShort` and `Truncated` the number of bytes that were there.
+pub struct Fault {
+    pub refusal: refusals::Refusal,
+    pub at: usize,
+}
+
+// What a check of fields finds: all are right, or else the offset of the first byte of the first that is wrong.
+pub enum Checked {
+    Right,
+    Wrong(usize),
+}
+
 // What reading one record finds: its kind, its length in bytes (document 01's N) and its primary value.
 pub enum Read {
     Record {
@@ -54,5 +67,5 @@ pub enum Read {
         size: usize,
         primary: Primary,
     },
-    Refused(refusals::Refusal),
+    Refused(Fault),
 }

@@ -1,16 +1,19 @@
 // Read one: the checks in the order of document 01's refusal table, and the two parts.
 ghost use denote.Ref.{ptr};
 ghost use mathlib.Core.Bool.{_&&_, _||_};
-ghost use mathlib.Core.List.{_++_};
+ghost use mathlib.Core.List.{[], _∷_, _++_};
 ghost use mathlib.Core.Path.{_≡_};
 ghost use Prim.Native.Nat.{_+_, _-_, _≤_, _<_};
 ghost use lib.ListN.{length};
 ghost use lib.Dec.{eqb, leb};
 ghost use Rattle.refusals.specs.Judge.{answered};
+ghost use Rattle.refusals.specs.Table.{numberOf};
 ghost use Rattle.octets.specs.Octets.{sameAt};
 ghost use Rattle.sfdu.specs.Nesting.{authority, control, authorityAt, controlAt, tagSize, labelSize, blockLabelSize, aggregationAt, primaryAt, secondaryAt, dataAt, dataValueAt, aggregationType, primaryType, secondaryType, dataType, aggregationLength, primaryLength, secondaryLength, leastLabelLength, mostLabelLength};
 ghost use Rattle.sfdu.specs.declared.Kind.the-variants.{Telemetry, Rsr};
-ghost use Rattle.sfdu.specs.Read.{wordsOf, primaryWords, primaryOf, readOne, lengthRows, headerRows, dataRows, recordWords, hasKind, kindOf, labelLength, recordLength, blockType, blockLength, isBlock, secondaryPart, secondaryStart, dataPart, dataStart};
+ghost use Rattle.sfdu.specs.Read.{wordsOf, primaryWords, primaryOf, readOne, lengthRules, headerRules, dataRules, recordWords, hasKind, kindOf, labelLength, recordLength, blockType, blockLength, checked, typeAndLength, secondaryPart, secondaryStart, dataPart, dataStart};
+use crate::Checked;
+use crate::Fault;
 use crate::Kind;
 use crate::Primary;
 use crate::Read;
@@ -50,18 +53,24 @@ pub fn read_one(s: &[u8]) -> Read
     ensures { λ r. ⌜ wordsOf r ≡ readOne (now (s .entry)) ⌝ }
 {
     if s.len() < LABEL {
-        return Read::Refused(Refusal::TooShort);
+        return refused(Refusal::TooShort, s.len());
     }
     if !has_authority(s) {
-        return Read::Refused(Refusal::Authority);
+        return refused(Refusal::Authority, AUTHORITY_AT);
     }
     if !has_control(s) {
-        return Read::Refused(Refusal::LabelControl);
+        return refused(Refusal::LabelControl, CONTROL_AT);
     }
     if !is_known(s) {
-        return Read::Refused(Refusal::UnknownKind);
+        return refused(Refusal::UnknownKind, KIND_AT);
     }
     read_length(s, kind_of(s))
+}
+
+fn refused(refusal: Refusal, at: usize) -> Read
+    ensures { λ r. ⌜ wordsOf r ≡ numberOf refusal ∷ at ∷ [] ⌝ }
+{
+    Read::Refused(Fault { refusal, at })
 }
 
 fn has_authority(s: &[u8]) -> bool
@@ -106,15 +115,15 @@ fn kind_of(s: &[u8]) -> Kind
 // The refusals from the label's length on.
 fn read_length(s: &[u8], kind: Kind) -> Read
     requires { ⌜ labelSize ≤ length (now s) ⌝ }
-    ensures { λ r. ⌜ wordsOf r ≡ answered (lengthRows kind (now (s .entry)) ++ headerRows kind (now (s .entry)) ++ dataRows kind (now (s .entry))) (recordWords kind (now (s .entry))) ⌝ }
+    ensures { λ r. ⌜ wordsOf r ≡ answered (lengthRules kind (now (s .entry)) ++ headerRules kind (now (s .entry)) ++ dataRules kind (now (s .entry))) (recordWords kind (now (s .entry))) ⌝ }
 {
     let after = label_length(s);
     if !length_in_range(after, kind) {
-        return Read::Refused(Refusal::LabelLength);
+        return refused(Refusal::LabelLength, LENGTH_AT);
     }
     let size = LABEL + after as usize;
     if s.len() < size {
-        return Read::Refused(Refusal::Truncated);
+        return refused(Refusal::Truncated, s.len());
     }
     read_blocks(s, kind, size)
 }
@@ -138,25 +147,28 @@ fn length_in_range(after: u64, kind: Kind) -> bool
 // The refusals from the aggregation's label on, of a record that is `size` bytes long and lent whole.
 fn read_blocks(s: &[u8], kind: Kind, size: usize) -> Read
     requires { ⌜ (size ≡ recordLength (now s)) × (dataValueAt kind ≤ size) × (size ≤ length (now s)) ⌝ }
-    ensures { λ r. ⌜ wordsOf r ≡ answered (headerRows kind (now (s .entry)) ++ dataRows kind (now (s .entry))) (recordWords kind (now (s .entry))) ⌝ }
+    ensures { λ r. ⌜ wordsOf r ≡ answered (headerRules kind (now (s .entry)) ++ dataRules kind (now (s .entry))) (recordWords kind (now (s .entry))) ⌝ }
 {
-    if !has_aggregation(s, kind) {
-        return Read::Refused(Refusal::AggregationLabel);
+    let aggregation = judge_aggregation(s, kind);
+    if let Checked::Wrong(at) = aggregation {
+        return refused(Refusal::AggregationLabel, at);
     }
-    if !has_primary(s) {
-        return Read::Refused(Refusal::PrimaryLabel);
+    let primary = judge_primary(s);
+    if let Checked::Wrong(at) = primary {
+        return refused(Refusal::PrimaryLabel, at);
     }
-    if !has_secondary(s, kind) {
-        return Read::Refused(Refusal::SecondaryLabel);
+    let secondary = judge_secondary(s, kind);
+    if let Checked::Wrong(at) = secondary {
+        return refused(Refusal::SecondaryLabel, at);
     }
     read_data(s, kind, size)
 }
 
-fn has_aggregation(s: &[u8], kind: Kind) -> bool
+fn judge_aggregation(s: &[u8], kind: Kind) -> Checked
     requires { ⌜ dataValueAt kind ≤ length (now s) ⌝ }
-    ensures { λ r. ⌜ r ≡ isBlock (now (s .entry)) aggregationAt aggregationType (aggregationLength kind) ⌝ }
+    ensures { λ r. ⌜ r ≡ checked (typeAndLength (now (s .entry)) aggregationAt aggregationType (aggregationLength kind)) ⌝ }
 {
-    is_block(
+    judge_label(
         s,
         AGGREGATION_AT,
         AGGREGATION_TYPE,
@@ -164,18 +176,18 @@ fn has_aggregation(s: &[u8], kind: Kind) -> bool
     )
 }
 
-fn has_primary(s: &[u8]) -> bool
+fn judge_primary(s: &[u8]) -> Checked
     requires { ⌜ secondaryAt ≤ length (now s) ⌝ }
-    ensures { λ r. ⌜ r ≡ isBlock (now (s .entry)) primaryAt primaryType primaryLength ⌝ }
+    ensures { λ r. ⌜ r ≡ checked (typeAndLength (now (s .entry)) primaryAt primaryType primaryLength) ⌝ }
 {
-    is_block(s, PRIMARY_AT, PRIMARY_TYPE, PRIMARY_LENGTH)
+    judge_label(s, PRIMARY_AT, PRIMARY_TYPE, PRIMARY_LENGTH)
 }
 
-fn has_secondary(s: &[u8], kind: Kind) -> bool
+fn judge_secondary(s: &[u8], kind: Kind) -> Checked
     requires { ⌜ dataValueAt kind ≤ length (now s) ⌝ }
-    ensures { λ r. ⌜ r ≡ isBlock (now (s .entry)) secondaryAt (secondaryType kind) (secondaryLength kind) ⌝ }
+    ensures { λ r. ⌜ r ≡ checked (typeAndLength (now (s .entry)) secondaryAt (secondaryType kind) (secondaryLength kind)) ⌝ }
 {
-    is_block(
+    judge_label(
         s,
         SECONDARY_AT,
         secondary_type(kind),
@@ -183,14 +195,18 @@ fn has_secondary(s: &[u8], kind: Kind) -> bool
     )
 }
 
-// Whether the block at an offset has that type and that length.
-fn is_block(s: &[u8], at: usize, class: u64, size: u64) -> bool
+// The first field of the label of the block at an offset that is not this type and this length.
+fn judge_label(s: &[u8], at: usize, class: u64, size: u64) -> Checked
     requires { ⌜ at + blockLabelSize ≤ length (now s) ⌝ }
-    ensures { λ r. ⌜ r ≡ isBlock (now (s .entry)) at class size ⌝ }
+    ensures { λ r. ⌜ r ≡ checked (typeAndLength (now (s .entry)) at class size) ⌝ }
 {
-    let same_class = read_be(s, at, WORD) == class;
-    let same_size = block_length(s, at) == size;
-    same_class & same_size
+    if read_be(s, at, WORD) != class {
+        return Checked::Wrong(at);
+    }
+    if block_length(s, at) != size {
+        return Checked::Wrong(at + WORD);
+    }
+    Checked::Right
 }
 
 fn block_length(s: &[u8], at: usize) -> u64
@@ -204,13 +220,13 @@ fn block_length(s: &[u8], at: usize) -> u64
 // The refusals from the data block's label on, and the record where there is none.
 fn read_data(s: &[u8], kind: Kind, size: usize) -> Read
     requires { ⌜ (size ≡ recordLength (now s)) × (dataValueAt kind ≤ size) × (size ≤ length (now s)) ⌝ }
-    ensures { λ r. ⌜ wordsOf r ≡ answered (dataRows kind (now (s .entry))) (recordWords kind (now (s .entry))) ⌝ }
+    ensures { λ r. ⌜ wordsOf r ≡ answered (dataRules kind (now (s .entry))) (recordWords kind (now (s .entry))) ⌝ }
 {
     if !has_data_type(s, kind) {
-        return Read::Refused(Refusal::DataType);
+        return refused(Refusal::DataType, data_at(kind));
     }
     if !has_data_length(s, kind, size) {
-        return Read::Refused(Refusal::DataLength);
+        return refused(Refusal::DataLength, data_at(kind) + WORD);
     }
     let primary = read_primary(s);
     Read::Record {

@@ -14,23 +14,22 @@ use Rattle.octets.proofs.Laws.{Bytes, length-part}
 use Rattle.octets.proofs.Parts.{bytes-number, part-join, part-whole, same-part}
 use Rattle.sfdu.specs.declared.Primary.{Primary}
 use Rattle.sfdu.specs.Nesting.{authority, control, kindBytes, authorityAt, controlAt, kindAt, tagSize, lengthAt, lengthSize, labelSize, wordSize, blockLabelSize, aggregationAt, primaryAt, primaryValueAt, secondaryAt, secondaryValueAt, dataAt, dataValueAt, aggregationLength, primaryLength, secondaryLength, aggregationType, primaryType, secondaryType, dataType}
-use Rattle.sfdu.specs.Read.{primaryWords, primaryOf, hasKind, kindOf, labelLength, recordLength, blockType, blockLength, isBlock}
+use Rattle.sfdu.specs.Read.{primaryWords, primaryOf, hasKind, kindOf, labelLength, recordLength, blockType, blockLength}
 use Rattle.sfdu_write.specs.Write.{labelBytes, block, primaryBlock, headBytes, recordBytes}
 use Rattle.sfdu.proofs.Placed.{placed}
 use Rattle.sfdu_write.proofs.Written.{length-kind}
-use Rattle.sfdu.proofs.Accepted.{Accepted, block-is}
+use Rattle.sfdu.proofs.Accepted.{Accepted, IsBlock}
 
 -- A tag of four bytes that was compared.
 tag : (s : List ℕ) (a : ℕ) (t : List ℕ) → length t ≡ tagSize → a + tagSize ≤ length s → sameAt s a t 0 tagSize ≡ true → t ≡ part s a tagSize
 tag s a t l h e = sym (same-part s a t 0 tagSize h (omega arith) e ∙ part-whole t tagSize l)
 
 -- The label of a block that was compared.
-block-part : (s : List ℕ) (at type size : ℕ) → Bytes s → at + blockLabelSize ≤ length s → isBlock s at type size ≡ true
+block-part : (s : List ℕ) (at type size : ℕ) → Bytes s → at + blockLabelSize ≤ length s → IsBlock s at type size
     → block type size ≡ part s at blockLabelSize
 unfolding block blockType blockLength
 block-part s at type size b h e =
-    let p = block-is s at type size e in
-    rw (← p .0, ← p .1, bytes-number s at wordSize b (omega arith), bytes-number s (at + wordSize) wordSize b (omega arith))
+    rw (← e .class, ← e .size-is, bytes-number s at wordSize b (omega arith), bytes-number s (at + wordSize) wordSize b (omega arith))
     (part-join s at wordSize (at + wordSize) wordSize blockLabelSize refl refl)
 
 -- The four primary values are the part where they stand.
@@ -87,12 +86,11 @@ module _ (s : List ℕ) (b : Bytes s) (f : Accepted s) where
   -- The data's label, by its type and the length of what stands behind it.
   data-label : (value : List ℕ) → length value ≡ recordLength s - dataValueAt (kindOf s)
       → block dataType (length value) ≡ part s (dataAt (kindOf s)) blockLabelSize
-  unfolding isBlock
   data-label value e =
       let k = placed (kindOf s) in
       let whole : dataValueAt (kindOf s) ≤ length s = omega (arith, f .whole, f .size, f .least) in
       block-part s (dataAt (kindOf s)) dataType (length value) b (omega arith)
-      (rw (eq-eqb _ _ (f .data-type), eq-eqb _ _ (f .data-length ∙ sym e)))
+      record { class = f .data-type; size-is = f .data-length ∙ sym e }
 
   pub record-part : (p : Primary) → primaryWords p ≡ primaryOf s
       → recordBytes (kindOf s) p (part s secondaryValueAt (secondaryLength (kindOf s))) (part s (dataValueAt (kindOf s)) (recordLength s - dataValueAt (kindOf s)))

@@ -5,9 +5,9 @@ use mathlib.Core.Bool.{Bool, true, false, not, _||_}
 use mathlib.Core.List.{List, [], _∷_, _++_, append-assoc}
 use mathlib.Core.Path.{_≡_, refl, sym, ap, _∙_}
 use borrow.Author.Tests.{eq-eqb, le-leb, le-ltb}
-use lib.Dec.{lit<, lit≤}
+use lib.Dec.{eqb, lit<, lit≤}
 use lib.ListN.{length, getD, length-append}
-use Rattle.refusals.proofs.Judged.{NoneHolds, none-verdict}
+use Rattle.refusals.proofs.Judged.{NoneHolds, none-applies}
 use Rattle.octets.specs.Octets.{numberAt, bytesOf, part, sameAt}
 use Rattle.octets.proofs.Laws.{length-bytesOf, part-at}
 use Rattle.octets.proofs.Parts.{number-first, number-second, number-bytes, part-first, part-second, part-whole, part-same, same-part}
@@ -46,11 +46,11 @@ use Rattle.sfdu.specs.Nesting.{
   leastLabelLength,
   mostLabelLength,
 }
-use Rattle.sfdu.specs.Read.{primaryWords, primaryOf, hasKind, kindOf, labelLength, recordLength, blockType, blockLength, lengthInRange, isBlock, readRows, accepts, readOne, secondaryPart, dataPart}
+use Rattle.sfdu.specs.Read.{primaryWords, primaryOf, hasKind, kindOf, labelLength, recordLength, blockType, blockLength, lengthInRange, readRules, accepts, readOne, secondaryPart, dataPart}
 use Rattle.sfdu_write.specs.Write.{labelBytes, block, primaryBlock, headBytes, recordBytes, sizeOf}
 use Rattle.sfdu.proofs.Placed.{placed}
 use Rattle.sfdu_write.proofs.Written.{length-kind, length-label, length-block, length-primary, length-head, length-record}
-use Rattle.sfdu.proofs.Accepted.{block-is, accepted-words}
+use Rattle.sfdu.proofs.Accepted.{IsBlock, accepted-words}
 
 -- ---- a piece between others
 
@@ -71,8 +71,8 @@ piece-number before after a w x e h =
 
 -- the label of a block
 piece-block : (before after : List ℕ) (a type size : ℕ) → length before ≡ a → type < 65536 → size < 65536
-    → isBlock (before ++ (block type size ++ after)) a type size ≡ true
-unfolding isBlock blockType blockLength block
+    → IsBlock (before ++ (block type size ++ after)) a type size
+unfolding blockType blockLength block
 piece-block before after a type size e t s =
     let one : numberAt (before ++ (block type size ++ after)) a wordSize ≡ type =
     rw append-assoc (piece-number before (bytesOf wordSize size ++ after) a wordSize type e t) in
@@ -80,7 +80,7 @@ piece-block before after a type size e t s =
     rw (append-assoc (bytesOf wordSize type) (bytesOf wordSize size) after, ← append-assoc before (bytesOf wordSize type))
     (piece-number (before ++ bytesOf wordSize type) after (a + wordSize) wordSize size
     (length-append before (bytesOf wordSize type) ∙ omega (arith, length-bytesOf wordSize type)) s) in
-    rw (eq-eqb _ _ one, eq-eqb _ _ two)
+    record { class = one; size-is = two }
 
 -- No slice has both kinds.
 kind-apart : (s : List ℕ) → labelSize ≤ length s → hasKind Rsr s ≡ true → hasKind Telemetry s ≡ false
@@ -183,7 +183,7 @@ module _ (k : Kind) (p : Primary) (secondary value rest : List ℕ) (hs : length
   unfolding label aggregation
   length-pre = simp (length-append, length-label, length-block) refl
 
-  has-aggregation : isBlock slice aggregationAt aggregationType (aggregationLength k) ≡ true
+  has-aggregation : IsBlock slice aggregationAt aggregationType (aggregationLength k)
   unfolding blocks aggregation label
   has-aggregation =
       let q = placed k in
@@ -193,7 +193,7 @@ module _ (k : Kind) (p : Primary) (secondary value rest : List ℕ) (hs : length
   unfolding blocks primaryBlock
   by-primary = by-label ∙ simp append-assoc
 
-  has-primary : isBlock slice primaryAt primaryType primaryLength ≡ true
+  has-primary : IsBlock slice primaryAt primaryType primaryLength
   has-primary = rw by-primary (piece-block (label ++ aggregation) _ primaryAt primaryType primaryLength length-pre (lit< tt) (lit< tt))
 
   primary-value : part slice primaryValueAt primaryLength ≡ primaryWords p
@@ -206,7 +206,7 @@ module _ (k : Kind) (p : Primary) (secondary value rest : List ℕ) (hs : length
   unfolding blocks
   by-secondary = by-label ∙ simp append-assoc
 
-  has-secondary : isBlock slice secondaryAt (secondaryType k) (secondaryLength k) ≡ true
+  has-secondary : IsBlock slice secondaryAt (secondaryType k) (secondaryLength k)
   has-secondary =
       let q = placed k in
       rw by-secondary
@@ -225,7 +225,7 @@ module _ (k : Kind) (p : Primary) (secondary value rest : List ℕ) (hs : length
   unfolding head
   length-front = let q = placed k in simp (length-append, length-head) (omega arith)
 
-  has-data : isBlock slice (dataAt k) dataType (length value) ≡ true
+  has-data : IsBlock slice (dataAt k) dataType (length value)
   has-data = rw by-data (piece-block (head ++ secondary) _ (dataAt k) dataType (length value) length-front (lit< tt) (omega arith))
 
   data-value : part slice (dataValueAt k) (length value) ≡ value
@@ -239,13 +239,13 @@ module _ (k : Kind) (p : Primary) (secondary value rest : List ℕ) (hs : length
   kind-found = let q = placed k in kind-of k slice (omega (arith, long)) has-kind
 
   data-length : blockLength slice (dataAt k) ≡ recordLength slice - dataValueAt k
-  data-length = block-is slice (dataAt k) dataType (length value) has-data .1 ∙ omega (arith, record-length)
+  data-length = has-data .size-is ∙ omega (arith, record-length)
 
-  none-holds : NoneHolds (readRows slice)
+  none-holds : NoneHolds (readRules slice)
   none-holds =
       let q = placed k in
       let n = record-length in
-      let type : blockType slice (dataAt k) ≡ dataType = block-is slice (dataAt k) dataType (length value) has-data .0 in (
+      let type : blockType slice (dataAt k) ≡ dataType = has-data .class in (
         le-ltb (length slice) labelSize (omega (arith, long)),
         (
           ap not has-authority,
@@ -258,10 +258,19 @@ module _ (k : Kind) (p : Primary) (secondary value rest : List ℕ) (hs : length
                 (
                   le-ltb (length slice) (recordLength slice) (omega (arith, long)),
                   (
-                    ap not has-aggregation,
+                    is (has-aggregation .class),
                     (
-                      ap not has-primary,
-                      (ap not has-secondary, (ap not (eq-eqb _ _ type), (ap not (eq-eqb _ _ data-length), tt))),
+                      is (has-aggregation .size-is),
+                      (
+                        is (has-primary .class),
+                        (
+                          is (has-primary .size-is),
+                          (
+                            is (has-secondary .class),
+                            (is (has-secondary .size-is), (is type, (is data-length, tt))),
+                          ),
+                        ),
+                      ),
                     ),
                   ),
                 ),
@@ -270,10 +279,13 @@ module _ (k : Kind) (p : Primary) (secondary value rest : List ℕ) (hs : length
           ),
         ),
       )
+    where
+      is : {x y : ℕ} → x ≡ y → not (eqb x y) ≡ false
+      is e = ap not (eq-eqb _ _ e)
 
   written-accepted : accepts slice ≡ true
   unfolding accepts
-  written-accepted = eq-eqb _ _ (none-verdict (readRows slice) none-holds)
+  written-accepted = none-applies (readRules slice) none-holds
 
   primary-byte : (i : ℕ) → i < primaryLength → getD slice (primaryValueAt + i) 0 ≡ getD (primaryWords p) i 0
   primary-byte i h = sym (part-at slice primaryValueAt primaryLength i h) ∙ ap (λ (x : List ℕ). getD x i 0) primary-value

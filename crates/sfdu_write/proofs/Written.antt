@@ -6,7 +6,7 @@ use mathlib.Core.List.{List, [], _∷_}
 use mathlib.Core.Path.{_≡_, refl}
 use lib.ListN.{length, length-append}
 use borrow.Author.Tests.{lt-ltb, le-ltb, ne-eqb, eqb-true, leb-true}
-use Rattle.refusals.specs.Judge.{verdict}
+use Rattle.refusals.specs.Judge.{judge}
 use Rattle.octets.specs.Octets.{put}
 use Rattle.octets.proofs.Laws.{length-bytesOf, and-split}
 use Rattle.octets.proofs.Puts.{put-start}
@@ -63,22 +63,22 @@ lengths k secondary value e = let p = and-split _ _ e in (eqb-true _ _ (p .0), l
 
 module _ (k : Kind) (p : Primary) (secondary value out : List ℕ) where
   pub input-refused : isInput k secondary value ≡ false → writeOne (kindNumber k) p secondary value out ≡ (14 ∷ [], out)
-  unfolding writeOne verdict
+  unfolding writeOne judge
   input-refused e = rw (kind-named k, is-kind k, e)
 
   pub space-refused : isInput k secondary value ≡ true → length out < sizeOf k value
       → writeOne (kindNumber k) p secondary value out ≡ (13 ∷ [], out)
-  unfolding writeOne verdict
+  unfolding writeOne judge
   space-refused e h = rw (kind-named k, is-kind k, e, lt-ltb _ _ h)
 
   pub written : isInput k secondary value ≡ true → sizeOf k value ≤ length out
       → writeOne (kindNumber k) p secondary value out ≡ (0 ∷ sizeOf k value ∷ [], put out 0 (recordBytes k p secondary value))
-  unfolding writeOne verdict
+  unfolding writeOne judge
   written e h =
       rw (kind-named k, is-kind k, e, le-ltb _ _ h, put-start, length-record k p secondary value (lengths k secondary value e .0))
 
 -- A number that names neither kind.
 pub kind-refused : (number : ℕ) (p : Primary) (secondary value out : List ℕ) → (number ≡ kindNumber Telemetry → ⊥) → (number ≡ kindNumber Rsr → ⊥)
     → writeOne number p secondary value out ≡ (14 ∷ [], out)
-unfolding writeOne verdict isKind
+unfolding writeOne judge isKind
 kind-refused number p secondary value out a b = rw (ne-eqb _ _ a, ne-eqb _ _ b)

@@ -2,45 +2,23 @@
 use Prim.Native.Nat.{ℕ, zero, suc, _+_, _≤_}
 use native.Mathlib.Nat.{min-eq-left, le-refl}
 use native.Mathlib.Omega.{arith}
-use mathlib.Core.Bool.{Bool, true, false}
+use mathlib.Core.Bool.{Bool, true, false, false≢true}
 use mathlib.Core.List.{List, [], _∷_, map, map-append}
 use mathlib.Core.Logic.{_⊎_, inl, inr}
 use mathlib.Core.Path.{_≡_, refl, sym, ap, _∙_}
-use lib.Dec.{eqb, leb}
+use lib.Dec.{leb}
 use lib.ListN.{length, drop, length-map}
 use borrow.Author.Tests.{leb-true, leb-false}
-use Rattle.refusals.specs.Judge.{Row, _when_, verdict}
-use Rattle.sfdu.specs.Read.{readRows, accepts, readOne}
-use Rattle.sfdu.proofs.Accepted.{words-refused}
+use Rattle.sfdu.specs.Read.{inStream, accepts, readOne}
+use Rattle.sfdu.proofs.Accepted.{Reads, accepted-one, refused-one, reads}
 use Rattle.stream.specs.declared.Entry.{Entry}
-use Rattle.stream.specs.Walk.{whole, past, refusal}
+use Rattle.stream.specs.Walk.{whole, past, full, refusal}
 use Rattle.stream.specs.Listing.{Listing, entryAt, stopped, prepend, listing, walkFrom, walked, answer, fills, shortest, fillsColumns, listNumbers, listEntries}
 use Rattle.stream.specs.Laws.{BackToBack, StopsAtEnd, StopsRefused, Full, EveryWalk, EmptyWalk, EveryList, columnsOf, SameInBothLayouts}
 use Rattle.stream.proofs.Places.{whole-record, none-at-end, refused-by}
 use Rattle.stream.proofs.Listings.{lists, lists-none, lists-full, stops as walk-stops}
 
--- ---- a number that no row has is never given
-
-abbrev Avoids : ℕ → List Row → Type 0
-Avoids k [] = Unit {0}
-Avoids k ((n when c) ∷ rows) = (eqb n k ≡ false) × Avoids k rows
-
-never-given : (k : ℕ) (rows : List Row) → eqb 0 k ≡ false → Avoids k rows → eqb (verdict rows) k ≡ false
-unfolding verdict
-never-given k [] z a = z
-never-given k ((n when true) ∷ rows) z a = a .0
-never-given k ((n when false) ∷ rows) z a = never-given k rows z (a .1)
-
--- Read one gives no 16.
-no-16 : (s : List ℕ) → eqb (verdict (readRows s)) 16 ≡ false
-no-16 s = never-given 16 (readRows s) refl (refl, (refl, (refl, (refl, (refl, (refl, (refl, (refl, (refl, (refl, (refl, tt)))))))))))
-
 -- ---- where no record is found
-
--- Read one's answer to a slice that it does not accept.
-refused-words : (s : List ℕ) → accepts s ≡ false → readOne s ≡ verdict (readRows s) ∷ []
-unfolding readOne accepts
-refused-words s e = rw e
 
 stops-there : (s : List ℕ) (at : ℕ) → at ≤ length s → whole s at ≡ false
     → StopsAtEnd s (stopped at (refusal s at)) ⊎ StopsRefused s (stopped at (refusal s at))
@@ -49,7 +27,7 @@ stops-there s at h e = by (leb (length s) at) refl
   where
     by : (b : Bool) → leb (length s) at ≡ b → StopsAtEnd s (stopped at (refusal s at)) ⊎ StopsRefused s (stopped at (refusal s at))
     by true t = let l = leb-true (length s) at t in inl (omega arith, rw t)
-    by false t = inr (leb-false (length s) at t, rw t (refused-words (drop at s) e))
+    by false t = inr (leb-false (length s) at t, e, rw t (refused-by (inStream at) (drop at s) full e))
 
 -- ---- every listing
 
@@ -57,7 +35,7 @@ record From (s : List ℕ) (free at : ℕ) (l : Listing) : Type 0 where
   within : l .stop ≤ length s
   fits : length (l .entries) ≤ free
   records : BackToBack s at (l .entries) (l .stop)
-  stops : StopsAtEnd s l ⊎ (StopsRefused s l ⊎ (Full s free l × (l .number ≡ 16)))
+  stops : StopsAtEnd s l ⊎ (StopsRefused s l ⊎ (Full s free l × (l .why ≡ full)))
 
 -- with a record before it
 extends : (s : List ℕ) (free at : ℕ) (l : Listing) → whole s at ≡ true → From s free (past s at) l
@@ -69,8 +47,8 @@ extends s free at l e f = record {
   stops = by (f .stops);
 }
   where
-    by : StopsAtEnd s l ⊎ (StopsRefused s l ⊎ (Full s free l × (l .number ≡ 16)))
-        → StopsAtEnd s l ⊎ (StopsRefused s l ⊎ (Full s (suc free) (prepend (entryAt s at ∷ []) l) × (l .number ≡ 16)))
+    by : StopsAtEnd s l ⊎ (StopsRefused s l ⊎ (Full s free l × (l .why ≡ full)))
+        → StopsAtEnd s l ⊎ (StopsRefused s l ⊎ (Full s (suc free) (prepend (entryAt s at ∷ []) l) × (l .why ≡ full)))
     by (inl x) = inl x
     by (inr (inl x)) = inr (inl x)
     by (inr (inr x)) = inr (inr ((x .0 .0, ap suc (x .0 .1)), x .1))
@@ -79,7 +57,7 @@ none-found : (s : List ℕ) (free at : ℕ) → at ≤ length s → whole s at �
 none-found s free at h e = record { within = h; fits = omega arith; records = refl; stops = by (stops-there s at h e) }
   where
     by : StopsAtEnd s (stopped at (refusal s at)) ⊎ StopsRefused s (stopped at (refusal s at))
-        → StopsAtEnd s (stopped at (refusal s at)) ⊎ (StopsRefused s (stopped at (refusal s at)) ⊎ (Full s free (stopped at (refusal s at)) × (refusal s at ≡ 16)))
+        → StopsAtEnd s (stopped at (refusal s at)) ⊎ (StopsRefused s (stopped at (refusal s at)) ⊎ (Full s free (stopped at (refusal s at)) × (refusal s at ≡ full)))
     by (inl x) = inl x
     by (inr x) = inr (inl x)
 
@@ -97,35 +75,36 @@ from (suc free) s at h = by (whole s at) refl (λ e. from free s (past s at) (wh
 
 -- ---- lists
 
--- No whole record stands where read one refuses.
-not-whole : (s : List ℕ) (at n : ℕ) → readOne (drop at s) ≡ n ∷ [] → whole s at ≡ false
-unfolding whole
-not-whole s at n e = words-refused (drop at s) n e
+-- Read one gives no 16.
+no-16 : (s : List ℕ) (at : ℕ) (rest : List ℕ) → accepts s ≡ false → inStream at (readOne s) ≡ 16 ∷ rest → ⊥
+unfolding inStream
+no-16 s at rest e h = by (reads s)
+  where
+    by : Reads s → ⊥
+    by (accepted-one a) = false≢true (sym e ∙ a)
+    by (refused-one r) = let z : r .number ≡ 16 = cc (rw (r .words) at h) in omega (arith, r .small)
 
 pub list-right : EveryList
+unfolding whole
 list-right size s =
     let f = from size s 0 (omega arith) in
-    record { within = f .within; fits = f .fits; records = f .records; stops = f .stops; full-told = told (f .stops); told-full = full (f .stops) }
+    record { within = f .within; fits = f .fits; records = f .records; stops = f .stops; full-told = told (f .stops); told-full = full-there (f .stops) }
   where
     l : Listing
     l = listing size s 0
 
-    told : StopsAtEnd s l ⊎ (StopsRefused s l ⊎ (Full s size l × (l .number ≡ 16))) → l .number ≡ 16 → Full s size l
-    told (inl x) e = absurd (omega (arith, x .1, e))
-    told (inr (inl x)) e =
-        let v : verdict (readRows (drop (l .stop) s)) ≡ 16 = refused-by (drop (l .stop) s) (l .number) (sym (x .1)) ∙ e in
-        let n = rw v at (no-16 (drop (l .stop) s)) in
-        let z : _≡_ {A = ℕ} 0 1 = cc in
-        absurd (omega arith)
+    none-full : (at : ℕ) → whole s at ≡ false → inStream at (readOne (drop at s)) ≡ full → ⊥
+    none-full at e h = no-16 (drop at s) at _ e h
+
+    told : StopsAtEnd s l ⊎ (StopsRefused s l ⊎ (Full s size l × (l .why ≡ full))) → l .why ≡ full → Full s size l
+    told (inl x) e = let z : _≡_ {A = ℕ} 0 16 = cc (x .1, e) in absurd (omega arith)
+    told (inr (inl x)) e = absurd (none-full (l .stop) (x .1) (sym (x .2) ∙ e))
     told (inr (inr x)) e = x .0
 
-    full : StopsAtEnd s l ⊎ (StopsRefused s l ⊎ (Full s size l × (l .number ≡ 16))) → whole s (l .stop) ≡ true → l .number ≡ 16
-    full (inl x) e = let w = whole-record s (l .stop) e in absurd (omega (arith, x .0))
-    full (inr (inl x)) e =
-        let n = not-whole s (l .stop) (l .number) (x .1) in
-        let z : _≡_ {A = ℕ} 0 1 = cc in
-        absurd (omega arith)
-    full (inr (inr x)) e = x .1
+    full-there : StopsAtEnd s l ⊎ (StopsRefused s l ⊎ (Full s size l × (l .why ≡ full))) → whole s (l .stop) ≡ true → l .why ≡ full
+    full-there (inl x) e = let w = whole-record s (l .stop) e in absurd (omega (arith, x .0))
+    full-there (inr (inl x)) e = absurd (false≢true (sym (x .1) ∙ e))
+    full-there (inr (inr x)) e = x .1
 
 -- ---- walks
 
@@ -145,7 +124,7 @@ walk-right s =
     l : Listing
     l = listing (length s) s 0
 
-    by : BackToBack s 0 (l .entries) (l .stop) → StopsAtEnd s l ⊎ (StopsRefused s l ⊎ (Full s (length s) l × (l .number ≡ 16))) → StopsAtEnd s l ⊎ StopsRefused s l
+    by : BackToBack s 0 (l .entries) (l .stop) → StopsAtEnd s l ⊎ (StopsRefused s l ⊎ (Full s (length s) l × (l .why ≡ full))) → StopsAtEnd s l ⊎ StopsRefused s l
     by b (inl x) = inl x
     by b (inr (inl x)) = inr x
     by b (inr (inr x)) = let w = whole-record s (l .stop) (x .0 .0) in absurd (omega (arith, taken s 0 (l .entries) (l .stop) b, x .0 .1))

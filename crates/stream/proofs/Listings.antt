@@ -5,7 +5,7 @@ use mathlib.Core.Bool.{Bool, true, false}
 use mathlib.Core.List.{List, [], _∷_}
 use mathlib.Core.Path.{_≡_, refl, sym, ap, _∙_}
 use lib.ListN.{length}
-use Rattle.stream.specs.Walk.{whole, past, refusal}
+use Rattle.stream.specs.Walk.{whole, past, full, refusal}
 use Rattle.stream.specs.Listing.{entryAt, stopped, prepend, listing, walkFrom}
 use Rattle.stream.proofs.Places.{whole-record, none-at-end}
 
@@ -21,7 +21,7 @@ unfolding listing
 lists-none zero s at e = rw e
 lists-none (suc free) s at e = rw e
 
-pub lists-full : (s : List ℕ) (at : ℕ) → whole s at ≡ true → listing 0 s at ≡ stopped at 16
+pub lists-full : (s : List ℕ) (at : ℕ) → whole s at ≡ true → listing 0 s at ≡ stopped at full
 unfolding listing
 lists-full s at e = rw e
 

@@ -12,7 +12,7 @@ use Rattle.stream.proofs.Listings.{goes-on, stops}
 
 -- The answer of a listing before which `count` records were passed.
 abbrev counted : ℕ → Listing → List ℕ
-counted count l = (count + length (l .entries)) ∷ l .stop ∷ l .number ∷ []
+counted count l = (count + length (l .entries)) ∷ l .stop ∷ l .why
 
 pub record Passed (s : List ℕ) (at count : ℕ) : Type 0 where
   pub rest : walked s ≡ counted count (walkFrom s at)
@@ -23,7 +23,7 @@ pub begins : (s : List ℕ) → Passed s 0 0
 unfolding walked
 begins s =
     let z : length (walkFrom s 0 .entries) ≡ 0 + length (walkFrom s 0 .entries) = omega arith in
-    record { rest = ap (λ (n : ℕ). n ∷ walkFrom s 0 .stop ∷ walkFrom s 0 .number ∷ []) z; few = omega arith; within = omega arith }
+    record { rest = ap (λ (n : ℕ). n ∷ walkFrom s 0 .stop ∷ walkFrom s 0 .why) z; few = omega arith; within = omega arith }
 
 module _ (s : List ℕ) (at count : ℕ) (p : Passed s at count) where
   pub passes : whole s at ≡ true → Passed s (past s at) (count + 1)
@@ -31,13 +31,13 @@ module _ (s : List ℕ) (at count : ℕ) (p : Passed s at count) where
       let w = whole-record s at e in
       let l = walkFrom s (past s at) in
       record {
-        rest = p .rest ∙ ap (counted count) (goes-on s at e) ∙ ap (λ (n : ℕ). n ∷ l .stop ∷ l .number ∷ []) (omega arith);
+        rest = p .rest ∙ ap (counted count) (goes-on s at e) ∙ ap (λ (n : ℕ). n ∷ l .stop ∷ l .why) (omega arith);
         few = omega arith;
         within = w .within;
       }
 
-  pub finished : (why : ℕ) → whole s at ≡ false → refusal s at ≡ why → count ∷ at ∷ why ∷ [] ≡ walked s
+  pub finished : (why : List ℕ) → whole s at ≡ false → refusal s at ≡ why → count ∷ at ∷ why ≡ walked s
   finished why e q =
       let z : count + 0 ≡ count = omega arith in
       let l : walkFrom s at ≡ stopped at why = stops s at e ∙ ap (stopped at) q in
-      sym (p .rest ∙ ap (counted count) l ∙ ap (λ (n : ℕ). n ∷ at ∷ why ∷ []) z)
+      sym (p .rest ∙ ap (counted count) l ∙ ap (λ (n : ℕ). n ∷ at ∷ why) z)

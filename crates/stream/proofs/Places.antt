@@ -1,20 +1,22 @@
 -- A place in a stream: what is known where a whole record stands, and where none does. Assumes nothing.
 use Prim.Native.Nat.{ℕ, _+_, _-_, _≤_, _<_}
 use native.Mathlib.Omega.{arith}
-use mathlib.Core.Bool.{Bool, true, false}
+use mathlib.Core.Bool.{Bool, true, false, false≢true}
 use mathlib.Core.List.{List, [], _∷_}
-use mathlib.Core.Path.{_≡_, refl, sym, ap}
-use lib.Dec.{eqb, leb}
+use mathlib.Core.Path.{_≡_, refl, sym, ap, _∙_}
+use lib.Dec.{leb}
 use lib.ListN.{length, take, drop, length-drop}
 use lib.Seq.{take-length}
-use borrow.Author.Tests.{le-leb, lt-leb, leb-true}
-use Rattle.refusals.specs.Judge.{verdict}
+use borrow.Author.Tests.{le-leb, lt-leb, leb-true, leb-false}
+use Rattle.refusals.specs.Judge.{judge}
+use Rattle.refusals.proofs.Judged.{Outcome, none, first, outcome, none-judge, first-judge}
 use Rattle.sfdu.specs.declared.Kind.{Kind}
 use Rattle.sfdu.specs.Nesting.{kindNumber, dataValueAt}
-use Rattle.sfdu.specs.Read.{kindOf, readRows, recordWords, readOne}
+use Rattle.sfdu.specs.Read.{kindOf, readRules, inStream, accepts, recordWords, readOne}
 use Rattle.sfdu.proofs.Placed.{placed}
-use Rattle.sfdu.proofs.Accepted.{accepted, found, words-refused}
-use Rattle.stream.specs.Walk.{whole, past, refusal, step}
+use Rattle.sfdu.proofs.Accepted.{accepted, found, words-refused, accepted-words, Reads, accepted-one, refused-one, reads}
+use Rattle.sfdu.proofs.Within.{second-inside}
+use Rattle.stream.specs.Walk.{atEnd, whole, past, full, refusal, step}
 use Rattle.stream.specs.Turn.{RecordAt}
 
 -- Where a whole record stands, the place past it lies further on, and within the stream.
@@ -61,20 +63,20 @@ pub step-found : (s : List ℕ) (at : ℕ) (k : Kind) (n : ℕ) (rest : List ℕ
 unfolding step whole past
 step-found s at k n rest h e = let f = found (drop at s) k n rest e in rw (f .accepted, lt-leb (length s) at h, ← e, ← f .size)
 
-pub step-refused : (s : List ℕ) (at n : ℕ) → at < length s → n ∷ [] ≡ readOne (drop at s) → step s at ≡ at ∷ n ∷ []
+pub step-refused : (s : List ℕ) (at n m : ℕ) → at < length s → n ∷ m ∷ [] ≡ readOne (drop at s) → step s at ≡ at ∷ n ∷ m ∷ []
 unfolding step whole
-step-refused s at n h e = rw (words-refused (drop at s) n (sym e), lt-leb (length s) at h, ← e)
+step-refused s at n m h e = rw (words-refused (drop at s) n m (sym e), lt-leb (length s) at h, ← e)
 
 -- ---- what a step's words say of the place
 
--- Read one's refusal is the number of the first row that holds.
-pub refused-by : (s : List ℕ) (n : ℕ) → n ∷ [] ≡ readOne s → verdict (readRows s) ≡ n
-unfolding readOne
-refused-by s n e = by (eqb (verdict (readRows s)) 0) refl
+-- Read one's refusal is what the first rule that applies gives, whatever is made of it.
+pub refused-by : (f : List ℕ → List ℕ) (s w : List ℕ) → (accepts s ≡ false) → judge f (readRules s) w ≡ f (readOne s)
+unfolding readOne accepts
+refused-by f s w e = by (outcome (readRules s))
   where
-    by : (b : Bool) → eqb (verdict (readRows s)) 0 ≡ b → verdict (readRows s) ≡ n
-    by true t = let z : n ∷ [] ≡ recordWords (kindOf s) s = rw t at e in let y : _≡_ {A = ℕ} 0 1 = cc in absurd (omega arith)
-    by false t = let z : n ∷ [] ≡ verdict (readRows s) ∷ [] = rw t at e in cc
+    by : Outcome (readRules s) → judge f (readRules s) w ≡ f (readOne s)
+    by (none h) = absurd (false≢true (sym e ∙ none-judge (λ given. false) (readRules s) true h))
+    by (first g r) = first-judge f w r ∙ sym (ap f (first-judge (λ given. given) (recordWords (kindOf s) s) r))
 
 -- A record was found.
 pub record StepFound (s : List ℕ) (at : ℕ) (k : Kind) (n next : ℕ) : Type 0 where
@@ -82,7 +84,7 @@ pub record StepFound (s : List ℕ) (at : ℕ) (k : Kind) (n next : ℕ) : Type 
   pub moved : next ≡ past s at
 
 -- None was: why not.
-pub record StepNone (s : List ℕ) (at place why : ℕ) : Type 0 where
+pub record StepNone (s : List ℕ) (at place : ℕ) (why : List ℕ) : Type 0 where
   pub none : whole s at ≡ false
   pub unmoved : place ≡ at
   pub number : refusal s at ≡ why
@@ -106,32 +108,52 @@ found-there s at k n rest next e =
 
 -- Read one's answer has a first word.
 no-words : (s : List ℕ) → [] ≡ readOne s → ⊥
-unfolding readOne
-no-words s e = by (eqb (verdict (readRows s)) 0) refl
+no-words s e = by (reads s)
   where
-    by : (b : Bool) → eqb (verdict (readRows s)) 0 ≡ b → ⊥
-    by true t = let z = rw t at e in let y : _≡_ {A = ℕ} 0 1 = cc in omega arith
-    by false t = let z = rw t at e in let y : _≡_ {A = ℕ} 0 1 = cc in omega arith
+    by : Reads s → ⊥
+    by (accepted-one a) = let y : _≡_ {A = ℕ} 0 1 = cc (accepted-words s a, e) in omega arith
+    by (refused-one r) = let y : _≡_ {A = ℕ} 0 1 = cc (r .words, e) in omega arith
 
-pub done-there : (s : List ℕ) (at place : ℕ) → place ∷ [] ≡ step s at → StepNone s at place 0
+pub done-there : (s : List ℕ) (at place : ℕ) → place ∷ [] ≡ step s at → StepNone s at place atEnd
 unfolding step refusal
 done-there s at place e = by (leb (length s) at) refl
   where
-    by : (b : Bool) → leb (length s) at ≡ b → StepNone s at place 0
+    by : (b : Bool) → leb (length s) at ≡ b → StepNone s at place atEnd
     by true t =
         let n = none-at-end s at (leb-true (length s) at t) in
         let z = rw (n, t) at e in
         record { none = n; unmoved = cc; number = rw t }
     by false t = let z = rw t at e in absurd (no-words (drop at s) (cc))
 
-pub refused-there : (s : List ℕ) (at place why : ℕ) → place ∷ why ∷ [] ≡ step s at → StepNone s at place why
-unfolding step refusal whole
-refused-there s at place why e = by (leb (length s) at) refl
+pub refused-words : (s : List ℕ) (at place n m : ℕ) → place ∷ n ∷ m ∷ [] ≡ step s at → readOne (drop at s) ≡ n ∷ m ∷ []
+unfolding step
+refused-words s at place n m e = by (leb (length s) at) refl
   where
-    by : (b : Bool) → leb (length s) at ≡ b → StepNone s at place why
+    by : (b : Bool) → leb (length s) at ≡ b → readOne (drop at s) ≡ n ∷ m ∷ []
+    by true t = let z = rw t at e in let y : _≡_ {A = ℕ} 0 1 = cc in absurd (omega arith)
+    by false t = let z = rw t at e in cc
+
+pub refused-there : (s : List ℕ) (at place n m : ℕ) → place ∷ n ∷ m ∷ [] ≡ step s at → StepNone s at place (inStream at (n ∷ m ∷ []))
+unfolding step refusal whole
+refused-there s at place n m e = by (leb (length s) at) refl
+  where
+    by : (b : Bool) → leb (length s) at ≡ b → StepNone s at place (inStream at (n ∷ m ∷ []))
     by true t = let z = rw t at e in let y : _≡_ {A = ℕ} 0 1 = cc in absurd (omega arith)
     by false t =
-        let r : why ∷ [] ≡ readOne (drop at s) = let z = rw t at e in cc in
-        let n = words-refused (drop at s) why (sym r) in
+        let r : readOne (drop at s) ≡ n ∷ m ∷ [] = refused-words s at place n m e in
+        let n = words-refused (drop at s) _ _ r in
         let z = rw n at e in
-        record { none = n; unmoved = cc; number = rw (t, refused-by (drop at s) why r) }
+        record { none = n; unmoved = cc; number = rw t (refused-by (inStream at) (drop at s) full n ∙ ap (inStream at) r) }
+
+-- The offset, counted from the stream's start, lies in the stream.
+pub offset-there : (s : List ℕ) (at place n m : ℕ) → place ∷ n ∷ m ∷ [] ≡ step s at → at + m ≤ length s
+unfolding step
+offset-there s at place n m e = by (leb (length s) at) refl
+  where
+    by : (b : Bool) → leb (length s) at ≡ b → at + m ≤ length s
+    by true t = let z = rw t at e in let y : _≡_ {A = ℕ} 0 1 = cc in absurd (omega arith)
+    by false t =
+        let h : at < length s = leb-false (length s) at t in
+        let i = second-inside (drop at s) n m (refused-words s at place n m e) in
+        let l = length-drop at s in
+        omega arith

@@ -15,7 +15,7 @@ use Rattle.headers.specs.Fields.{recordNumber}
 use Rattle.stream.specs.declared.Entry.{Entry}
 use Rattle.stream.specs.declared.Turn.{Turn}
 use Rattle.stream.specs.declared.Walked.{Walked}
-use Rattle.stream.specs.Walk.{wordsOf, whole, past, refusal}
+use Rattle.stream.specs.Walk.{wordsOf, whole, past, full, refusal}
 use Rattle.stream.specs.Listing.{Listing, entryAt, stopped, prepend, listing, answer, fills, listEntries}
 use Rattle.stream.specs.Turn.{RecordAt, TurnAt, noTurn}
 use Rattle.stream.proofs.Places.{from-there, StepNone}
@@ -40,7 +40,7 @@ module _ (s : List ℕ) (at count size : ℕ) where
     answer = λ z. let y : _≡_ {A = ℕ} 0 1 = cc in absurd (omega arith);
   }
 
-  turn-stops : (w : Walked) → whole s at && ltb count size ≡ false → wordsOf w ≡ count ∷ at ∷ cond (whole s at) 16 (refusal s at) ∷ []
+  turn-stops : (w : Walked) → whole s at && ltb count size ≡ false → wordsOf w ≡ count ∷ at ∷ cond (whole s at) full (refusal s at)
       → TurnAt s at count size (noTurn w)
   turn-stops w none words = record {
     listed = sym none;
@@ -49,10 +49,10 @@ module _ (s : List ℕ) (at count size : ℕ) where
     answer = λ _. words;
   }
 
-  pub turn-full : (w : Walked) → whole s at ≡ true → size ≤ count → wordsOf w ≡ count ∷ at ∷ 16 ∷ [] → TurnAt s at count size (noTurn w)
+  pub turn-full : (w : Walked) → whole s at ≡ true → size ≤ count → wordsOf w ≡ count ∷ at ∷ full → TurnAt s at count size (noTurn w)
   turn-full w is-whole full words = turn-stops w (rw (is-whole, le-ltb count size full)) (rw is-whole words)
 
-  pub turn-none : (w : Walked) (place why : ℕ) → StepNone s at place why → wordsOf w ≡ count ∷ at ∷ why ∷ [] → TurnAt s at count size (noTurn w)
+  pub turn-none : (w : Walked) (place : ℕ) (why : List ℕ) → StepNone s at place why → wordsOf w ≡ count ∷ at ∷ why → TurnAt s at count size (noTurn w)
   turn-none w place why n words = turn-stops w (rw (n .none)) (rw (n .none, n .number) words)
 
 -- ---- the list
@@ -94,23 +94,23 @@ module _ (s : List ℕ) (n at : ℕ) (es : List Entry) (t : Turn) (turn : TurnAt
         };
       }
 
-  stops : (free : ℕ) → Underway s n free at es → t .listed ≡ false → listing free s at ≡ stopped at (cond (whole s at) 16 (refusal s at))
+  stops : (free : ℕ) → Underway s n free at es → t .listed ≡ false → listing free s at ≡ stopped at (cond (whole s at) full (refusal s at))
   stops zero u l = by (whole s at) refl
     where
-      by : (b : Bool) → whole s at ≡ b → listing 0 s at ≡ stopped at (cond (whole s at) 16 (refusal s at))
+      by : (b : Bool) → whole s at ≡ b → listing 0 s at ≡ stopped at (cond (whole s at) full (refusal s at))
       by true e = lists-full s at e ∙ rw e
       by false e = lists-none 0 s at e ∙ rw e
   stops (suc free) u l =
       let b : ltb (length es) n ≡ true = lt-ltb (length es) n (omega (arith, u .room)) in
       by (whole s at) refl (rw b at (sym (turn .listed) ∙ l))
     where
-      by : (b : Bool) → whole s at ≡ b → whole s at && true ≡ false → listing (suc free) s at ≡ stopped at (cond (whole s at) 16 (refusal s at))
+      by : (b : Bool) → whole s at ≡ b → whole s at && true ≡ false → listing (suc free) s at ≡ stopped at (cond (whole s at) full (refusal s at))
       by true e z = let q = rw e at z in let y : _≡_ {A = ℕ} 0 1 = cc in absurd (omega arith)
       by false e z = lists-none (suc free) s at e ∙ rw e
 
   pub finished : (free : ℕ) → Underway s n free at es → t .listed ≡ false → Finished s n es t
   finished free u l =
-      let all-of-it : listing n s 0 ≡ record { entries = es; stop = at; number = cond (whole s at) 16 (refusal s at) } = u .rest ∙ rw (stops free u l, append-nil) in
+      let all-of-it : listing n s 0 ≡ record { entries = es; stop = at; why = cond (whole s at) full (refusal s at) } = u .rest ∙ rw (stops free u l, append-nil) in
       record { answers = turn .answer l ∙ sym (ap answer all-of-it); entries = ap (λ (x : Listing). x .entries) all-of-it }
 
 -- What a table holds then, and the answer.

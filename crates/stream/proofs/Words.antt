@@ -2,19 +2,18 @@
 use Prim.Native.Nat.{ℕ}
 use native.Mathlib.Omega.{arith}
 use mathlib.Core.Path.{_≡_, refl, ap}
-use Rattle.refusals.specs.Table.{numberOf}
-use Rattle.refusals.proofs.Laws.{number-injective, number-positive}
+use Rattle.refusals.proofs.Laws.{number-positive}
 use Rattle.sfdu.specs.Nesting.{kindNumber}
-use Rattle.sfdu.specs.Read.{primaryWords}
+use Rattle.sfdu.specs.Read.{primaryWords, faultWords}
 use Rattle.sfdu.proofs.Accepted.{same-kind}
-use Rattle.sfdu.proofs.Words.{same-primary}
+use Rattle.sfdu.proofs.Words.{same-primary, same-fault}
 use Rattle.stream.specs.declared.Cursor.{Cursor}
 use Rattle.stream.specs.declared.Step.{Step}
 use Rattle.stream.specs.declared.Step.the-variants.{Found, Done, Refused}
 use Rattle.stream.specs.declared.Stop.{Stop}
 use Rattle.stream.specs.declared.Stop.the-variants.{End, Refused as StopRefused}
 use Rattle.stream.specs.declared.Walked.{Walked}
-use Rattle.stream.specs.Walk.{stepWords, stopNumber, wordsOf}
+use Rattle.stream.specs.Walk.{stepWords, stopWords, wordsOf}
 
 same-cursor : (c d : Cursor) → c .at ≡ d .at → c ≡ d
 same-cursor c d e = λ j. record { at = e j }
@@ -36,23 +35,23 @@ same-step (Done c) (Done d) e = let places : c .at ≡ d .at = cc in ap Done (sa
 same-step (Done c) (Refused r d) e = let z : _≡_ {A = ℕ} 0 1 = cc in absurd (omega arith)
 same-step (Refused r c) (Found l m q d) e = let z : _≡_ {A = ℕ} 0 1 = cc in absurd (omega arith)
 same-step (Refused r c) (Done d) e = let z : _≡_ {A = ℕ} 0 1 = cc in absurd (omega arith)
-same-step (Refused r c) (Refused q d) e =
-    let numbers : numberOf r ≡ numberOf q = cc in
+same-step (Refused f c) (Refused g d) e =
+    let words : faultWords f ≡ faultWords g = cc in
     let places : c .at ≡ d .at = cc in
-    let refusal : r ≡ q = number-injective r q numbers in
+    let fault : f ≡ g = same-fault f g words in
     let cursor : c ≡ d = same-cursor c d places in
     cc
 
-same-stop : (a b : Stop) → stopNumber a ≡ stopNumber b → a ≡ b
+same-stop : (a b : Stop) → stopWords a ≡ stopWords b → a ≡ b
 same-stop End End e = refl
-same-stop End (StopRefused r) e = absurd (number-positive r (cc))
-same-stop (StopRefused r) End e = absurd (number-positive r e)
-same-stop (StopRefused r) (StopRefused q) e = ap StopRefused (number-injective r q e)
+same-stop End (StopRefused f) e = absurd (number-positive (f .refusal) (cc))
+same-stop (StopRefused f) End e = absurd (number-positive (f .refusal) (cc))
+same-stop (StopRefused f) (StopRefused g) e = ap StopRefused (same-fault f g e)
 
 pub same-walked : (a b : Walked) → wordsOf a ≡ wordsOf b → a ≡ b
 same-walked a b e =
     let count : a .count ≡ b .count = cc in
     let place : a .place ≡ b .place = cc in
-    let numbers : stopNumber (a .stop) ≡ stopNumber (b .stop) = cc in
-    let stop : a .stop ≡ b .stop = same-stop (a .stop) (b .stop) numbers in
+    let words : stopWords (a .stop) ≡ stopWords (b .stop) = cc in
+    let stop : a .stop ≡ b .stop = same-stop (a .stop) (b .stop) words in
     λ j. record { count = count j; place = place j; stop = stop j }

@@ -1,13 +1,13 @@
 -- What holds of every walk and every list: document 01, "Calls on records" and refusal 16. Assumes nothing.
 use Prim.Native.Nat.{ℕ, _≤_, _<_}
-use mathlib.Core.Bool.{true}
+use mathlib.Core.Bool.{true, false}
 use mathlib.Core.List.{List, [], _∷_, map}
 use mathlib.Core.Logic.{_⊎_}
 use mathlib.Core.Path.{_≡_}
 use lib.ListN.{length, drop}
-use Rattle.sfdu.specs.Read.{readOne}
+use Rattle.sfdu.specs.Read.{inStream, readOne}
 use Rattle.stream.specs.declared.Entry.{Entry}
-use Rattle.stream.specs.Walk.{whole, past}
+use Rattle.stream.specs.Walk.{atEnd, whole, past, full}
 use Rattle.stream.specs.Listing.{entryAt, Listing, listing, walkFrom, walked, Columns, listNumbers, listEntries}
 
 -- "Records back to back" from one place to another: each is whole, and has its entry.
@@ -15,12 +15,12 @@ abbrev pub BackToBack : List ℕ → (from : ℕ) → List Entry → (to : ℕ) 
 BackToBack s from [] to = from ≡ to
 BackToBack s from (e ∷ es) to = (whole s from ≡ true) × (e ≡ entryAt s from) × BackToBack s (past s from) es to
 
--- "0 when the stop place is the end, else the refusal of the record there."
+-- "0 when the stop place is the end, else the refusal of the record there", its offset counted from the stream's start.
 abbrev pub StopsAtEnd : List ℕ → Listing → Type 0
-StopsAtEnd s l = (l .stop ≡ length s) × (l .number ≡ 0)
+StopsAtEnd s l = (l .stop ≡ length s) × (l .why ≡ atEnd)
 
 abbrev pub StopsRefused : List ℕ → Listing → Type 0
-StopsRefused s l = (l .stop < length s) × (readOne (drop (l .stop) s) ≡ l .number ∷ [])
+StopsRefused s l = (l .stop < length s) × (whole s (l .stop) ≡ false) × (l .why ≡ inStream (l .stop) (readOne (drop (l .stop) s)))
 
 pub record WalkRight (s : List ℕ) (l : Listing) : Type 0 where
   pub within : l .stop ≤ length s
@@ -35,16 +35,16 @@ pub record ListRight (s : List ℕ) (size : ℕ) (l : Listing) : Type 0 where
   pub within : l .stop ≤ length s
   pub fits : length (l .entries) ≤ size
   pub records : BackToBack s 0 (l .entries) (l .stop)
-  pub stops : StopsAtEnd s l ⊎ (StopsRefused s l ⊎ (Full s size l × (l .number ≡ 16)))
-  pub full-told : l .number ≡ 16 → Full s size l
-  pub told-full : whole s (l .stop) ≡ true → l .number ≡ 16
+  pub stops : StopsAtEnd s l ⊎ (StopsRefused s l ⊎ (Full s size l × (l .why ≡ full)))
+  pub full-told : l .why ≡ full → Full s size l
+  pub told-full : whole s (l .stop) ≡ true → l .why ≡ full
 
 abbrev pub EveryWalk : Type 0
 EveryWalk = (s : List ℕ) → WalkRight s (walkFrom s 0)
 
--- "An empty stream gives 0, 0, 0."
+-- "An empty stream gives 0, 0, 0", and no number goes with it.
 abbrev pub EmptyWalk : Type 0
-EmptyWalk = walked [] ≡ 0 ∷ 0 ∷ 0 ∷ []
+EmptyWalk = walked [] ≡ 0 ∷ 0 ∷ 0 ∷ 0 ∷ []
 
 abbrev pub EveryList : Type 0
 EveryList = (size : ℕ) (s : List ℕ) → ListRight s size (listing size s 0)

@@ -8,7 +8,7 @@ use Rattle.sfdu.specs.Nesting.{kindNumber}
 use Rattle.sfdu.specs.Read.{kindOf, recordLength}
 use Rattle.headers.specs.Fields.{recordNumber}
 use Rattle.stream.specs.declared.Entry.{Entry}
-use Rattle.stream.specs.Walk.{whole, past, refusal}
+use Rattle.stream.specs.Walk.{whole, past, full, refusal}
 
 -- The entry of the whole record at a place.
 unfoldable pub entryAt : List ℕ → ℕ → Entry
@@ -19,28 +19,28 @@ entryAt s at = record {
   number = recordNumber (kindOf (drop at s)) (drop at s);
 }
 
--- The entries found, the stop place and the stop number.
+-- The entries found, the stop place and why there.
 pub record Listing : Type 0 where
   pub entries : List Entry
   pub stop : ℕ
-  pub number : ℕ
+  pub why : List ℕ
 
-abbrev pub stopped : ℕ → ℕ → Listing
-stopped at why = record { entries = []; stop = at; number = why }
+abbrev pub stopped : ℕ → List ℕ → Listing
+stopped at why = record { entries = []; stop = at; why = why }
 
 abbrev pub prepend : List Entry → Listing → Listing
-prepend es l = record { entries = es ++ l .entries; stop = l .stop; number = l .number }
+prepend es l = record { entries = es ++ l .entries; stop = l .stop; why = l .why }
 
 -- From a place on, where `free` entries are free: records are listed up to the first place with none, or with one and no
 -- free entry (16).
 unfoldable pub listing : (free : ℕ) → List ℕ → (at : ℕ) → Listing
-listing zero s at = cond (whole s at) (stopped at 16) (stopped at (refusal s at))
+listing zero s at = cond (whole s at) (stopped at full) (stopped at (refusal s at))
 listing (suc free) s at =
     cond (whole s at) (prepend (entryAt s at ∷ []) (listing free s (past s at))) (stopped at (refusal s at))
 
--- Its answer: the count, the stop place and the stop number.
+-- Its answer: the count, the stop place and why there.
 abbrev pub answer : Listing → List ℕ
-answer l = length (l .entries) ∷ l .stop ∷ l .number ∷ []
+answer l = length (l .entries) ∷ l .stop ∷ l .why
 
 -- ---- the walk
 

@@ -9,7 +9,7 @@ use Rattle.sfdu.specs.declared.Kind.{Kind}
 use Rattle.sfdu.specs.Read.{kindOf, recordLength}
 use Rattle.stream.specs.declared.Turn.{Turn}
 use Rattle.stream.specs.declared.Walked.{Walked}
-use Rattle.stream.specs.Walk.{wordsOf, whole, past, refusal}
+use Rattle.stream.specs.Walk.{wordsOf, whole, past, full, refusal}
 use Rattle.stream.specs.Listing.{entryAt}
 
 -- A whole record of that kind and length stands at a place.
@@ -28,4 +28,4 @@ pub record TurnAt (s : List ℕ) (at count size : ℕ) (t : Turn) : Type 0 where
   pub listed : t .listed ≡ whole s at && ltb count size
   pub entry : t .listed ≡ true → t .entry ≡ entryAt s at
   pub next : t .listed ≡ true → t .next ≡ past s at
-  pub answer : t .listed ≡ false → wordsOf (t .answer) ≡ count ∷ at ∷ cond (whole s at) 16 (refusal s at) ∷ []
+  pub answer : t .listed ≡ false → wordsOf (t .answer) ≡ count ∷ at ∷ cond (whole s at) full (refusal s at)

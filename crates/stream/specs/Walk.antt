@@ -4,10 +4,9 @@ use mathlib.Core.Bool.{Bool, cond}
 use mathlib.Core.List.{List, [], _∷_}
 use lib.ListN.{length, drop}
 use lib.Dec.{leb}
-use Rattle.refusals.specs.Judge.{verdict}
-use Rattle.refusals.specs.Table.{numberOf}
+use Rattle.refusals.specs.Judge.{judge}
 use Rattle.sfdu.specs.Nesting.{kindNumber}
-use Rattle.sfdu.specs.Read.{primaryWords, recordLength, readRows, accepts, readOne}
+use Rattle.sfdu.specs.Read.{primaryWords, faultWords, recordLength, readRules, inStream, accepts, readOne}
 use Rattle.stream.specs.declared.Step.{Step}
 use Rattle.stream.specs.declared.Step.the-variants.{Found, Done, Refused}
 use Rattle.stream.specs.declared.Stop.{Stop}
@@ -17,20 +16,23 @@ use Rattle.stream.specs.declared.Walked.{Walked}
 -- ---- what the answers of the calls say
 
 -- A step: the place of the cursor that it hands back, and then 0 and the record as read one gives it, nothing for "done", or
--- the refusal's number.
+-- the refusal as read one gives it.
 abbrev pub stepWords : Step → List ℕ
 stepWords (Found kind n p next) = next .at ∷ 0 ∷ kindNumber kind ∷ n ∷ primaryWords p
 stepWords (Done c) = c .at ∷ []
-stepWords (Refused r c) = c .at ∷ numberOf r ∷ []
+stepWords (Refused f c) = c .at ∷ faultWords f
 
--- The stop number: "0 when the stop place is the end, else the refusal".
-abbrev pub stopNumber : Stop → ℕ
-stopNumber End = 0
-stopNumber (StopRefused r) = numberOf r
+-- The stop number, "0 when the stop place is the end, else the refusal", and the number that goes with it, 0 where none does.
+abbrev pub atEnd : List ℕ
+atEnd = 0 ∷ 0 ∷ []
 
--- A walk or a list: the count, the stop place and the stop number.
+abbrev pub stopWords : Stop → List ℕ
+stopWords End = atEnd
+stopWords (StopRefused f) = faultWords f
+
+-- A walk or a list: the count, the stop place and why it stops there.
 abbrev pub wordsOf : Walked → List ℕ
-wordsOf w = w .count ∷ w .place ∷ stopNumber (w .stop) ∷ []
+wordsOf w = w .count ∷ w .place ∷ stopWords (w .stop)
 
 -- ---- a place in the stream
 
@@ -42,9 +44,13 @@ whole s at = accepts (drop at s)
 unfoldable pub past : List ℕ → ℕ → ℕ
 past s at = at + recordLength (drop at s)
 
--- Why no record is found there: 0 at or past the end, else the refusal.
-unfoldable pub refusal : List ℕ → ℕ → ℕ
-refusal s at = cond (leb (length s) at) 0 (verdict (readRows (drop at s)))
+-- A list that is full stops at a whole record.
+abbrev pub full : List ℕ
+full = 16 ∷ 0 ∷ []
+
+-- Why a walk or a list stops there: the end, or the refusal of the record there; where that is whole, no entry is free.
+unfoldable pub refusal : List ℕ → ℕ → List ℕ
+refusal s at = cond (leb (length s) at) atEnd (judge (inStream at) (readRules (drop at s)) full)
 
 -- ---- the step
 

@@ -20,13 +20,14 @@ pub enum Step {
         next: Cursor,
     },
     Done(Cursor),
-    Refused(refusals::Refusal, Cursor),
+    Refused(sfdu::Fault, Cursor),
 }
 
-// Why a walk or a list stops: at the stream's end, or by a refusal.
+// Why a walk or a list stops: at the stream's end, or by a refusal, whose offset counts from the stream's start; 0 goes with a full
+// list.
 pub enum Stop {
     End,
-    Refused(refusals::Refusal),
+    Refused(sfdu::Fault),
 }
 
 // What a walk or a list answers: how many whole records it passed or listed, the place where it stopped, and why there.

@@ -10,9 +10,11 @@ use crate::Step;
 use crate::Stop;
 use crate::Turn;
 use crate::Walked;
+use crate::walking::in_stream;
 use crate::walking::stopped;
 use headers::record_number;
 use refusals::Refusal;
+use sfdu::Fault;
 use sfdu::Kind;
 use sfdu::kind_number;
 
@@ -61,7 +63,11 @@ fn turn_at(s: &[u8], at: usize, count: usize, size: usize) -> Turn
             next,
         } => {
             if size <= count {
-                return no_turn(stopped(count, at, Stop::Refused(Refusal::ListFull)));
+                let full = Fault {
+                    refusal: Refusal::ListFull,
+                    at: 0,
+                };
+                return no_turn(stopped(count, at, Stop::Refused(full)));
             }
             Turn {
                 listed: true,
@@ -71,7 +77,7 @@ fn turn_at(s: &[u8], at: usize, count: usize, size: usize) -> Turn
             }
         }
         Step::Done(_) => no_turn(stopped(count, at, Stop::End)),
-        Step::Refused(r, _) => no_turn(stopped(count, at, Stop::Refused(r))),
+        Step::Refused(f, _) => no_turn(stopped(count, at, Stop::Refused(in_stream(s, at, f)))),
     }
 }
 

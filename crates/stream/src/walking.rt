@@ -1,13 +1,25 @@
 // The cursor's step, and the walk over a whole stream.
 ghost use mathlib.Core.Path.{_≡_};
+ghost use Prim.Native.Nat.{_+_, _≤_};
+ghost use lib.ListN.{length};
+ghost use Rattle.refusals.specs.Table.{numberOf};
+ghost use Rattle.sfdu.specs.Read.{faultWords, isCount, inStream};
 ghost use Rattle.stream.specs.Walk.{stepWords, wordsOf, step};
 ghost use Rattle.stream.specs.Listing.{walked};
 use crate::Cursor;
 use crate::Step;
 use crate::Stop;
 use crate::Walked;
+use refusals::Refusal;
+use refusals::number;
+use sfdu::Fault;
 use sfdu::Read;
 use sfdu::read_one;
+
+// The refusals that give a count of bytes: the numbers of document 01's table.
+const TOO_SHORT: u32 = 1;
+
+const TRUNCATED: u32 = 6;
 
 impl Cursor {
     pub fn start() -> Self
@@ -36,7 +48,7 @@ impl Cursor {
                 primary,
                 next: Cursor { at: at + size },
             },
-            Read::Refused(r) => Step::Refused(r, Cursor { at }),
+            Read::Refused(f) => Step::Refused(f, Cursor { at }),
         }
     }
 }
@@ -63,8 +75,8 @@ pub fn walk(s: &[u8]) -> Walked
             Step::Done(_) => {
                 return stopped(count, at, Stop::End);
             }
-            Step::Refused(r, _) => {
-                return stopped(count, at, Stop::Refused(r));
+            Step::Refused(f, _) => {
+                return stopped(count, at, Stop::Refused(in_stream(s, at, f)));
             }
         }
     }
@@ -74,4 +86,27 @@ pub fn stopped(count: usize, place: usize, stop: Stop) -> Walked
     ensures { λ r. ⌜ r ≡ record { count = count; place = place; stop = stop } ⌝ }
 {
     Walked { count, place, stop }
+}
+
+// The refusal of the record at a place, its offset counted from the stream's start; a count of bytes stays.
+pub fn in_stream(s: &[u8], place: usize, fault: Fault) -> Fault
+    requires { ⌜ place + fault .at ≤ length (now s) ⌝ }
+    ensures { λ r. ⌜ faultWords r ≡ inStream place (faultWords fault) ⌝ }
+{
+    let refusal = fault.refusal;
+    let at = fault.at;
+    if is_count(refusal) {
+        return Fault { refusal, at };
+    }
+    Fault {
+        refusal,
+        at: place + at,
+    }
+}
+
+fn is_count(refusal: Refusal) -> bool
+    ensures { λ r. ⌜ r ≡ isCount (numberOf refusal) ⌝ }
+{
+    let n = number(refusal);
+    (n == TOO_SHORT) | (n == TRUNCATED)
 }

@@ -8,7 +8,7 @@ use lib.ListN.{length}
 use borrow.Author.Tests.{not-false, ne-eqb, eqb-false, ltb-true}
 use Rattle.refusals.specs.declared.Refusal.{Refusal}
 use Rattle.refusals.specs.Table.{numberOf}
-use Rattle.refusals.specs.Judge.{Row, verdict}
+use Rattle.refusals.specs.Judge.{Rule, verdict}
 use Rattle.refusals.proofs.Laws.{number-positive}
 use Rattle.refusals.proofs.Judged.{NoneHolds, Numbered, verdict-none}
 use Rattle.sheet.specs.Sheet.{sheetSize, rowCount, deskCount, used, deskRow, right, Sized}
@@ -20,7 +20,7 @@ use Rattle.sheet.proofs.Clauses.{sized, open-row}
 use Rattle.verdicts.specs.Verdicts.{enrolRows, findRows, openRows, deskRows, reportRows, verdictWords}
 
 -- the number that a verdict gives, or 0
-module _ (rows : List Row) {v : Answer} (e : answerWords v ≡ verdictWords rows) where
+module _ (rows : List (Rule ℕ)) {v : Answer} (e : answerWords v ≡ verdictWords rows) where
   number-is : (q : Refusal) → v ≡ A.Refused q → numberOf q ≡ verdict rows
   unfolding verdictWords
   number-is q g = let w : numberOf q ∷ [] ≡ verdict rows ∷ [] = sym (ap answerWords g) ∙ e in cc
@@ -35,10 +35,10 @@ module _ (rows : List Row) {v : Answer} (e : answerWords v ≡ verdictWords rows
 -- ---- the call that these rows judge
 
 -- What is judged by the rows on the sheet s, and does o where none applies, is t.
-pub record Law (rows : List Row) (o : Outcome) (s : List ℕ) (t : Outcome) : Type 0 where
+pub record Law (rows : List (Rule ℕ)) (o : Outcome) (s : List ℕ) (t : Outcome) : Type 0 where
   pub same : judged rows o s ≡ t
 
-module _ {rows : List Row} {o t : Outcome} {s : List ℕ} (law : Law rows o s t) {v : Answer} (e : answerWords v ≡ verdictWords rows) where
+module _ {rows : List (Rule ℕ)} {o t : Outcome} {s : List ℕ} (law : Law rows o s t) {v : Answer} (e : answerWords v ≡ verdictWords rows) where
   pub refused-is : (q : Refusal) → v ≡ A.Refused q → (numberOf q ∷ [], s) ≡ t
   unfolding judged
   refused-is q g =

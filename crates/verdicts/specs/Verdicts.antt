@@ -4,19 +4,19 @@ use Prim.Native.Nat.{ℕ}
 use mathlib.Core.Bool.{not}
 use mathlib.Core.List.{List, [], _∷_}
 use lib.Dec.{eqb, ltb}
-use Rattle.refusals.specs.Judge.{Row, _when_, verdict}
+use Rattle.refusals.specs.Judge.{Rule, _when_, verdict}
 use Rattle.keys.specs.Key.{validKey}
 use Rattle.sheet.specs.Sheet.{rowCount, deskCount, used, isClosed, right}
 use Rattle.changes.specs.Bytes.{hasKey}
 
-abbrev pub enrolRows : (key : ℕ) → List ℕ → List Row
+abbrev pub enrolRows : (key : ℕ) → List ℕ → List (Rule ℕ)
 enrolRows key s =
     (20 when not (right s)) ∷ (22 when not (validKey key)) ∷ (23 when hasKey s key) ∷ (24 when eqb (used s) rowCount) ∷ []
 
-abbrev pub findRows : (key : ℕ) → List ℕ → List Row
+abbrev pub findRows : (key : ℕ) → List ℕ → List (Rule ℕ)
 findRows key s = (20 when not (right s)) ∷ (22 when not (validKey key)) ∷ (25 when not (hasKey s key)) ∷ []
 
-abbrev pub openRows : (desk row : ℕ) → List ℕ → List Row
+abbrev pub openRows : (desk row : ℕ) → List ℕ → List (Rule ℕ)
 openRows desk row s =
     (20 when not (right s))
     ∷ (21 when not (ltb desk deskCount))
@@ -25,12 +25,12 @@ openRows desk row s =
     ∷ []
 
 -- Tick, untick, save and drop: the desk must have a row open.
-abbrev pub deskRows : (desk : ℕ) → List ℕ → List Row
+abbrev pub deskRows : (desk : ℕ) → List ℕ → List (Rule ℕ)
 deskRows desk s = (20 when not (right s)) ∷ (21 when not (ltb desk deskCount)) ∷ (27 when isClosed s desk) ∷ []
 
-abbrev pub reportRows : (row : ℕ) → List ℕ → List Row
+abbrev pub reportRows : (row : ℕ) → List ℕ → List (Rule ℕ)
 reportRows row s = (20 when not (right s)) ∷ (25 when not (ltb row (used s))) ∷ []
 
 -- The words of a verdict: the first refusal that applies, or 0 where none does.
-unfoldable pub verdictWords : List Row → List ℕ
+unfoldable pub verdictWords : List (Rule ℕ) → List ℕ
 verdictWords rows = verdict rows ∷ []

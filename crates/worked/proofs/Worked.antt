@@ -4,9 +4,9 @@ use mathlib.Core.List.{List, [], _∷_, _++_, map}
 use mathlib.Core.Path.{_≡_, refl, ap, _∙_}
 use lib.Dec.{lit<}
 use lib.ListN.{getD}
-use Rattle.refusals.specs.Judge.{verdict}
+use Rattle.refusals.specs.Judge.{judge}
 use Rattle.octets.specs.Octets.{numberAt, bytesOf, part, put, all, sameAt}
-use Rattle.sfdu.specs.Read.{hasKind, kindOf, labelLength, recordLength, blockType, blockLength, lengthInRange, isBlock, accepts, readOne, dataPart}
+use Rattle.sfdu.specs.Read.{hasKind, kindOf, labelLength, recordLength, blockType, blockLength, lengthInRange, accepts, readOne, dataPart}
 use Rattle.sfdu_write.specs.Write.{labelBytes, block, primaryBlock, headBytes, recordBytes}
 use Rattle.headers.specs.Words.{number}
 use Rattle.headers.specs.Fields.{signedByte, recordNumber}
@@ -74,7 +74,7 @@ unfolding AllInRange
 low10 = (lit< tt, (tt, (tt, (tt, (tt, (tt, (tt, (tt, (tt, (tt, tt))))))))))
 
 pub worked : Agree table
-unfolding verdict numberAt bytesOf part put all sameAt hasKind kindOf labelLength recordLength blockType blockLength lengthInRange isBlock accepts readOne dataPart labelBytes block primaryBlock headBytes recordBytes signedByte recordNumber isYear isDay isRsrBand isBand inRange judgedBytes fault readHeaders validKey telemetryKeyCall position noTicks same size anyTicked missing least numberAtPosition hasKey placeWith allUsed lowestFree refusals effect afterRefusal step run rowBytes headerBytes bitsValue tickBytes placeBytes countUsed laid layout
+unfolding judge numberAt bytesOf part put all sameAt hasKind kindOf labelLength recordLength blockType blockLength lengthInRange accepts readOne dataPart labelBytes block primaryBlock headBytes recordBytes signedByte recordNumber isYear isDay isRsrBand isBand inRange judgedBytes fault readHeaders validKey telemetryKeyCall position noTicks same size anyTicked missing least numberAtPosition hasKey placeWith allUsed lowestFree refusals effect afterRefusal step run rowBytes headerBytes bitsValue tickBytes placeBytes countUsed laid layout
 worked = (
   refl,
   (

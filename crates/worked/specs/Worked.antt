@@ -1,5 +1,5 @@
 -- Document 01, "Worked examples, marked P for proof": one table of checks, each what a definition gives and what the paper says,
--- over the definitions that the public contracts cite. Assumes nothing.
+-- over the definitions that the public contracts cite. With 5 goes its field's offset, 12 (document 02, Req 05). Assumes nothing.
 use Prim.Native.Nat.{ℕ, _+_}
 use mathlib.Core.List.{List, [], _∷_, _++_, map}
 use mathlib.Core.Path.{_≡_}
@@ -80,14 +80,14 @@ table =
     -- P1 telemetry, label length 100: N 120, empty data. 99: refused 5.
     numbers (take 3 (readOne (plain Telemetry 0))) (0 ∷ 1 ∷ 120 ∷ [])
     ∷ numbers (length (dataPart (plain Telemetry 0)) ∷ []) (0 ∷ [])
-    ∷ numbers (readOne (relabelled 99 (plain Telemetry 0))) (5 ∷ [])
+    ∷ numbers (readOne (relabelled 99 (plain Telemetry 0))) (5 ∷ 12 ∷ [])
     -- P2 telemetry, label 65,635, data 65,535: the most. 65,636: refused 5.
     ∷ numbers (take 3 (readOne (plain Telemetry 65535))) (0 ∷ 1 ∷ 65655 ∷ [])
     ∷ numbers (length (dataPart (plain Telemetry 65535)) ∷ []) (65535 ∷ [])
-    ∷ numbers (readOne (relabelled 65636 (plain Telemetry 65535))) (5 ∷ [])
+    ∷ numbers (readOne (relabelled 65636 (plain Telemetry 65535))) (5 ∷ 12 ∷ [])
     -- P3 RSR label 240: N 260. 239: refused 5.
     ∷ numbers (take 3 (readOne (plain Rsr 0))) (0 ∷ 2 ∷ 260 ∷ [])
-    ∷ numbers (readOne (relabelled 239 (plain Rsr 0))) (5 ∷ [])
+    ∷ numbers (readOne (relabelled 239 (plain Rsr 0))) (5 ∷ 12 ∷ [])
     -- P4 bytes 6, 7 = 254, 5: spacecraft 517.
     ∷ check (take 1 (drop 7 (readHeaders 1 p4))) (number 517 ∷ [])
     -- P5 spacecraft 177, source 43, equipment 2, stream 1: key 760930632193.

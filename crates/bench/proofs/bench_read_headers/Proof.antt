@@ -30,14 +30,11 @@ accepted-onto-requires-2 c κs = search needs
 enum-known-found-3 : tie.Need-enum-known-found-3
 enum-known-found-3 c = search needs
 
-enum-known-found-4 : tie.Need-enum-known-found-4
-enum-known-found-4 c = search needs
+fault-onto-requires : tie.Need-fault-onto-requires
+fault-onto-requires c κs = search needs
 
-number-requires : tie.Need-number-requires
-number-requires c κs = search needs
-
-cast-result : tie.Need-cast-result
-cast-result c = search needs
+enum-told : tie.Need-enum-told
+enum-told c = search needs
 
 returns : tie.Need-returns
 returns c =
@@ -48,10 +45,11 @@ returns-2 c =
     c .accepted-onto2 .ensures ∙ rw (c .before .rsr-onto .ensures) (ap digest (sym (ap wordsOf (c .before .before .before .found2 .given .1)) ∙ c .before .before .before .before .before .read-headers .ensures))
 
 returns-3 : tie.Need-returns-3
-returns-3 c = ap digest (sym (ap wordsOf (c .before .found3 .given .1)) ∙ c .before .before .before .read-headers .ensures)
+returns-3 c =
+    c .fault-onto .ensures ∙ ap digest (sym (ap wordsOf (c .before .before .found3 .given .1)) ∙ c .before .before .before .before .read-headers .ensures)
 
 returns-4 : tie.Need-returns-4
-returns-4 c = rw (c .number .ensures) (ap digest (sym (ap wordsOf (c .before .before .found4 .given .1)) ∙ c .before .before .before .before .read-headers .ensures))
+returns-4 c = ap digest (sym (ap wordsOf (c .enum-told .given .1)) ∙ c .before .before .read-headers .ensures)
 
 pub bench-read-headers-spec : {M : Type 1} → statement M
 bench-read-headers-spec =
@@ -65,9 +63,8 @@ bench-read-headers-spec =
     rsr-onto-requires
     accepted-onto-requires-2
     enum-known-found-3
-    enum-known-found-4
-    number-requires
-    cast-result
+    fault-onto-requires
+    enum-told
     returns
     returns-2
     returns-3

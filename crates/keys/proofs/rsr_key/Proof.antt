@@ -2,7 +2,7 @@
 use native.Mathlib.Omega.{arith}
 use borrow.Author.Needs.{needs}
 use borrow.Author.Tests.{not-true, not-false}
-use Rattle.refusals.specs.Judge.{verdict}
+use Rattle.refusals.specs.Judge.{judge}
 use Rattle.keys.specs.Key.{rsrKeyCall}
 use Rattle.keys.proofs.Laws.{fit-both}
 use Rattle.keys.proofs.rsr_key.Statement.{statement}
@@ -12,14 +12,14 @@ both-fit-requires : tie.Need-both-fit-requires
 both-fit-requires c κs = search needs
 
 returns : tie.Need-returns
-unfolding rsrKeyCall verdict
+unfolding rsrKeyCall judge
 returns c = simp (← c .before .both-fit .ensures, not-true (c .before .both-fit .result) (c .if1 .taken))
 
 both-fit-requires-2 : tie.Need-both-fit-requires-2
 both-fit-requires-2 c κs = search needs
 
 returns-2 : tie.Need-returns-2
-unfolding rsrKeyCall verdict
+unfolding rsrKeyCall judge
 returns-2 c =
     simp (
       ← c .before .before .before .both-fit .ensures,
@@ -44,7 +44,7 @@ rsr-key-of-requires : tie.Need-rsr-key-of-requires
 rsr-key-of-requires c κs = search needs
 
 returns-3 : tie.Need-returns-3
-unfolding rsrKeyCall verdict
+unfolding rsrKeyCall judge
 returns-3 c =
     simp (
       c .rsr-key-of .ensures,

@@ -2,7 +2,7 @@
 use native.Mathlib.Omega.{arith}
 use borrow.Author.Needs.{needs}
 use borrow.Author.Tests.{not-true, not-false}
-use Rattle.refusals.specs.Judge.{verdict}
+use Rattle.refusals.specs.Judge.{judge}
 use Rattle.keys.specs.Key.{telemetryKeyCall}
 use Rattle.keys.proofs.Laws.{fit-both}
 use Rattle.keys.proofs.telemetry_key.Statement.{statement}
@@ -12,14 +12,14 @@ both-fit-requires : tie.Need-both-fit-requires
 both-fit-requires c κs = search needs
 
 returns : tie.Need-returns
-unfolding telemetryKeyCall verdict
+unfolding telemetryKeyCall judge
 returns c = simp (← c .before .both-fit .ensures, not-true (c .before .both-fit .result) (c .if1 .taken))
 
 both-fit-requires-2 : tie.Need-both-fit-requires-2
 both-fit-requires-2 c κs = search needs
 
 returns-2 : tie.Need-returns-2
-unfolding telemetryKeyCall verdict
+unfolding telemetryKeyCall judge
 returns-2 c =
     simp (
       ← c .before .before .before .both-fit .ensures,
@@ -44,7 +44,7 @@ telemetry-key-of-requires : tie.Need-telemetry-key-of-requires
 telemetry-key-of-requires c κs = search needs
 
 returns-3 : tie.Need-returns-3
-unfolding telemetryKeyCall verdict
+unfolding telemetryKeyCall judge
 returns-3 c =
     simp (
       c .telemetry-key-of .ensures,

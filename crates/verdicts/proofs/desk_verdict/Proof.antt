@@ -1,7 +1,7 @@
 -- `verdicts::desk_verdict` meets its contract. Assumes nothing.
 use borrow.Author.Tests.{lt-ltb, le-ltb}
 use Rattle.octets.proofs.Laws.{failed, passed}
-use Rattle.refusals.specs.Judge.{verdict}
+use Rattle.refusals.specs.Judge.{verdict, judge}
 use Rattle.sheet.proofs.Clauses.{sized}
 use Rattle.verdicts.specs.Verdicts.{verdictWords}
 use borrow.Author.Needs.{needs}
@@ -12,22 +12,22 @@ is-sheet-requires : tie.Need-is-sheet-requires
 is-sheet-requires c κs = search needs
 
 returns : tie.Need-returns
-unfolding verdictWords verdict
+unfolding verdictWords judge
 returns c = rw (failed (c .before .is-sheet .ensures) (c .if1 .taken))
 
 returns-2 : tie.Need-returns-2
-unfolding verdictWords verdict
+unfolding verdictWords judge
 returns-2 c = rw (passed (c .before .before .is-sheet .ensures) (c .before .if1 .left), le-ltb _ _ (c .if2 .taken))
 
 is-closed-requires : tie.Need-is-closed-requires
 is-closed-requires c κs = (sized _ (passed (c .before .before .is-sheet .ensures) (c .before .if1 .left)) .long, c .if2 .left)
 
 returns-3 : tie.Need-returns-3
-unfolding verdictWords verdict
+unfolding verdictWords judge
 returns-3 c = rw (passed (c .before .before .before .before .is-sheet .ensures) (c .before .before .before .if1 .left), lt-ltb _ _ (c .before .before .if2 .left), ← c .before .is-closed .ensures, c .if3 .taken)
 
 returns-4 : tie.Need-returns-4
-unfolding verdictWords verdict
+unfolding verdictWords judge
 returns-4 c = rw (passed (c .before .before .before .before .is-sheet .ensures) (c .before .before .before .if1 .left), lt-ltb _ _ (c .before .before .if2 .left), ← c .before .is-closed .ensures, c .if3 .left)
 
 pub desk-verdict-spec : {M : Type 1} → statement M

@@ -7,10 +7,10 @@ use Rattle.call_script.proofs.text.words.Statement.{statement}
 use Rattle.call_script.proofs.text.words.Tie as tie
 
 abbrev Inv-loop : tie.InvT-loop
-Inv-loop out₀ at line end₀ i₀ out end i = (i ≤ 259) × (length out ≡ length out₀)
+Inv-loop out₀ at line end₀ i₀ out end i = (i ≤ 260) × (length out ≡ length out₀)
 
 abbrev μ-loop : tie.MeasureT-loop
-μ-loop out₀ at line end₀ i₀ out end i = 259 - i
+μ-loop out₀ at line end₀ i₀ out end i = 260 - i
 
 loop-holds : tie.Need-loop-holds Inv-loop μ-loop
 loop-holds c = (omega arith, refl)

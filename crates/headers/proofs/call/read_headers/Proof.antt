@@ -83,7 +83,7 @@ returns-4 : tie.Need-returns-4
 returns-4 c =
     let s = c .before .before .before .before .before .args .s .now in
     let g = c .before .found2 .given in
-    sym (refused-first _ s (numberOf (g .0 .0)) (sym (c .before .before .before .read-one .ensures) ∙ ap wordsOf (g .1)))
+    sym (refused-first _ s (numberOf (g .0 .0 .refusal)) (g .0 .0 .at) (sym (c .before .before .before .read-one .ensures) ∙ ap wordsOf (g .1)))
 
 pub read-headers-spec : {M : Type 1} → statement M
 read-headers-spec =

@@ -3,15 +3,15 @@
 use native.Mathlib.Omega.{arith}
 use Prim.Native.Nat.{_≤_, _-_}
 use mathlib.Core.Path.{_≡_, refl, ap, sym, _∙_}
-use Rattle.refusals.specs.Judge.{verdict}
+use Rattle.sfdu.specs.Read.{checked}
 use Rattle.octets.proofs.Laws.{failed, passed}
-use Rattle.headers.specs.Ranges.{judgedBytes, byteRows}
+use Rattle.headers.specs.Ranges.{judgedBytes, byteRules}
 use Rattle.headers.proofs.Table.{entries, faultFrom, from-start, from-end, fault-here, fault-past, at-low}
 use Rattle.headers.proofs.rsr.byte_fault.Statement.{statement}
 use Rattle.headers.proofs.rsr.byte_fault.Tie as tie
 
 abbrev Inv-loop : tie.InvT-loop
-Inv-loop s table i₀ i = (i ≤ entries) × (table ≡ judgedBytes) × (verdict (byteRows s) ≡ faultFrom s i)
+Inv-loop s table i₀ i = (i ≤ entries) × (table ≡ judgedBytes) × (checked (byteRules s) ≡ faultFrom s i)
 
 abbrev μ-loop : tie.MeasureT-loop
 μ-loop s table i₀ i = entries - i

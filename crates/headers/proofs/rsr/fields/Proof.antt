@@ -1,5 +1,9 @@
 -- `headers::rsr::fields` meets its contract. Assumes nothing.
-use borrow.Author.Tests.{eq-eqb, ne-eqb}
+use mathlib.Core.Path.{sym, _∙_}
+use Rattle.sfdu.specs.declared.Kind.the-variants.{Rsr}
+use Rattle.sfdu.proofs.Labels.{all-right, one-wrong}
+use Rattle.headers.specs.Headers.{outOfRange}
+use Rattle.headers.specs.Ranges.{fault, fieldRules}
 use borrow.Author.Needs.{needs}
 use Rattle.headers.proofs.rsr.fields.Statement.{statement}
 use Rattle.headers.proofs.rsr.fields.Tie as tie
@@ -7,14 +11,34 @@ use Rattle.headers.proofs.rsr.fields.Tie as tie
 field-fault-requires : tie.Need-field-fault-requires
 field-fault-requires c κs = search needs
 
+enum-known-checked : tie.Need-enum-known-checked
+enum-known-checked c = search needs
+
 returns : tie.Need-returns
-returns c = rw (← c .before .field-fault .ensures, ne-eqb _ _ (c .if1 .taken))
+unfolding fault
+returns c =
+    let s = c .before .before .before .before .before .args .s .now in
+    sym (one-wrong outOfRange (fieldRules Rsr s) _ _ (sym (c .before .before .before .field-fault .ensures) ∙ c .before .checked .given .1))
+
+enum-told : tie.Need-enum-told
+enum-told c = search needs
 
 read-fields-requires : tie.Need-read-fields-requires
 read-fields-requires c κs = search needs
 
 returns-2 : tie.Need-returns-2
-returns-2 c = rw (← c .before .before .field-fault .ensures, eq-eqb _ _ (c .before .if1 .left)) (c .read-fields .ensures)
+unfolding fault
+returns-2 c =
+    let s = c .before .before .before .before .before .args .s .now in
+    c .read-fields .ensures ∙ sym (all-right outOfRange (fieldRules Rsr s) _ (sym (c .before .before .before .field-fault .ensures) ∙ c .before .enum-told .given .1))
 
 pub fields-spec : {M : Type 1} → statement M
-fields-spec = tie.close (tie.spec field-fault-requires returns read-fields-requires returns-2)
+fields-spec =
+    tie.close
+    (tie.spec
+    field-fault-requires
+    enum-known-checked
+    returns
+    enum-told
+    read-fields-requires
+    returns-2)

@@ -1,6 +1,6 @@
 -- `headers::telemetry::band_fault` meets its contract. Assumes nothing.
 use mathlib.Core.Path.{sym, _∙_}
-use Rattle.refusals.specs.Judge.{verdict}
+use Rattle.refusals.specs.Judge.{judge}
 use Rattle.octets.proofs.Laws.{failed, passed}
 use Rattle.headers.specs.Ranges.{fault}
 use borrow.Author.Needs.{needs}
@@ -11,7 +11,7 @@ has-band-requires : tie.Need-has-band-requires
 has-band-requires c κs = search needs
 
 returns : tie.Need-returns
-unfolding fault verdict
+unfolding fault judge
 returns c = rw (failed (c .before .has-band .ensures) (c .if1 .taken))
 
 shared-slice-read-is-band : tie.Need-shared-slice-read-is-band
@@ -21,11 +21,11 @@ is-band-requires : tie.Need-is-band-requires
 is-band-requires c κs = search needs
 
 returns-2 : tie.Need-returns-2
-unfolding fault verdict
+unfolding fault judge
 returns-2 c = rw (passed (c .before .before .before .before .has-band .ensures) (c .before .before .before .if1 .left), sym (c .before .is-band .ensures) ∙ c .if2 .taken)
 
 returns-3 : tie.Need-returns-3
-unfolding fault verdict
+unfolding fault judge
 returns-3 c = rw (passed (c .before .before .before .before .has-band .ensures) (c .before .before .before .if1 .left), sym (c .before .is-band .ensures) ∙ c .if2 .left)
 
 pub band-fault-spec : {M : Type 1} → statement M

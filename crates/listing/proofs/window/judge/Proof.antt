@@ -1,12 +1,13 @@
 -- `listing::window::judge` meets its contract, from what read one answers. Assumes nothing.
 use native.Mathlib.Omega.{arith}
+use Prim.Native.Nat.{ℕ, _≤_}
+use mathlib.Core.List.{[], _∷_}
 use mathlib.Core.Path.{ap, sym, _∙_}
-use Rattle.refusals.specs.Table.{numberOf}
-use Rattle.refusals.proofs.Laws.{number-positive}
-use Rattle.sfdu.specs.Read.{wordsOf, primaryWords}
+use Rattle.sfdu.specs.Read.{wordsOf, primaryWords, recordLength}
 use Rattle.sfdu.proofs.Accepted.{found}
 use Rattle.sfdu.proofs.Parts.{room}
-use Rattle.listing.proofs.Judging.{read-refused, accepted-whole, records}
+use Rattle.listing.specs.Listing.{bufferSize}
+use Rattle.listing.proofs.Judging.{accepted-whole, records}
 use borrow.Author.Needs.{needs}
 use Rattle.listing.proofs.window.judge.Statement.{statement}
 use Rattle.listing.proofs.window.judge.Tie as tie
@@ -35,9 +36,8 @@ stop-requires : tie.Need-stop-requires
 stop-requires c κs =
     let k = c .before .before .before .before .before .before in
     let g = c .before .before .read2 .given in
-    let n = c .number .ensures in
-    let v = read-refused (k .args .s .now) (numberOf (g .0 .0)) (sym (ap wordsOf (g .1)) ∙ c .before .before .before .before .read-one .ensures) in
-    (k .pre, n ∙ v, λ z. number-positive (g .0 .0) (sym n ∙ z))
+    let words = sym (ap wordsOf (g .1)) ∙ c .before .before .before .before .read-one .ensures in
+    (k .pre .0, k .pre .1, ap (λ (n : ℕ). n ∷ g .0 .0 .at ∷ []) (c .number .ensures) ∙ words)
 
 returns : tie.Need-returns
 returns c =
@@ -45,7 +45,8 @@ returns c =
     let s = k .args .s .now in
     let g = c .before .before .read .given in
     let f = found s (g .0 .0) (g .0 .1 .0) (primaryWords (g .0 .1 .1 .0)) (sym (ap wordsOf (g .1)) ∙ c .before .before .before .before .read-one .ensures) in
-    records s (k .args .last) (g .0 .0) (g .0 .1 .0) (c .record-number .result) (accepted-whole s (f .accepted) (omega (arith, f .size, room s _ _ _ f, k .pre))) (f .kind) (f .size) (c .record-number .ensures)
+    let fits : recordLength s ≤ bufferSize = omega (arith, f .size, room s _ _ _ f, k .pre .0) in
+    records (k .args .place) s (k .args .last) (g .0 .0) (g .0 .1 .0) (c .record-number .result) (accepted-whole s (f .accepted) fits) (f .kind) (f .size) (c .record-number .ensures)
 
 returns-2 : tie.Need-returns-2
 returns-2 c = search needs

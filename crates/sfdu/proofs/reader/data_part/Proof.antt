@@ -67,7 +67,7 @@ returns-2 : tie.Need-returns-2
 returns-2 c =
     let s = c .before .before .before .before .before .args .s .now in
     let g = c .before .enum-told .given in
-    let e = no-parts s (words-refused s (numberOf (g .0 .0)) (sym (c .before .before .before .read-one .ensures) ∙ ap wordsOf (g .1))) in
+    let e = no-parts s (words-refused s (numberOf (g .0 .0 .refusal)) (g .0 .0 .at) (sym (c .before .before .before .read-one .ensures) ∙ ap wordsOf (g .1))) in
     (sym (e .no-data), refl, omega (arith, e .data-at))
 
 pub data-part-spec : {M : Type 1} → statement M

@@ -1,49 +1,97 @@
 -- `sfdu::reader::read_blocks` meets its contract. Assumes nothing.
+use mathlib.Core.Path.{sym, _∙_}
 use native.Mathlib.Omega.{arith}
-use Rattle.refusals.specs.Judge.{verdict}
-use Rattle.octets.proofs.Laws.{failed, passed}
+use Rattle.sfdu.proofs.Labels.{label-right, label-wrong}
 use Rattle.sfdu.proofs.Placed.{placed}
 use borrow.Author.Needs.{needs}
 use Rattle.sfdu.proofs.reader.read_blocks.Statement.{statement}
 use Rattle.sfdu.proofs.reader.read_blocks.Tie as tie
 
-has-aggregation-requires : tie.Need-has-aggregation-requires
-has-aggregation-requires c κs = search needs
+judge-aggregation-requires : tie.Need-judge-aggregation-requires
+judge-aggregation-requires c κs = search needs
+
+enum-known-aggregation : tie.Need-enum-known-aggregation
+enum-known-aggregation c = search needs
+
+refused-requires : tie.Need-refused-requires
+refused-requires c κs = search needs
 
 returns : tie.Need-returns
-unfolding verdict
-returns c = rw (failed (c .before .has-aggregation .ensures) (c .if1 .taken))
+returns c =
+    let s = c .before .before .before .before .before .before .args .s .now in
+    c .refused .ensures ∙ sym (label-wrong 7 s _ _ _ _ _ _ (sym (c .before .before .before .before .judge-aggregation .ensures) ∙ c .before .before .aggregation .given .1))
 
-has-primary-requires : tie.Need-has-primary-requires
-has-primary-requires c κs = let k = placed (c .before .before .before .args .kind) in omega arith
+enum-told : tie.Need-enum-told
+enum-told c = search needs
+
+judge-primary-requires : tie.Need-judge-primary-requires
+judge-primary-requires c κs = let k = placed (c .before .before .before .before .args .kind) in omega arith
+
+enum-known-primary : tie.Need-enum-known-primary
+enum-known-primary c = search needs
+
+refused-requires-2 : tie.Need-refused-requires-2
+refused-requires-2 c κs = search needs
 
 returns-2 : tie.Need-returns-2
-unfolding verdict
-returns-2 c = rw (passed (c .before .before .before .has-aggregation .ensures) (c .before .before .if1 .left), failed (c .before .has-primary .ensures) (c .if2 .taken))
+returns-2 c =
+    let s = c .before .before .before .before .before .before .before .before .before .args .s .now in
+    c .refused2 .ensures
+    ∙ sym (label-right 7 s _ _ _ _ _ (sym (c .before .before .before .before .before .before .before .judge-aggregation .ensures) ∙ c .before .before .before .before .before .enum-told .given .1)
+    ∙ label-wrong 8 s _ _ _ _ _ _ (sym (c .before .before .before .before .judge-primary .ensures) ∙ c .before .before .primary .given .1))
 
-has-secondary-requires : tie.Need-has-secondary-requires
-has-secondary-requires c κs = search needs
+enum-told-2 : tie.Need-enum-told-2
+enum-told-2 c = search needs
+
+judge-secondary-requires : tie.Need-judge-secondary-requires
+judge-secondary-requires c κs = search needs
+
+enum-known-secondary : tie.Need-enum-known-secondary
+enum-known-secondary c = search needs
+
+refused-requires-3 : tie.Need-refused-requires-3
+refused-requires-3 c κs = search needs
 
 returns-3 : tie.Need-returns-3
-unfolding verdict
-returns-3 c = rw (passed (c .before .before .before .before .before .has-aggregation .ensures) (c .before .before .before .before .if1 .left), passed (c .before .before .before .has-primary .ensures) (c .before .before .if2 .left), failed (c .before .has-secondary .ensures) (c .if3 .taken))
+returns-3 c =
+    let s = c .before .before .before .before .before .before .before .before .before .before .before .before .args .s .now in
+    c .refused3 .ensures
+    ∙ sym (label-right 7 s _ _ _ _ _ (sym (c .before .before .before .before .before .before .before .before .before .before .judge-aggregation .ensures) ∙ c .before .before .before .before .before .before .before .before .enum-told .given .1)
+    ∙ label-right 8 s _ _ _ _ _ (sym (c .before .before .before .before .before .before .before .judge-primary .ensures) ∙ c .before .before .before .before .before .enum-told2 .given .1)
+    ∙ label-wrong 9 s _ _ _ _ _ _ (sym (c .before .before .before .before .judge-secondary .ensures) ∙ c .before .before .secondary .given .1))
+
+enum-told-3 : tie.Need-enum-told-3
+enum-told-3 c = search needs
 
 read-data-requires : tie.Need-read-data-requires
 read-data-requires c κs = search needs
 
 returns-4 : tie.Need-returns-4
-unfolding verdict
-returns-4 c = rw (passed (c .before .before .before .before .before .before .has-aggregation .ensures) (c .before .before .before .before .before .if1 .left), passed (c .before .before .before .before .has-primary .ensures) (c .before .before .before .if2 .left), passed (c .before .before .has-secondary .ensures) (c .before .if3 .left)) (c .read-data .ensures)
+returns-4 c =
+    let s = c .before .before .before .before .before .before .before .before .before .before .before .args .s .now in
+    c .read-data .ensures
+    ∙ sym (label-right 7 s _ _ _ _ _ (sym (c .before .before .before .before .before .before .before .before .before .judge-aggregation .ensures) ∙ c .before .before .before .before .before .before .before .enum-told .given .1)
+    ∙ label-right 8 s _ _ _ _ _ (sym (c .before .before .before .before .before .before .judge-primary .ensures) ∙ c .before .before .before .before .enum-told2 .given .1)
+    ∙ label-right 9 s _ _ _ _ _ (sym (c .before .before .before .judge-secondary .ensures) ∙ c .before .enum-told3 .given .1))
 
 pub read-blocks-spec : {M : Type 1} → statement M
 read-blocks-spec =
     tie.close
     (tie.spec
-    has-aggregation-requires
+    judge-aggregation-requires
+    enum-known-aggregation
+    refused-requires
     returns
-    has-primary-requires
+    enum-told
+    judge-primary-requires
+    enum-known-primary
+    refused-requires-2
     returns-2
-    has-secondary-requires
+    enum-told-2
+    judge-secondary-requires
+    enum-known-secondary
+    refused-requires-3
     returns-3
+    enum-told-3
     read-data-requires
     returns-4)

@@ -1,6 +1,7 @@
 -- `sfdu::reader::read_data` meets its contract. Assumes nothing.
+use mathlib.Core.Path.{_∙_}
 use native.Mathlib.Omega.{arith}
-use Rattle.refusals.specs.Judge.{verdict}
+use Rattle.refusals.specs.Judge.{judge}
 use Rattle.octets.proofs.Laws.{failed, passed}
 use Rattle.sfdu.proofs.Placed.{placed}
 use borrow.Author.Needs.{needs}
@@ -10,22 +11,37 @@ use Rattle.sfdu.proofs.reader.read_data.Tie as tie
 has-data-type-requires : tie.Need-has-data-type-requires
 has-data-type-requires c κs = search needs
 
+data-at-requires : tie.Need-data-at-requires
+data-at-requires c κs = search needs
+
+refused-requires : tie.Need-refused-requires
+refused-requires c κs = search needs
+
 returns : tie.Need-returns
-unfolding verdict
-returns c = rw (failed (c .before .has-data-type .ensures) (c .if1 .taken))
+unfolding judge
+returns c = rw (failed (c .before .before .before .has-data-type .ensures) (c .before .before .if1 .taken)) (c .refused .ensures ∙ rw (c .before .data-at .ensures))
 
 has-data-length-requires : tie.Need-has-data-length-requires
 has-data-length-requires c κs = search needs
 
+data-at-requires-2 : tie.Need-data-at-requires-2
+data-at-requires-2 c κs = search needs
+
+add-refused : tie.Need-add-refused
+add-refused c = let k = placed (c .before .before .before .before .before .before .args .kind) in omega (arith, c .data-at2 .ensures)
+
+refused-requires-2 : tie.Need-refused-requires-2
+refused-requires-2 c κs = search needs
+
 returns-2 : tie.Need-returns-2
-unfolding verdict
-returns-2 c = rw (passed (c .before .before .before .has-data-type .ensures) (c .before .before .if1 .left), failed (c .before .has-data-length .ensures) (c .if2 .taken))
+unfolding judge
+returns-2 c = rw (passed (c .before .before .before .before .before .has-data-type .ensures) (c .before .before .before .before .if1 .left), failed (c .before .before .before .has-data-length .ensures) (c .before .before .if2 .taken)) (c .refused2 .ensures ∙ rw (c .before .data-at2 .ensures))
 
 read-primary-requires : tie.Need-read-primary-requires
 read-primary-requires c κs = let k = placed (c .before .before .before .before .before .args .kind) in omega arith
 
 returns-3 : tie.Need-returns-3
-unfolding verdict
+unfolding judge
 returns-3 c =
     rw (passed (c .before .before .before .before .has-data-type .ensures) (c .before .before .before .if1 .left), passed (c .before .before .has-data-length .ensures) (c .before .if2 .left), c .before .before .before .before .before .before .pre .0) (cc (c .read-primary .ensures))
 
@@ -34,8 +50,13 @@ read-data-spec =
     tie.close
     (tie.spec
     has-data-type-requires
+    data-at-requires
+    refused-requires
     returns
     has-data-length-requires
+    data-at-requires-2
+    add-refused
+    refused-requires-2
     returns-2
     read-primary-requires
     returns-3)

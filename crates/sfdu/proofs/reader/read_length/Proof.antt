@@ -6,7 +6,7 @@ use native.Mathlib.Omega.{arith}
 use borrow.Author.Tests.{lt-ltb, le-ltb}
 use lib.Dec.{ltb}
 use lib.ListN.{length}
-use Rattle.refusals.specs.Judge.{verdict}
+use Rattle.refusals.specs.Judge.{judge}
 use Rattle.octets.proofs.Laws.{failed, passed}
 use Rattle.sfdu.specs.Nesting.{labelSize}
 use Rattle.sfdu.specs.Read.{recordLength}
@@ -22,9 +22,12 @@ label-length-requires c κs = search needs
 length-in-range-requires : tie.Need-length-in-range-requires
 length-in-range-requires c κs = search needs
 
+refused-requires : tie.Need-refused-requires
+refused-requires c κs = search needs
+
 returns : tie.Need-returns
-unfolding verdict
-returns c = rw (failed (say-range (c .before .before .before .before .args .kind) (c .before .before .before .before .args .s .now) _ (c .before .before .label-length .ensures) (c .before .length-in-range .ensures)) (c .if1 .taken))
+unfolding judge
+returns c = rw (failed (say-range (c .before .before .before .before .before .args .kind) (c .before .before .before .before .before .args .s .now) _ (c .before .before .before .label-length .ensures) (c .before .before .length-in-range .ensures)) (c .before .if1 .taken)) (c .refused .ensures)
 
 add-size : tie.Need-add-size
 add-size c =
@@ -32,13 +35,16 @@ add-size c =
     let r = in-range (c .before .before .before .before .args .kind) (c .before .before .before .before .args .s .now) (passed (say-range (c .before .before .before .before .args .kind) (c .before .before .before .before .args .s .now) _ (c .before .before .label-length .ensures) (c .before .length-in-range .ensures)) (c .if1 .left)) in
     omega (arith, c .before .before .label-length .ensures)
 
+refused-requires-2 : tie.Need-refused-requires-2
+refused-requires-2 c κs = search needs
+
 returns-2 : tie.Need-returns-2
-unfolding verdict
+unfolding judge
 returns-2 c =
-    let s = c .before .before .before .before .before .args .s .now in
-    let n : labelSize + c .before .before .before .label-length .result ≡ recordLength s = record-length s _ (c .before .before .before .label-length .ensures) in
+    let s = c .before .before .before .before .before .before .args .s .now in
+    let n : labelSize + c .before .before .before .before .label-length .result ≡ recordLength s = record-length s _ (c .before .before .before .before .label-length .ensures) in
     let e : ltb (length s) (recordLength s) ≡ true = lt-ltb (length s) (recordLength s) (omega arith) in
-    rw (passed (say-range (c .before .before .before .before .before .args .kind) (c .before .before .before .before .before .args .s .now) _ (c .before .before .before .label-length .ensures) (c .before .before .length-in-range .ensures)) (c .before .if1 .left), e)
+    rw (passed (say-range (c .before .before .before .before .before .before .args .kind) (c .before .before .before .before .before .before .args .s .now) _ (c .before .before .before .before .label-length .ensures) (c .before .before .before .length-in-range .ensures)) (c .before .before .if1 .left), e) (c .refused2 .ensures)
 
 read-blocks-requires : tie.Need-read-blocks-requires
 read-blocks-requires c κs =
@@ -47,7 +53,7 @@ read-blocks-requires c κs =
     (record-length _ _ (c .before .before .before .label-length .ensures), omega (arith, c .before .before .before .label-length .ensures), omega arith)
 
 returns-3 : tie.Need-returns-3
-unfolding verdict
+unfolding judge
 returns-3 c =
     let s = c .before .before .before .before .before .before .args .s .now in
     let n : labelSize + c .before .before .before .before .label-length .result ≡ recordLength s = record-length s _ (c .before .before .before .before .label-length .ensures) in
@@ -60,8 +66,10 @@ read-length-spec =
     (tie.spec
     label-length-requires
     length-in-range-requires
+    refused-requires
     returns
     add-size
+    refused-requires-2
     returns-2
     read-blocks-requires
     returns-3)

@@ -53,7 +53,7 @@ returns-3 c =
     let d = c .before .before .before .before .before in
     let s = d .before .before .args .s .now in
     let at = d .before .before .args .self .at in
-    sym (step-refused s at (numberOf (c .before .found2 .given .0 .0)) (d .if1 .left) (sym (ap wordsOf (c .before .found2 .given .1)) ∙ c .before .before .before .read-one .ensures ∙ ap readOne (from-there s at)))
+    sym (step-refused s at (numberOf (c .before .found2 .given .0 .0 .refusal)) (c .before .found2 .given .0 .0 .at) (d .if1 .left) (sym (ap wordsOf (c .before .found2 .given .1)) ∙ c .before .before .before .read-one .ensures ∙ ap readOne (from-there s at)))
 
 pub step-spec : {M : Type 1} → statement M
 step-spec =

@@ -1,8 +1,10 @@
 -- `stream::listing::turn_at` meets its contract: each case of the step is a case of the turn. Assumes nothing.
+use Prim.Native.Nat.{ℕ}
+use mathlib.Core.List.{List, _∷_}
 use mathlib.Core.Path.{sym, ap, _∙_}
 use Rattle.sfdu.specs.Read.{primaryWords}
 use Rattle.stream.specs.Walk.{stepWords, wordsOf}
-use Rattle.stream.proofs.Places.{found-there, done-there, refused-there}
+use Rattle.stream.proofs.Places.{found-there, done-there, refused-there, offset-there}
 use Rattle.stream.proofs.Underway.{turn-lists, turn-full, turn-none}
 use borrow.Author.Needs.{needs}
 use Rattle.stream.proofs.listing.turn_at.Statement.{statement}
@@ -50,6 +52,12 @@ no-turn-requires-2 c κs = search needs
 enum-known-found-2 : tie.Need-enum-known-found-2
 enum-known-found-2 c = search needs
 
+in-stream-requires : tie.Need-in-stream-requires
+in-stream-requires c κs =
+    let d = c .before in
+    let a = d .before .before .before .before .args in
+    offset-there (a .s .now) (a .at) _ _ _ (sym (ap stepWords (d .found2 .given .1)) ∙ d .before .before .step .ensures)
+
 stopped-requires-4 : tie.Need-stopped-requires-4
 stopped-requires-4 c κs = search needs
 
@@ -73,10 +81,12 @@ returns-3 c =
 
 returns-4 : tie.Need-returns-4
 returns-4 c =
-    let d = c .before .before .before in
+    let d = c .before .before .before .before in
     let a = d .before .before .before .before .args in
-    let n = refused-there (a .s .now) (a .at) _ _ (sym (ap stepWords (d .found2 .given .1)) ∙ d .before .before .step .ensures) in
-    rw (c .no-turn3 .ensures) (turn-none (a .s .now) (a .at) (a .count) (a .size) _ _ _ n (ap wordsOf (c .before .stopped4 .ensures)))
+    let n = refused-there (a .s .now) (a .at) _ _ _ (sym (ap stepWords (d .found2 .given .1)) ∙ d .before .before .step .ensures) in
+    rw (c .no-turn3 .ensures)
+    (turn-none (a .s .now) (a .at) (a .count) (a .size) _ _ _ n
+    (ap wordsOf (c .before .stopped4 .ensures) ∙ ap (λ (w : List ℕ). a .count ∷ a .at ∷ w) (c .before .before .in-stream .ensures)))
 
 pub turn-at-spec : {M : Type 1} → statement M
 turn-at-spec =
@@ -93,6 +103,7 @@ turn-at-spec =
     stopped-requires-3
     no-turn-requires-2
     enum-known-found-2
+    in-stream-requires
     stopped-requires-4
     no-turn-requires-3
     returns-2

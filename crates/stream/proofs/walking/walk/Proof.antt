@@ -1,12 +1,13 @@
 -- `stream::walking::walk` meets its contract. Assumes nothing.
-use Prim.Native.Nat.{_-_}
+use Prim.Native.Nat.{ℕ, _-_}
 use native.Mathlib.Omega.{arith}
+use mathlib.Core.List.{List, _∷_}
 use mathlib.Core.Path.{sym, ap, _∙_}
 use lib.ListN.{length}
 use borrow.Author.Needs.{needs}
 use Rattle.sfdu.specs.Read.{primaryWords}
 use Rattle.stream.specs.Walk.{stepWords, wordsOf}
-use Rattle.stream.proofs.Places.{whole-record, found-there, done-there, refused-there}
+use Rattle.stream.proofs.Places.{whole-record, found-there, done-there, refused-there, offset-there}
 use Rattle.stream.proofs.Passed.{Passed, begins, passes, finished}
 use Rattle.stream.proofs.walking.walk.Statement.{statement}
 use Rattle.stream.proofs.walking.walk.Tie as tie
@@ -69,15 +70,21 @@ returns c =
 enum-known-found-2 : tie.Need-enum-known-found-2 Inv-loop μ-loop
 enum-known-found-2 c = search needs
 
+in-stream-requires : tie.Need-in-stream-requires Inv-loop μ-loop
+in-stream-requires c κs =
+    let s = c .before .before .before .before .before .before .args .s .now in
+    offset-there s (c .before .before .before .before .loop .at) _ _ _ (sym (ap stepWords (c .before .found2 .given .1)) ∙ c .before .before .before .step .ensures)
+
 stopped-requires-2 : tie.Need-stopped-requires-2 Inv-loop μ-loop
 stopped-requires-2 c κs = search needs
 
 returns-2 : tie.Need-returns-2 Inv-loop μ-loop
 returns-2 c =
-    let u = c .before .before .before .before .before .loop in
-    let s = c .before .before .before .before .before .before .before .args .s .now in
-    let n = refused-there s (u .at) _ _ (sym (ap stepWords (c .before .before .found2 .given .1)) ∙ c .before .before .before .before .step .ensures) in
-    ap wordsOf (c .stopped2 .ensures) ∙ finished s (u .at) (u .count) (u .inv) _ (n .none) (n .number)
+    let u = c .before .before .before .before .before .before .loop in
+    let s = c .before .before .before .before .before .before .before .before .args .s .now in
+    let n = refused-there s (u .at) _ _ _ (sym (ap stepWords (c .before .before .before .found2 .given .1)) ∙ c .before .before .before .before .before .step .ensures) in
+    ap wordsOf (c .stopped2 .ensures) ∙ ap (λ (w : List ℕ). u .count ∷ u .at ∷ w) (c .before .in-stream .ensures)
+    ∙ finished s (u .at) (u .count) (u .inv) _ (n .none) (n .number)
 
 pub walk-spec : {M : Type 1} → statement M
 walk-spec =
@@ -95,5 +102,6 @@ walk-spec =
     stopped-requires
     returns
     enum-known-found-2
+    in-stream-requires
     stopped-requires-2
     returns-2)
