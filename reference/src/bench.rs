@@ -233,7 +233,7 @@ fn ticked_sheet(numbers: &[u32]) -> Vec<u8> {
 
 /// Ticks a number and unticks it (or the other way about), which leaves the sheet as it was.
 fn ledger_calls(name: &str, s: &mut [u8], each: &[Implementation]) {
-    let n = ledger::first(&ledger::desk(s, 0)[ledger::WORKED..]).wrapping_add(100);
+    let n = ledger::number_at(&ledger::desk(s, 0)[ledger::WORKED..], 100);
     let _ = ledger::untick(s, 0, n);
     compare(name, 2.0, each, |i| (i.tick)(black_box(s), 0, n) << 8 | (i.untick)(black_box(s), 0, n));
 }

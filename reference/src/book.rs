@@ -36,6 +36,17 @@ pub enum Call {
     Drop(u32),
 }
 
+impl Place {
+    /// Record numbers have 16 bits where the key is an RSR stream's.
+    fn modulus(&self) -> i64 {
+        if self.key >= 1 << 42 {
+            65_536
+        } else {
+            4_294_967_296
+        }
+    }
+}
+
 impl Book {
     pub fn new() -> Book {
         Book { places: vec![None; 32], desks: vec![None; 8] }
@@ -75,6 +86,9 @@ impl Book {
         if !keys::valid(key) {
             return Err(22);
         }
+        if key >= 1 << 42 && first > 65_535 {
+            return Err(32);
+        }
         if self.places.iter().flatten().any(|place| place.key == key) {
             return Err(23);
         }
@@ -99,12 +113,12 @@ impl Book {
 
     fn position(&mut self, desk: u32, n: u32) -> Result<(&mut Desk, u32), u32> {
         let place = self.open_desk(desk)?.place;
-        let first = self.places[place].as_ref().expect("open desks name used rows").first;
-        let position = ((n as i64 - first as i64).rem_euclid(1 << 32)) as u32;
-        if position >= 1_024 {
+        let row = self.places[place].as_ref().expect("open desks name used rows");
+        let position = (n as i64 - row.first as i64).rem_euclid(row.modulus());
+        if n as i64 >= row.modulus() || position >= 1_024 {
             return Err(28);
         }
-        Ok((self.open_desk(desk)?, position))
+        Ok((self.open_desk(desk)?, position as u32))
     }
 
     fn save(&mut self, desk: u32) -> Result<usize, u32> {
@@ -122,7 +136,8 @@ impl Book {
     pub fn report(&self, row: u32) -> Result<(usize, usize, Option<u32>), u32> {
         let place = self.places.get(row as usize).and_then(Option::as_ref).ok_or(25u32)?;
         let missing = missing(&place.set);
-        let lowest = missing.first().map(|position| place.first.wrapping_add(*position));
+        let number = |position: &u32| (place.first as i64 + *position as i64).rem_euclid(place.modulus()) as u32;
+        let lowest = missing.first().map(number);
         Ok((place.set.len(), missing.len(), lowest))
     }
 

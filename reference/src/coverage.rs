@@ -10,7 +10,7 @@ const REFUSALS: &[RangeInclusive<u32>] = &[
     // Records and streams.
     1..=16,
     // The ledger.
-    20..=31,
+    20..=32,
 ];
 
 /// The wrong fields that it has to meet: the refusal, and the field's offset in the record.

@@ -1,4 +1,4 @@
-//! Stream keys. Document 01: 'Stream key'.
+//! Stream keys. Document 01: 'Stream key'; request 03: what a stream's record numbers are counted modulo.
 
 /// RSR keys start here, and take 32 bits from here on.
 pub const FIRST_RSR: u64 = 1 << 42;
@@ -6,6 +6,20 @@ pub const PAST_RSR: u64 = FIRST_RSR + (1 << 32);
 
 pub fn valid(key: u64) -> bool {
     key < FIRST_RSR || (FIRST_RSR..PAST_RSR).contains(&key)
+}
+
+/// What the record numbers of a stream are counted modulo: they have 32 bits in telemetry and 16 in RSR records.
+pub fn modulus(key: u64) -> u64 {
+    if key < FIRST_RSR {
+        1 << 32
+    } else {
+        1 << 16
+    }
+}
+
+/// Whether a number is one that records of the stream can have.
+pub fn is_number(key: u64, number: u32) -> bool {
+    (number as u64) < modulus(key)
 }
 
 fn fits(number: u32, bits: u32) -> bool {

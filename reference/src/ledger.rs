@@ -1,5 +1,5 @@
-//! The ledger sheet. Document 01: 'The ledger sheet'. In each call the sheet is judged first
-//! (20), then the refusals stand in the table's order.
+//! The ledger sheet. Document 01: 'The ledger sheet'; request 02: ticks are counted by words; request 03: RSR numbers
+//! have 16 bits. In each call the sheet is judged first (20), then the refusals stand in the table's order.
 
 use crate::keys;
 use crate::record::number;
@@ -80,11 +80,15 @@ fn header_right(s: &[u8]) -> bool {
         && header(5) == DESKS
 }
 
-/// Used rows come first with valid, different keys; unused rows are all zero.
+/// Used rows come first, with valid, different keys and first numbers of their streams; unused rows are all zero.
 fn rows_right(s: &[u8]) -> bool {
     let used = rows_used(s);
     let new_key = |r| (0..r).all(|earlier| key(row(s, earlier)) != key(row(s, r)));
-    (0..used).all(|r| keys::valid(key(row(s, r))) && new_key(r)) && all_zero(&s[row_place(used)..DESKS])
+    let right = |r| {
+        let row = row(s, r);
+        keys::valid(key(row)) && keys::is_number(key(row), first(row)) && new_key(r)
+    };
+    (0..used).all(right) && all_zero(&s[row_place(used)..DESKS])
 }
 
 /// Closed and all zero, or open with a used row, two zeros, and copies that carry its key and first number.
@@ -163,6 +167,9 @@ pub fn enrol(s: &mut [u8], key: u64, first: u32) -> Result<usize, u32> {
     if !keys::valid(key) {
         return Err(22);
     }
+    if !keys::is_number(key, first) {
+        return Err(32);
+    }
     if row_with(s, key).is_some() {
         return Err(23);
     }
@@ -202,14 +209,13 @@ pub fn open(s: &mut [u8], d: u32, r: u32) -> Result<(), u32> {
     Ok(())
 }
 
-/// (n - first) mod 2^32, where that is in the row.
-pub fn position(first: u32, n: u32) -> Option<u32> {
-    let position = n.wrapping_sub(first);
-    if position < POSITIONS {
-        Some(position)
-    } else {
-        None
+/// (n - first) modulo the stream's modulus, where n is a number of the stream and that is in the row.
+pub fn position(key: u64, first: u32, n: u32) -> Option<u32> {
+    if !keys::is_number(key, n) {
+        return None;
     }
+    let position = n.wrapping_sub(first) & (keys::modulus(key) - 1) as u32;
+    (position < POSITIONS).then_some(position)
 }
 
 fn ticked(ticks: &[u8], position: u32) -> bool {
@@ -228,7 +234,7 @@ pub fn untick(s: &mut [u8], desk: u32, n: u32) -> Result<(), u32> {
 fn set_tick(s: &mut [u8], desk: u32, n: u32, wanted: bool) -> Result<(), u32> {
     let desk = judge_open_desk(s, desk)?;
     let worked = &mut s[desk_place(desk) + WORKED..][..ROW];
-    let Some(position) = position(first(worked), n) else {
+    let Some(position) = position(key(worked), first(worked), n) else {
         return Err(28);
     };
     if ticked(ticks(worked), position) == wanted {
@@ -305,9 +311,9 @@ fn lowest_unticked(words: &[u64; TICK_WORDS]) -> Option<u32> {
     Some(64 * k as u32 + (!words[k]).trailing_zeros())
 }
 
-/// The number at a position of the row.
-fn number_at(row: &[u8], position: u32) -> u32 {
-    first(row).wrapping_add(position)
+/// (first + position) modulo the stream's modulus.
+pub fn number_at(row: &[u8], position: u32) -> u32 {
+    first(row).wrapping_add(position) & (keys::modulus(key(row)) - 1) as u32
 }
 
 fn lowest_missing_number(row: &[u8]) -> Option<u32> {

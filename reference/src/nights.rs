@@ -1,7 +1,7 @@
 //! The ledger's part of random scripts: nights of calls by eight desks, and sheets right and damaged.
 
 use crate::keys::{FIRST_RSR, PAST_RSR};
-use crate::ledger::{self, DESK_PLACES, OPENED, POSITIONS, ROW, ROW_PLACES, SHEET, TICKS, WORKED};
+use crate::ledger::{self, DESK_PLACES, FIRST, OPENED, POSITIONS, ROW, ROW_PLACES, SHEET, TICKS, WORKED};
 use crate::make::{put, Rng};
 use crate::random::Generator;
 use crate::script::{Frame, MOST_SHEET};
@@ -9,8 +9,12 @@ use crate::script::{Frame, MOST_SHEET};
 const VALID_EDGES: [u64; 7] = [0, 1, 1 << 32, FIRST_RSR - 1, FIRST_RSR, FIRST_RSR + 1, PAST_RSR - 1];
 /// `new_key` does not give it but by chance.
 const KEY_OF_NO_OTHER: u64 = 1_000 << 32;
+const KEY_OF_NO_RSR: u64 = FIRST_RSR + (200 << 24);
 const BAD_KEYS: [u64; 7] = [PAST_RSR, PAST_RSR + 1, FIRST_RSR << 1, 1 << 63, u64::MAX, (1 << 48) + 5, u64::MAX - 1];
 const FIRSTS: [u32; 9] = [0, 1, 2, 1_000, 65_530, u32::MAX, u32::MAX - 5, u32::MAX - 1_023, u32::MAX - 1_024];
+const RSR_FIRSTS: [u32; 9] = [0, 1, 2, 1_000, 32_767, 65_535, 65_530, 65_536 - 1_023, 65_536 - 1_024];
+/// No RSR stream has these numbers.
+const BAD_RSR_FIRSTS: [u32; 5] = [65_536, 65_537, 65_536 + 65_530, 1 << 31, u32::MAX];
 const BAD_DESKS: [u32; 6] = [8, 9, 255, 256, 264, u32::MAX];
 
 #[derive(Clone, Copy)]
@@ -59,13 +63,14 @@ impl Generator {
             NightCase::Crowded => {
                 self.emit(Frame { op: 20, ..Frame::default() });
                 self.enrol_rows(self.rng.between(1, 3));
+                self.enrol_too_wide();
                 self.piece();
                 self.work(self.rng.between(40, 90));
             }
             NightCase::Full => {
                 self.emit(Frame { op: 20, ..Frame::default() });
                 self.enrol_rows(ROW_PLACES);
-                self.emit(Frame { op: 21, key: self.key_not_there(), x: self.first_number(), ..Frame::default() });
+                self.enrol_rows(1);
                 self.work(20);
             }
             NightCase::Underway => {
@@ -95,12 +100,13 @@ impl Generator {
     }
 
     fn piece(&mut self) {
-        let first = ledger::first(ledger::row(&self.view(), 0));
+        let view = self.view();
+        let number = |position| ledger::number_at(ledger::row(&view, 0), position);
         let (a, b) = (self.rng.below(4) as u32, self.rng.between(4, 7) as u32);
         let run = self.rng.between(1, 9) as u32;
         let (one, other) = (self.rng.below(500) as u32, self.rng.between(500, 1_023) as u32);
         let desk_opens = |desk| vec![(23, desk, 0)];
-        let changes = |desk, op, position| vec![(op, desk, first.wrapping_add(position))];
+        let changes = |desk, op, position| vec![(op, desk, number(position))];
         let saves = |desk| vec![(26, desk, 0), (28, 0, 0)];
         let once = |op, position| [desk_opens(b), changes(b, op, position), saves(b)].concat();
         let calls = match self.pieces.deal(&self.rng) {
@@ -123,8 +129,18 @@ impl Generator {
 
     fn enrol_rows(&mut self, rows: usize) {
         for _ in 0..rows {
-            self.emit(Frame { op: 21, key: self.key_not_there(), x: self.first_number(), ..Frame::default() });
+            let key = self.key_not_there();
+            self.emit(Frame { op: 21, key, x: first_number(&self.rng, key), ..Frame::default() });
         }
+    }
+
+    /// An RSR stream, new or not, with a number that it cannot have.
+    fn enrol_too_wide(&mut self) {
+        let view = self.view();
+        let keys = (0..ledger::rows_used(&view)).map(|row| ledger::key(ledger::row(&view, row)));
+        let mut keys: Vec<u64> = keys.filter(|key| *key >= FIRST_RSR).collect();
+        keys.push(FIRST_RSR + self.rng.below(PAST_RSR - FIRST_RSR));
+        self.emit(Frame { op: 21, key: self.rng.pick(&keys), x: self.rng.pick(&BAD_RSR_FIRSTS), ..Frame::default() });
     }
 
     /// Calls that mostly have something to do on the sheet as it stands.
@@ -170,7 +186,10 @@ impl Generator {
     /// A call of this op, with arguments good and bad.
     fn call(&mut self, op: u32) {
         let frame = match op {
-            21 => Frame { op, key: self.enrolment_key(), x: self.first_number(), ..Frame::default() },
+            21 => {
+                let key = self.enrolment_key();
+                Frame { op, key, x: any_first_number(&self.rng, key), ..Frame::default() }
+            }
             22 => Frame { op, key: self.enrolment_key(), ..Frame::default() },
             23 => Frame { op, x: self.desk(), y: self.row(), ..Frame::default() },
             24 | 25 => {
@@ -215,10 +234,6 @@ impl Generator {
         }
     }
 
-    fn first_number(&self) -> u32 {
-        first_number(&self.rng)
-    }
-
     fn desk(&self) -> u32 {
         if self.rng.percent(12) {
             self.rng.pick(&BAD_DESKS)
@@ -240,17 +255,18 @@ impl Generator {
     fn number(&self, desk: u32) -> u32 {
         let view = self.view();
         let desk = desk as usize % DESK_PLACES;
-        let first = ledger::first(&ledger::desk(&view, desk)[WORKED..]);
+        let worked = &ledger::desk(&view, desk)[WORKED..];
         let rng = &self.rng;
         let position = match rng.below(20) {
             0..=10 => rng.below(10) as u32,
             11..=15 => rng.below(POSITIONS as u64) as u32,
             16 => rng.pick(&[1_022, POSITIONS - 1, 7, 8]),
             17 => rng.pick(&[POSITIONS, POSITIONS + 1, u32::MAX, 1 << 16, 1 << 31]),
-            18 => rng.pick(&[0u32, u32::MAX, 1 << 31]).wrapping_sub(first),
-            _ => rng.word(),
+            // Right but for the upper 16 bits: no RSR stream has it.
+            18 => return ledger::number_at(worked, rng.below(10) as u32) ^ rng.pick(&[1 << 16, 1 << 31, 0xFFFF_0000]),
+            _ => return rng.pick(&[0, u32::MAX, 1 << 31, 65_535, 65_536, rng.word(), rng.word()]),
         };
-        first.wrapping_add(position)
+        ledger::number_at(worked, position)
     }
 
     /// A number that the desk has ticked.
@@ -261,7 +277,7 @@ impl Generator {
         if ticked.is_empty() {
             None
         } else {
-            Some(ledger::first(worked).wrapping_add(self.rng.pick(&ticked)))
+            Some(ledger::number_at(worked, self.rng.pick(&ticked)))
         }
     }
 }
@@ -276,11 +292,22 @@ fn new_key(rng: &Rng) -> u64 {
     }
 }
 
-fn first_number(rng: &Rng) -> u32 {
-    if rng.percent(80) {
-        rng.pick(&FIRSTS)
+/// A first number that a row of this key can have.
+fn first_number(rng: &Rng, key: u64) -> u32 {
+    let rsr = key >= FIRST_RSR;
+    match rng.percent(80) {
+        true => rng.pick(if rsr { &RSR_FIRSTS } else { &FIRSTS }),
+        false if rsr => rng.word() >> 16,
+        false => rng.word(),
+    }
+}
+
+/// The same, or sometimes one that an RSR row cannot have.
+fn any_first_number(rng: &Rng, key: u64) -> u32 {
+    if rng.percent(20) {
+        rng.pick(&BAD_RSR_FIRSTS)
     } else {
-        rng.word()
+        first_number(rng, key)
     }
 }
 
@@ -302,8 +329,8 @@ pub fn sheet_with(rng: &Rng, used: usize, open_percent: u64) -> Vec<u8> {
     let mut s = vec![0; SHEET];
     ledger::fresh(&mut s).expect("the length is right");
     while ledger::rows_used(&s) < used {
-        let (key, first) = (new_key(rng), first_number(rng));
-        if let Ok(row) = ledger::enrol(&mut s, key, first) {
+        let key = new_key(rng);
+        if let Ok(row) = ledger::enrol(&mut s, key, first_number(rng, key)) {
             let ticks = ticks(rng);
             s[ledger::row_place(row) + TICKS..][..ROW - TICKS].copy_from_slice(&ticks);
         }
@@ -351,6 +378,8 @@ pub enum SheetCase {
     RowsUsed(usize, u32),
     KeyNotValid,
     KeyAtEdge,
+    /// A key, and a first number: of the stream or not.
+    First(u64, u32),
     SameKeys,
     /// Offset in a row.
     UnusedRow(usize),
@@ -379,6 +408,8 @@ pub fn sheet_cases() -> Vec<SheetCase> {
         [(2, 1), (2, 3), (31, 32), (32, 33), (32, 31), (1, u32::MAX), (1, 257)]
             .map(|(rows, said)| RowsUsed(rows, said)),
     );
+    cases.extend([65_535, 65_536, 65_536 + 5, u32::MAX].map(|first| First(KEY_OF_NO_RSR, first)));
+    cases.extend([65_536, u32::MAX].map(|first| First(KEY_OF_NO_OTHER, first)));
     cases.extend([0, 11, ROW - 1].map(UnusedRow));
     cases.extend([0, 1, 2, 255].map(DeskByte));
     cases.extend([1, 2, 3, 4, 143, 144, 283].map(ClosedDesk));
@@ -399,7 +430,7 @@ fn sheet_case(rng: &Rng, case: SheetCase) -> Vec<u8> {
         _ => rng.pick(&[1, 3, 32]),
     };
     let open_percent = match case {
-        ClosedDesk(_) | RowsUsed(..) => 0,
+        ClosedDesk(_) | RowsUsed(..) | First(..) | KeyAtEdge => 0,
         DeskZero(_) | DeskRow(_) | DeskRowUnused | Copy(_) => 100,
         _ => rng.pick(&[0, 50]),
     };
@@ -422,7 +453,14 @@ fn sheet_case(rng: &Rng, case: SheetCase) -> Vec<u8> {
             put(&mut s, 4, 4, said as u64)
         }
         KeyNotValid => put(&mut s, row, 8, rng.pick(&BAD_KEYS)),
-        KeyAtEdge => put(&mut s, row, 8, rng.pick(&VALID_EDGES)),
+        KeyAtEdge => {
+            put(&mut s, row, 8, rng.pick(&VALID_EDGES));
+            put(&mut s, row + FIRST, 4, rng.pick(&RSR_FIRSTS) as u64);
+        }
+        First(key, first) => {
+            put(&mut s, row, 8, key);
+            put(&mut s, row + FIRST, 4, first as u64);
+        }
         SameKeys => {
             let one = rng.index(used);
             let two = (one + 1 + rng.index(used - 1)) % used;

@@ -11,6 +11,8 @@ use crate::{keys, list, nights, random, sample};
 use std::collections::BTreeSet;
 use std::io::{self, Read};
 
+mod rsr_rows;
+
 /// A record written out by hand, from the paper's first table; `label_length` as given, the rest right.
 fn by_hand(kind: u32, label_length: u64, secondary: &[u8], data: &[u8]) -> Vec<u8> {
     let (description, aggregation, secondary_type, length) =
@@ -131,7 +133,7 @@ fn p6_signed_byte() {
 #[test]
 fn p7_wrap() {
     let mut s = one_row(4_294_967_290);
-    assert_eq!(ledger::position(4_294_967_290, 3), Some(9));
+    assert_eq!(ledger::position(760_930_632_193, 4_294_967_290, 3), Some(9));
     ledger::open(&mut s, 0, 0).unwrap();
     assert_eq!(ledger::tick(&mut s, 0, 3), Ok(()));
     assert_eq!(s[4_504 + 144 + 12 + 1], 1 << 1);
@@ -161,13 +163,14 @@ fn reports_are_those_of_the_positions() {
     for _ in 0..2_000 {
         let s = nights::sheet_with(&rng, 1, 0);
         let (row, first) = (ledger::row(&s, 0), ledger::first(ledger::row(&s, 0)));
+        let modulus = if row[..8] < [0, 0, 4, 0, 0, 0, 0, 0][..] { 1 << 32 } else { 1u64 << 16 };
         let is_ticked = |i: u32| row[12 + i as usize / 8] >> (i % 8) & 1 == 1;
         let highest = (0..1_024).rev().find(|i| is_ticked(*i)).unwrap_or(0);
         let missing: Vec<u32> = (0..highest).filter(|i| !is_ticked(*i)).collect();
         let report = Report {
             ticked: (0..1_024).filter(|i| is_ticked(*i)).count() as u32,
             missing: missing.len() as u32,
-            lowest: missing.first().map(|i| first.wrapping_add(*i)),
+            lowest: missing.first().map(|i| ((first as u64 + *i as u64) % modulus) as u32),
         };
         assert_eq!(ledger::first_gap(&s), Ok(report.lowest.map(|number| (number, 0))));
         assert_eq!(ledger::report_row(row), report);
