@@ -1,5 +1,4 @@
 // Rows: as values, by their key, and enrolled.
-use octets::read_be;
 use octets::write_be;
 use sheet::FIRST;
 use sheet::FIRST_AT;
@@ -11,23 +10,16 @@ use sheet::Row;
 use sheet::TICKS;
 use sheet::TICKS_AT;
 use sheet::USED_AT;
+use sheet::right::first_at;
 use sheet::right::key_at;
 use sheet::right::rows_used;
 ghost use mathlib.Core.Path.{_≡_};
 ghost use Prim.Native.Nat.{_+_, _≤_, _<_};
 ghost use lib.ListN.{length};
 ghost use Rattle.octets.specs.Octets.{part, put};
-ghost use Rattle.sheet.specs.Sheet.{sheetSize, rowSize, rowCount, ticksSize, used, firstNumberAt, Sized};
+ghost use Rattle.sheet.specs.Sheet.{sheetSize, rowSize, rowCount, ticksSize, used, Sized};
 ghost use Rattle.changes.specs.Rows.{rowBytes, rowValueAt, blankRow};
 ghost use Rattle.changes.specs.Bytes.{rowWith, hasKey, enrolAt};
-
-// The first number of the row or the copy at offset a.
-pub fn first_at(s: &[u8], a: usize) -> u32
-    requires { ⌜ a + rowSize ≤ length (now s) ⌝ }
-    ensures { λ r. ⌜ r ≡ firstNumberAt (now (s .entry)) a ⌝ }
-{
-    read_be(s, a + FIRST_AT, FIRST) as u32
-}
 
 // A row with no ticks: the blank map is an array of zeros.
 pub fn blank_row(key: u64, first: u32) -> Row

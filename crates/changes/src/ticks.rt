@@ -1,5 +1,4 @@
 // Ticks in a row or a desk's copy of one.
-use crate::rows::first_at;
 use refusals::Refusal;
 use sheet::Answer;
 use sheet::BYTE_BITS;
@@ -9,6 +8,7 @@ use sheet::ROW;
 use sheet::TICKS;
 use sheet::TICKS_AT;
 use sheet::WORKED_AT;
+use sheet::right::first_at;
 use sheet::right::key_at;
 ghost use mathlib.Core.Path.{_≡_};
 ghost use Prim.Native.Nat.{_+_, _≤_, _<_, _^_};

@@ -1,5 +1,4 @@
 // Row report and first gap, on the bytes of a sheet.
-use changes::rows::first_at;
 use changes::ticks::is_ticked;
 use sheet::BYTE_BITS;
 use sheet::GapAnswer;
@@ -8,6 +7,7 @@ use sheet::ROWS_AT;
 use sheet::ReportAnswer;
 use sheet::TICKS;
 use sheet::TICKS_AT;
+use sheet::right::first_at;
 use sheet::right::key_at;
 use sheet::right::rows_used;
 ghost use mathlib.Core.Path.{_≡_};

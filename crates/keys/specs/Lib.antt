@@ -1,3 +1,4 @@
 pub mod Key
+pub mod Numbers
 pub mod Words
 pub mod Stream

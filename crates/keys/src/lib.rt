@@ -4,6 +4,7 @@ ghost use mathlib.Core.Path.{_≡_};
 ghost use mathlib.Core.Bool.{_&&_};
 ghost use lib.Dec.{ltb};
 ghost use Rattle.keys.specs.Key.{validKey, telemetryKey, rsrKey, telemetryKeyCall, rsrKeyCall};
+ghost use Rattle.keys.specs.Numbers.{isNumber};
 ghost use Rattle.keys.specs.Words.{wordsOf};
 
 // The first number too wide for a field of 8, 10 or 16 bits.
@@ -23,9 +24,12 @@ const AT_24: u64 = 16777216;
 const AT_32: u64 = 4294967296;
 
 // 2^42, the lowest RSR key, and the first number past the RSR keys.
-const RSR_START: u64 = 4398046511104;
+pub const RSR_START: u64 = 4398046511104;
 
 const RSR_END: u64 = RSR_START + AT_32;
+
+// How many record numbers an RSR stream has; a telemetry stream has all of 32 bits.
+pub const RSR_NUMBERS: u32 = LIMIT_16;
 
 pub enum KeyAnswer {
     Key(u64),
@@ -104,4 +108,14 @@ pub fn valid(key: u64) -> bool
         return true;
     }
     key < RSR_END
+}
+
+// Whether a number is one that the records of the stream with this key can have.
+pub fn is_number(key: u64, n: u32) -> bool
+    ensures { λ r. ⌜ r ≡ isNumber key n ⌝ }
+{
+    if key < RSR_START {
+        return true;
+    }
+    n < RSR_NUMBERS
 }

@@ -44,7 +44,7 @@ not-right s rows outcome e = refuses rows outcome s 20 (ap not e) (lit< tt)
 -- no row of the model's has the number 0
 numbered : (c : Call) (b : Book) → Numbered (refusals c b)
 unfolding refusals
-numbered (Enrol key first) b = (lit< tt, (lit< tt, (lit< tt, tt)))
+numbered (Enrol key first) b = (lit< tt, (lit< tt, (lit< tt, (lit< tt, tt))))
 numbered (Find key) b = (lit< tt, (lit< tt, tt))
 numbered (Open d r) b = (lit< tt, (lit< tt, (lit< tt, tt)))
 numbered (Mark true d n) b = (lit< tt, (lit< tt, (lit< tt, (lit< tt, tt))))
@@ -150,7 +150,7 @@ module _ (b : Book) (ok : WellFormed b) where
   unfolding enrolCall refusals effect afterRefusal judge
   enrol-call key first =
       by-rows (Enrol key first) _ _ (rw (has-key key, full)) (λ _. refl) (λ v.
-      let m : n b ok ≡ rowCount → ⊥ = eqb-false _ _ (rw (used-is b ok) at (full ∙ v .1 .1 .0)) in
+      let m : n b ok ≡ rowCount → ⊥ = eqb-false _ _ (rw (used-is b ok) at (full ∙ v .1 .1 .1 .0)) in
       rw (used-is b ok, lowest-free (in-order b ok)) (ap (λ (x : List ℕ). (0 ∷ n b ok ∷ [], x)) (enrol-at key first (omega (arith, few b ok)))))
 
   -- ---- open, drop

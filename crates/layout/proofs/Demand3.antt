@@ -8,7 +8,7 @@ use Rattle.refusals.specs.Table.{numberOf}
 use Rattle.refusals.proofs.Laws.{number-positive}
 use Rattle.model.specs.Book.{Book, idle, fresh}
 use Rattle.model.specs.Step.{Call, Answer, done, atRow, refused, answerWords, step, Entry, callOf, run}
-use Rattle.model.specs.WellFormed.{WellFormed, InRange, AllInRange}
+use Rattle.model.specs.WellFormed.{WellFormed}
 use Rattle.model.specs.Chain.{Chain, stop, next}
 use Rattle.model.specs.Claim.{bookAfter}
 use Rattle.model.proofs.Outcome.{outcome}
@@ -34,9 +34,9 @@ proper (atRow r) h = tt
 proper (refused number) h = λ e. h (ap refused e)
 
 -- a call that keeps its promise on the layout of a well-formed book does what the model does
-each : (c : Call) (b : Book) (a : Answer) (t : List ℕ) → WellFormed b → InRange c → Meets c (layout b) a t
+each : (c : Call) (b : Book) (a : Answer) (t : List ℕ) → WellFormed b → Meets c (layout b) a t
     → (a ≡ step c b .answer) × (t ≡ layout (step c b .book))
-each c b a t ok f m =
+each c b a t ok m =
     let same = m .1 ∙ on-layout (call c) b ok in
     (words-injective a (step c b .answer) (proper a (m .0)) (step-proper c b) (ap (λ r. r .0) same), ap (λ r. r .1) same)
 
@@ -60,15 +60,15 @@ row-answer-meets c s (R.Refused q) t e = (improper (refused (numberOf q)) (numbe
 
 -- ---- a list of calls
 
-chain-from : (calls : List Call) (b : Book) → WellFormed b → AllInRange calls → Chain Meets (layout b) (run b calls .log) (layout (run b calls .book))
-unfolding run AllInRange
-chain-from [] b ok f = stop
-chain-from (c ∷ calls) b ok f =
-    next (model-meets c b ok) (chain-from calls (step c b .book) (well-formed b ok (outcome c b) (f .0)) (f .1))
+chain-from : (calls : List Call) (b : Book) → WellFormed b → Chain Meets (layout b) (run b calls .log) (layout (run b calls .book))
+unfolding run
+chain-from [] b ok = stop
+chain-from (c ∷ calls) b ok =
+    next (model-meets c b ok) (chain-from calls (step c b .book) (well-formed b ok (outcome c b)))
 
 -- Every list of calls has such a chain.
-pub chain-exists : (calls : List Call) → AllInRange calls → Chain Meets freshSheet (run fresh calls .log) (layout (run fresh calls .book))
-chain-exists calls f = rw fresh-layout (chain-from calls fresh fresh-well-formed f)
+pub chain-exists : (calls : List Call) → Chain Meets freshSheet (run fresh calls .log) (layout (run fresh calls .book))
+chain-exists calls = rw fresh-layout (chain-from calls fresh fresh-well-formed)
 
 -- ---- the theorem
 
@@ -76,13 +76,13 @@ front-same : (b : Book) → WellFormed b → headerAndRows (layout (idle (b .pla
 front-same b ok =
     front-part (idle (b .places)) (record { rows-count = ok .places-count; desks-count = refl }) ∙ sym (front-part b (shape ok))
 
-pub demand3 : {log : List Entry} {last : List ℕ} → Chain Meets freshSheet log last → AllInRange (map callOf log) → Demand3 log last
-demand3 {log = log} {last = last} chain f =
-    let claim = chain-claim Meets layout each (rw fresh-layout at chain) f in
+pub demand3 : {log : List Entry} {last : List ℕ} → Chain Meets freshSheet log last → Demand3 log last
+demand3 {log = log} {last = last} chain =
+    let claim = chain-claim Meets layout each (rw fresh-layout at chain) in
     record {
       claim = claim;
       serial-rows = λ again end other e.
           ap headerAndRows (claim .serial-store again end other e .1)
-          ∙ front-same (bookAfter log) (run-well-formed (map callOf log) f)
+          ∙ front-same (bookAfter log) (run-well-formed (map callOf log))
           ∙ ap headerAndRows (sym (claim .model-store));
     }

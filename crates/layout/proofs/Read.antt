@@ -14,9 +14,9 @@ use Rattle.model.specs.Positions.{rowLength}
 use Rattle.model.specs.Book.{Place, free, row, closed, Book, place, desk, isFree, withTicks}
 use Rattle.model.specs.WellFormed.{IsSet, PlaceOk, DeskOk, keyOf, WellFormed}
 use Rattle.octets.specs.Octets.{numberAt, bytesOf, part, zeroAt}
-use Rattle.octets.proofs.Laws.{Bytes, number-lt, and-split, all-at}
+use Rattle.octets.proofs.Laws.{Bytes, and-split, all-at}
 use Rattle.octets.proofs.Parts.{bytes-number, part-join, part-whole, zero-part, same-part}
-use Rattle.sheet.specs.Sheet.{sheetSize, keySize, firstAt, firstSize, ticksAt, rowSize, rowCount, rowsStart, deskRowAt, deskZerosAt, deskZerosSize, openedAt, workedAt, deskSize, deskCount, desksStart, headerNumberSize, lengthAt, usedAt, rowCountAt, rowsStartAt, deskCountAt, desksStartAt, rowAt, deskAt, headerNumber, used, keyAt, firstNumberAt, deskByte, deskRow, isClosed, carries, headerRight, validKeys, differentKeys, unusedZero, closedZero, deskMarked, openNames, deskRight, right}
+use Rattle.sheet.specs.Sheet.{sheetSize, keySize, firstAt, firstSize, ticksAt, rowSize, rowCount, rowsStart, deskRowAt, deskZerosAt, deskZerosSize, openedAt, workedAt, deskSize, deskCount, desksStart, headerNumberSize, lengthAt, usedAt, rowCountAt, rowsStartAt, deskCountAt, desksStartAt, rowAt, deskAt, headerNumber, used, keyAt, firstNumberAt, deskByte, deskRow, isClosed, carries, headerRight, validKeys, differentKeys, firstNumbers, unusedZero, closedZero, deskMarked, openNames, deskRight, right}
 use Rattle.changes.specs.Rows.{table, ticksOf}
 use Rattle.changes.specs.Bytes.{headerBytes, openDesk}
 use Rattle.sheet.proofs.Clauses.{Right, right-parts, header-few}
@@ -246,10 +246,10 @@ module _ (s : List ℕ) (bytes : Bytes s) (r : right s ≡ true) where
   set-there a = length-table rowLength _
 
   place-fine : (i : ℕ) → PlaceOk (place b i)
-  unfolding validKeys
+  unfolding validKeys firstNumbers
   place-fine i =
       by-place PlaceOk i
-      (λ l. (all-at (used s) i _ (clauses .valid) l, number-lt s (rowAt i + firstAt) firstSize bytes, set-there (rowAt i)))
+      (λ l. (all-at (used s) i _ (clauses .valid) l, ltb-true _ _ (all-at (used s) i _ (clauses .firsts) l), set-there (rowAt i)))
       tt
 
   desk-fine : (d : ℕ) → DeskOk (b .places) (desk b d)

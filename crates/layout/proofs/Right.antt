@@ -10,6 +10,7 @@ use lib.Dec.{ltb, lit<}
 use lib.ListN.{length, getD, replicate, getD-replicate}
 use borrow.Author.Tests.{ltb-true, lt-ltb, le-leb, eq-eqb, ne-eqb, not-true}
 use Rattle.keys.specs.Key.{validKey}
+use Rattle.keys.specs.Numbers.{modulus, isNumber}
 use Rattle.model.specs.Positions.{Positions}
 use Rattle.model.specs.Book.{Place, free, row, Desk, closed, working, Book, place, desk, isFree, withTicks}
 use Rattle.model.specs.WellFormed.{IsSet, PlaceOk, keyOf, WellFormed}
@@ -17,7 +18,7 @@ use Rattle.model.proofs.Basics.{row-in, has-row}
 use Rattle.octets.specs.Octets.{part, zeroAt}
 use Rattle.octets.proofs.Laws.{part-at, all-each}
 use Rattle.octets.proofs.Parts.{part-same}
-use Rattle.sheet.specs.Sheet.{sheetSize, ticksAt, rowSize, rowCount, deskRowAt, deskZerosAt, deskZerosSize, openedAt, workedAt, deskSize, deskCount, rowsStart, desksStart, headerNumberSize, rowAt, deskAt, headerNumber, used, keyAt, deskByte, deskRow, carries, headerRight, validKeys, differentKeys, unusedZero, deskRight, right}
+use Rattle.sheet.specs.Sheet.{sheetSize, ticksAt, rowSize, rowCount, deskRowAt, deskZerosAt, deskZerosSize, openedAt, workedAt, deskSize, deskCount, rowsStart, desksStart, headerNumberSize, rowAt, deskAt, headerNumber, used, keyAt, firstNumberAt, deskByte, deskRow, carries, headerRight, validKeys, differentKeys, firstNumbers, unusedZero, deskRight, right}
 use Rattle.changes.specs.Bytes.{openDesk}
 use Rattle.sheet.proofs.Clauses.{closed-desk, open-desk}
 use Rattle.layout.specs.Layout.{placeBytes, deskBytes, countUsed, layout, placeIn, deskIn, bookOf}
@@ -155,22 +156,38 @@ module _ (b : Book) (ok : WellFormed b) where
         number 5 desksStart (lit< tt) refl (lit< tt),
       )
 
-  -- the key of a used row
+  -- the key and the first number of a used row
   record Key (r : ℕ) : Type 0 where
     key : ℕ
+    first : ℕ
     is-valid : validKey key ≡ true
+    is-number : isNumber key first ≡ true
     is-read : keyAt s (rowAt r) ≡ key
+    first-read : firstNumberAt s (rowAt r) ≡ first
     is-of : keyOf (place b r) ≡ some key
 
   key-of : (r : ℕ) → r < n → Key r
   key-of r l =
       let h = has-row (place b r) (not-true _ (sym (row-used r) ∙ lt-ltb r n l)) in
       let p = rw (h .is) at (ok .place-ok r) in
-      record { key = h .key; is-valid = p .0; is-read = row-read r (h .key) (h .first) (h .ticks) (h .is) .key-is; is-of = ap keyOf (h .is) }
+      let says = row-read r (h .key) (h .first) (h .ticks) (h .is) in
+      record {
+        key = h .key;
+        first = h .first;
+        is-valid = p .0;
+        is-number = lt-ltb (h .first) (modulus (h .key)) (p .1);
+        is-read = says .key-is;
+        first-read = says .first-is;
+        is-of = ap keyOf (h .is);
+      }
 
   keys-valid : validKeys s ≡ true
   unfolding validKeys
   keys-valid = rw used-is (all-each n _ (λ r l. let k = key-of r l in rw (k .is-read) (k .is-valid)))
+
+  firsts-fine : firstNumbers s ≡ true
+  unfolding firstNumbers
+  firsts-fine = rw used-is (all-each n _ (λ r l. let k = key-of r l in rw (k .is-read, k .first-read) (k .is-number)))
 
   keys-different : differentKeys s ≡ true
   unfolding differentKeys
@@ -232,6 +249,7 @@ module _ (b : Book) (ok : WellFormed b) where
         header-right,
         keys-valid,
         keys-different,
+        firsts-fine,
         unused-zero,
         all-each deskCount (deskRight s) desk-right,
       )

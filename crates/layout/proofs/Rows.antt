@@ -10,6 +10,7 @@ use lib.ListN.{length, getD, set, length-append, length-replicate}
 use borrow.Author.Tests.{ltb-true, eqb-true}
 use Rattle.refusals.specs.Judge.{verdict, judge}
 use Rattle.keys.proofs.Laws.{below-valid}
+use Rattle.keys.proofs.Numbers.{modulus-fits}
 use Rattle.model.specs.Positions.{rowLength, Positions, has, position, inRow}
 use Rattle.model.specs.Book.{Place, free, row}
 use Rattle.model.specs.WellFormed.{PlaceOk}
@@ -86,7 +87,7 @@ row-says s a key first ticks ok e =
     let ts = tickBytes ticksSize ticks in
     record {
       key-is = sym (number-within s a rowSize 0 keySize a (add-zero a) (omega arith)) ∙ ap (λ (t : List ℕ). numberAt t 0 keySize) e ∙ row-key key first ts (lt-trans (below-valid key (ok .0)) (lit< tt));
-      first-is = sym (number-within s a rowSize firstAt firstSize (a + firstAt) refl (omega arith)) ∙ ap (λ (t : List ℕ). numberAt t firstAt firstSize) e ∙ row-first key first ts (ok .1);
+      first-is = sym (number-within s a rowSize firstAt firstSize (a + firstAt) refl (omega arith)) ∙ ap (λ (t : List ℕ). numberAt t firstAt firstSize) e ∙ row-first key first ts (omega (arith, ok .1, modulus-fits key));
       ticks-are = ticks-read s a ticks (ok .2)
           (sym (part-within s a rowSize ticksAt ticksSize (a + ticksAt) refl (omega arith)) ∙ ap (λ (t : List ℕ). part t ticksAt ticksSize) e ∙ row-ticks key first ts (length-ticks ticksSize ticks));
     }

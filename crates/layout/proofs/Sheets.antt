@@ -9,7 +9,7 @@ use lib.ListN.{length, replicate, replicate-append-replicate}
 use Rattle.refusals.specs.Judge.{judge}
 use Rattle.model.specs.Book.{free, closed, Book, fresh}
 use Rattle.model.specs.Step.{Call, Enrol, Find, Open, Mark, Save, Drop, step}
-use Rattle.model.specs.WellFormed.{WellFormed, InRange}
+use Rattle.model.specs.WellFormed.{WellFormed}
 use Rattle.model.specs.Counts.{rowReport, firstGap}
 use Rattle.model.proofs.Outcome.{outcome}
 use Rattle.model.proofs.WellFormed.{well-formed}
@@ -116,7 +116,7 @@ unfolding onSheet
 on-layout f b ok = rw (layout-right b ok, reads-back b ok)
 
 -- a call leaves a right sheet right
-pub stays-right : (c : Call) (s : List ℕ) → Bytes s → InRange c → right s ≡ true → right (onSheet (call c) s .1) ≡ true
+pub stays-right : (c : Call) (s : List ℕ) → Bytes s → right s ≡ true → right (onSheet (call c) s .1) ≡ true
 unfolding onSheet
-stays-right c s bytes f e =
-    rw e (layout-right (step c (bookOf s) .book) (well-formed (bookOf s) (book-fine s bytes e) (outcome c (bookOf s)) f))
+stays-right c s bytes e =
+    rw e (layout-right (step c (bookOf s) .book) (well-formed (bookOf s) (book-fine s bytes e) (outcome c (bookOf s))))

@@ -19,7 +19,7 @@ use Rattle.verdicts.proofs.Judged.{Law}
 use Rattle.verdicts.specs.Verdicts.{enrolRows, findRows, openRows, deskRows, reportRows}
 
 abbrev pub rowsOf : Call → List ℕ → List (Rule ℕ)
-rowsOf (Enrol key first) s = enrolRows key s
+rowsOf (Enrol key first) s = enrolRows key first s
 rowsOf (Find key) s = findRows key s
 rowsOf (Open d r) s = openRows d r s
 rowsOf (Mark flag d n) s = deskRows d s

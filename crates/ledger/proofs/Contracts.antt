@@ -1,8 +1,6 @@
 -- The equations of `MadeFresh` and `Promised` are those of the functions' contracts: each is had from what the check says that a caller
 -- learns of the call (`Learnt`, made from its `ensures`). `a` is the arguments, of which the first is the sheet; `e` the same
 -- at exit; r the answer. Assumes nothing.
-use Prim.Native.Nat.{_<_, _^_}
-use native.Mathlib.Omega.{arith}
 use mathlib.Core.List.{List}
 use mathlib.Core.Path.{_≡_}
 use contract.Lifetimes.{Lfts}
@@ -38,7 +36,7 @@ pub fresh-promises : Gives fresh-kinds.ps fresh-kinds.r fresh.Learnt (λ κs a r
 fresh-promises κs a r e fits h done = rw done at h
 
 pub enrol-promises : Gives enrol-kinds.ps enrol-kinds.r enrol.Learnt (λ κs a r e. Promised (Enrol (a .1 .0) (a .1 .1 .0)) (a .0 .now) (rowAnswerOf r) (e .0 .now))
-enrol-promises κs a r e fits h = let below : a .1 .1 .0 < 2 ^ 32 = omega (arith, fits .1 .1 .0) in enrolled r below h
+enrol-promises κs a r e fits h = enrolled r h
 
 pub find-promises : Gives find-kinds.ps find-kinds.r find.Learnt (λ κs a r e. Promised (Find (a .1 .0)) (a .0 .now) (rowAnswerOf r) (a .0 .now))
 find-promises κs a r e fits h = found r h

@@ -7,7 +7,6 @@ use lib.Dec.{eqb}
 use lib.ListN.{length}
 use Rattle.model.specs.Book.{fresh}
 use Rattle.model.specs.Step.{Call, Answer, Entry, callOf}
-use Rattle.model.specs.WellFormed.{InRange, AllInRange}
 use Rattle.model.specs.Chain.{Chain, stop, next}
 use Rattle.model.specs.Claim.{bookAfter}
 use Rattle.model.proofs.WellFormed.{run-well-formed}
@@ -21,7 +20,7 @@ use Rattle.ledger.specs.Demand3.{MadeFresh, Promised, enrolled, found, o
 
 -- each contract's equation is the promise that the claim asks for
 pub meets : {c : Call} {s t : List ℕ} {a : Answer} → Promised c s a t → Layout.Meets c s a t
-meets (enrolled r f e) = row-answer-meets _ _ r _ e
+meets (enrolled r e) = row-answer-meets _ _ r _ e
 meets (found r e) = row-answer-meets _ _ r _ e
 meets (opened r e) = answer-meets _ _ r _ e
 meets (ticked r e) = answer-meets _ _ r _ e
@@ -29,23 +28,9 @@ meets (unticked r e) = answer-meets _ _ r _ e
 meets (saved r e) = answer-meets _ _ r _ e
 meets (dropped r e) = answer-meets _ _ r _ e
 
-in-range : {c : Call} {s t : List ℕ} {a : Answer} → Promised c s a t → InRange c
-in-range (enrolled r f e) = f
-in-range (found r e) = tt
-in-range (opened r e) = tt
-in-range (ticked r e) = tt
-in-range (unticked r e) = tt
-in-range (saved r e) = tt
-in-range (dropped r e) = tt
-
 chain-meets : {s t : List ℕ} {log : List Entry} → Chain Promised s log t → Chain Layout.Meets s log t
 chain-meets stop = stop
 chain-meets (next p ps) = next (meets p) (chain-meets ps)
-
-all-in-range : {s t : List ℕ} {log : List Entry} → Chain Promised s log t → AllInRange (map callOf log)
-unfolding AllInRange
-all-in-range stop = tt
-all-in-range (next p ps) = (in-range p, all-in-range ps)
 
 -- ---- the start
 
@@ -64,9 +49,8 @@ made-fresh s start e = by (eqb (length s) sheetSize) refl
 pub demand-3 : (s : List ℕ) {start last : List ℕ} {log : List Entry} → MadeFresh s start → Chain Promised start log last → Demand3 start log last
 demand-3 s {start} {last} {log} made chain =
     let ready = made-fresh s start made in
-    let range = all-in-range chain in
     let promised = chain-meets chain in
-    let whole = demand3 (rw ready at promised) range in
+    let whole = demand3 (rw ready at promised) in
     let model = whole .claim in
     record {
       claim = record {
@@ -83,5 +67,5 @@ demand-3 s {start} {last} {log} made chain =
           let repeated = chain-meets other in
           whole .serial-rows again end (rw (ready, fresh-layout) at repeated) e;
       reports = λ words.
-          rw (model .model-store) (on-layout (report words) (bookAfter log) (run-well-formed (map callOf log) range));
+          rw (model .model-store) (on-layout (report words) (bookAfter log) (run-well-formed (map callOf log)));
     }

@@ -27,7 +27,7 @@ unfolding judged verdictWords
 enrol-reads-back s t key first row bytes k f e = by (eqb (verdict rows) 0) refl
   where
     rows : List (Rule ℕ)
-    rows = enrolRows key s
+    rows = enrolRows key first s
 
     done : _≡_ {A = Outcome} (0 ∷ row ∷ [], t) (judged rows (0 ∷ used s ∷ [], enrolAt (used s) key first s) s)
     done = e ∙ sym (by-rows (Enrol key first) s bytes .same)
@@ -37,7 +37,7 @@ enrol-reads-back s t key first row bytes k f e = by (eqb (verdict rows) 0) refl
         let both : _≡_ {A = Outcome} (0 ∷ row ∷ [], t) (0 ∷ used s ∷ [], enrolAt (used s) key first s) = rw z at done in
         let words : _≡_ {A = List ℕ} (0 ∷ row ∷ []) (0 ∷ used s ∷ []) = ap (λ o. o .0) both in
         let same : row ≡ used s = cc in
-        let fine = enrol-fine s {v = A.Done} key (ap (λ n. n ∷ []) (sym (eqb-true (verdict rows) 0 z))) refl in
+        let fine = enrol-fine s {v = A.Done} key first (ap (λ n. n ∷ []) (sym (eqb-true (verdict rows) 0 z))) refl in
         rw (same, ap (λ o. o .1) both) (enrolled-blank s (used s) key first (fine .0) (fine .1) k f)
     by false z =
         let both : _≡_ {A = Outcome} (0 ∷ row ∷ [], t) (verdict rows ∷ [], s) = rw z at done in

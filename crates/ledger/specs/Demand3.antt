@@ -1,7 +1,7 @@
 -- Demand 3 of the ledger's calls, in full: one claim about any list of calls, made one after the other on the sheet that `fresh` made,
 -- the next one handed the sheet as the one before left it. It speaks of what the calls' contracts promise, and of nothing else.
 -- Assumes nothing.
-use Prim.Native.Nat.{ℕ, _<_, _^_}
+use Prim.Native.Nat.{ℕ}
 use mathlib.Core.Path.{_≡_}
 use mathlib.Core.List.{List, map}
 use Rattle.model.specs.Book as Model
@@ -21,9 +21,9 @@ abbrev pub MadeFresh : (s start : List ℕ) → Type 0
 MadeFresh s start = (answerWords A.Done, start) ≡ freshOn s
 
 -- What each call's contract promises: called on the sheet s it answered r, and left t. One line a call, with the equation of its
--- `ensures`. A first number is below 2^32, as its parameter is.
+-- `ensures`.
 pub data Promised : Call → List ℕ → Answer → List ℕ → Type 0 where
-  enrolled : {s t : List ℕ} {key first : ℕ} (r : RowAnswer) → first < 2 ^ 32 → (rowWords r, t) ≡ onSheet (call (Enrol key first)) s
+  enrolled : {s t : List ℕ} {key first : ℕ} (r : RowAnswer) → (rowWords r, t) ≡ onSheet (call (Enrol key first)) s
       → Promised (Enrol key first) s (rowAnswerOf r) t
   found : {s : List ℕ} {key : ℕ} (r : RowAnswer) → (rowWords r, s) ≡ onSheet (call (Find key)) s → Promised (Find key) s (rowAnswerOf r) s
   opened : {s t : List ℕ} {desk row : ℕ} (r : Sheet.Answer) → (answerWords r, t) ≡ onSheet (call (Open desk row)) s

@@ -42,7 +42,7 @@ pub fn fresh(s: &mut [u8]) -> Answer
 pub fn enrol(s: &mut [u8], key: u64, first: u32) -> RowAnswer
     ensures { λ r. ⌜ (rowWords r, now (s .exit)) ≡ onSheet (call (Enrol key first)) (now (s .entry)) ⌝ }
 {
-    let verdict = enrol_verdict(s, key);
+    let verdict = enrol_verdict(s, key, first);
     if let Answer::Refused(why) = verdict {
         return RowAnswer::Refused(why);
     }

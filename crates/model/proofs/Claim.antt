@@ -7,14 +7,14 @@ use mathlib.Core.List.{List, [], _∷_, _++_, map}
 use Rattle.model.specs.Book.{Book, idle, fresh}
 use Rattle.model.specs.Step.{Call, Save, Answer, step, Entry, _⇒_, callOf, run}
 use Rattle.model.specs.History.{serial}
-use Rattle.model.specs.WellFormed.{WellFormed, InRange, AllInRange}
+use Rattle.model.specs.WellFormed.{WellFormed}
 use Rattle.model.specs.Chain.{Chain, stop, next, Steps}
 use Rattle.model.specs.Claim.{bookAfter, Claim}
 use Rattle.model.proofs.Outcome.{outcome}
 use Rattle.model.proofs.WellFormed.{well-formed, fresh-well-formed}
 use Rattle.model.proofs.Replay.{replays-run, serial-run}
 use Rattle.model.proofs.Stale.{watching, stale-exactly, stale-cause}
-use Rattle.model.proofs.History.{All, serial-all, serial-entries, serial-order}
+use Rattle.model.proofs.History.{serial-entries, serial-order}
 
 -- ---- a log cut in two
 
@@ -31,21 +31,6 @@ cut b ((x ⇒ y) ∷ past) c a future e =
     let rest : run (step x b .book) (map callOf (past ++ (c ⇒ a) ∷ future)) .log ≡ past ++ (c ⇒ a) ∷ future = cc in
     let k = cut (step x b .book) past c a future rest in
     record { past-log = cc (k .past-log); answer-is = k .answer-is }
-
--- ---- the serial history is in range
-
-range-all : (log : List Entry) → AllInRange (map callOf log) → All (λ e. InRange (callOf e)) log
-unfolding AllInRange All
-range-all [] f = tt
-range-all (e ∷ log) f = (f .0, range-all log (f .1))
-
-all-range : (log : List Entry) → All (λ e. InRange (callOf e)) log → AllInRange (map callOf log)
-unfolding AllInRange All
-all-range [] f = tt
-all-range (e ∷ log) f = (f .0, all-range log (f .1))
-
-serial-range : (log : List Entry) → AllInRange (map callOf log) → AllInRange (map callOf (serial log))
-serial-range log f = all-range (serial log) (serial-all (λ e. InRange (callOf e)) log (range-all log f))
 
 -- ---- from the model's answers to the claim
 
@@ -84,26 +69,26 @@ module _ {S : Type 0} (Meets : Call → S → Answer → S → Type 0) (layout :
 -- ---- any store whose calls keep their promise
 
 module _ {S : Type 0} (Meets : Call → S → Answer → S → Type 0) (layout : Book → S)
-    (each : (c : Call) (b : Book) (a : Answer) (t : S) → WellFormed b → InRange c → Meets c (layout b) a t
+    (each : (c : Call) (b : Book) (a : Answer) (t : S) → WellFormed b → Meets c (layout b) a t
     → (a ≡ step c b .answer) × (t ≡ layout (step c b .book))) where
-  chain-from : {s t : S} {es : List Entry} → Chain Meets s es t → (b : Book) → s ≡ layout b → WellFormed b → AllInRange (map callOf es)
+  chain-from : {s t : S} {es : List Entry} → Chain Meets s es t → (b : Book) → s ≡ layout b → WellFormed b
       → (run b (map callOf es) .log ≡ es) × (t ≡ layout (run b (map callOf es) .book))
-  unfolding run AllInRange
-  chain-from stop b e h f = (refl, e)
-  chain-from (next {t = t} {c = c} {a = a} m rest) b e h f =
-      let p = each c b a t h (f .0) (subst (λ x. Meets c x a t) e m) in
-      let q = chain-from rest (step c b .book) (p .1) (well-formed b h (outcome c b) (f .0)) (f .1) in
+  unfolding run
+  chain-from stop b e h = (refl, e)
+  chain-from (next {t = t} {c = c} {a = a} m rest) b e h =
+      let p = each c b a t h (subst (λ x. Meets c x a t) e m) in
+      let q = chain-from rest (step c b .book) (p .1) (well-formed b h (outcome c b)) in
       (cc (p .0, q .0), q .1)
 
   -- From the fresh book laid out: the answers are the model's, and what is left is the model's book laid out.
-  pub chain-run : {log : List Entry} {last : S} → Chain Meets (layout fresh) log last → AllInRange (map callOf log)
+  pub chain-run : {log : List Entry} {last : S} → Chain Meets (layout fresh) log last
       → (run fresh (map callOf log) .log ≡ log) × (last ≡ layout (bookAfter log))
-  chain-run chain f = chain-from chain fresh refl fresh-well-formed f
+  chain-run chain = chain-from chain fresh refl fresh-well-formed
 
-  pub chain-claim : {log : List Entry} {last : S} → Chain Meets (layout fresh) log last → AllInRange (map callOf log) → Claim Meets layout log last
-  chain-claim {log = log} {last = last} chain f =
-      let k = chain-run chain f in
-      claim-from Meets layout log (k .0) last (k .1) (λ other end chain′ e. chain-run chain′ (rw e (serial-range log f)))
+  pub chain-claim : {log : List Entry} {last : S} → Chain Meets (layout fresh) log last → Claim Meets layout log last
+  chain-claim {log = log} {last = last} chain =
+      let k = chain-run chain in
+      claim-from Meets layout log (k .0) last (k .1) (λ other end chain′ e. chain-run chain′)
 
 -- ---- the model itself
 
@@ -112,7 +97,7 @@ unfolding run
 log-calls [] b = refl
 log-calls (c ∷ calls) b = rw (log-calls calls (step c b .book))
 
--- The claim holds of the model's own run of every list of calls, in range or not.
+-- The claim holds of the model's own run of every list of calls.
 pub model-claim : (calls : List Call) → Claim Steps (λ b. b) (run fresh calls .log) (run fresh calls .book)
 model-claim calls =
     claim-from Steps (λ b. b) (run fresh calls .log) (rw (log-calls calls fresh)) (run fresh calls .book)

@@ -1,5 +1,5 @@
--- Laws of the model that what stands on it needs: find, the places that are used, what a tick or untick does to the count, and
--- answers as numbers. Assumes nothing.
+-- Laws of the model that what stands on it needs: an enrolment's refusals, find, the places that are used, what a tick or untick
+-- does to the count, and answers as numbers. Assumes nothing.
 use Prim.Native.Nat.{ℕ, zero, suc, _+_, _≤_, _<_, zero-le, suc-le-suc}
 use native.Mathlib.Nat.{zero-lt-suc}
 use native.Mathlib.Omega.{arith}
@@ -12,7 +12,9 @@ use lib.Dec.{eqb}
 use lib.ListN.{length, getD, set}
 use lib.Seq.{getD-set-same}
 use borrow.Author.Tests.{eqb-true, eqb-false, ltb-true, not-false}
-use Rattle.refusals.specs.Judge.{verdict}
+use Rattle.refusals.specs.Judge.{verdict, judge}
+use Rattle.keys.specs.Key.{validKey}
+use Rattle.keys.specs.Numbers.{isNumber}
 use Rattle.model.specs.Positions.{rowLength, Positions, has, same, size, missing, inRow}
 use Rattle.model.specs.Book.{Place, free, row, closed, working, Book, place, desk, isFree, ticksOf, withTicks, workedOf, hasKey, placeWith, lowestFree}
 use Rattle.model.specs.Step.{Call, Enrol, Find, Open, Mark, Save, Drop, Answer, done, atRow, refused, answerWords, Reply, alreadySo, refusals, effect, step, run}
@@ -21,6 +23,18 @@ use Rattle.model.proofs.Basics.{by-test, row-in, HasRow, has-row, put-b
 use Rattle.model.proofs.Steps.{markVerdict, save-step}
 use Rattle.model.proofs.Outcome.{Has, Outcome, refusal, unopened, unmarked, marking, outcome}
 use Rattle.model.proofs.Counts.{size-missing, size-tick, size-untick}
+
+-- ---- an enrolment
+
+-- 22 is judged first, then 32, whatever the book.
+module _ (b : Book) (key first : ℕ) where
+  pub enrol-bad-key : validKey key ≡ false → step (Enrol key first) b .answer ≡ refused 22
+  unfolding step refusals judge
+  enrol-bad-key v = rw v
+
+  pub enrol-bad-first : validKey key ≡ true → isNumber key first ≡ false → step (Enrol key first) b .answer ≡ refused 32
+  unfolding step refusals judge
+  enrol-bad-first v n = rw (v, n)
 
 -- ---- find
 

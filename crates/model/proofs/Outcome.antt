@@ -7,6 +7,7 @@ use lib.ListN.{set}
 use borrow.Author.Tests.{eqb-true, not-false}
 use Rattle.refusals.specs.Judge.{judge}
 use Rattle.keys.specs.Key.{validKey}
+use Rattle.keys.specs.Numbers.{isNumber}
 use Rattle.model.specs.Positions.{Positions, noTicks, same}
 use Rattle.model.specs.Book.{row, Desk, closed, working, Book, place, desk, putPlace, putDesk, isFree, ticksOf, withTicks, isDesk, isOpen, hasKey, placeWith, allUsed, lowestFree, positionAt}
 use Rattle.model.specs.Step.{Call, Enrol, Find, Open, Mark, Save, Drop, done, atRow, refused, Reply, reply, refusals, effect, afterRefusal, judged, step}
@@ -21,9 +22,10 @@ isMark (Mark flag d n) = true
 isMark (Save d) = false
 isMark (Drop d) = false
 
--- An accepted enrolment: the key is valid and new, and the place is the lowest free one.
-pub record Admitted (key : ℕ) (b : Book) : Type 0 where
+-- An accepted enrolment: the key is valid and new, the first number one of the stream, and the place the lowest free one.
+pub record Admitted (key first : ℕ) (b : Book) : Type 0 where
   pub is-valid : validKey key ≡ true
+  pub is-number : isNumber key first ≡ true
   pub is-new : hasKey key (b .places) ≡ false
   pub not-full : allUsed (b .places) ≡ false
   pub is-lowest : Lowest (b .places) (lowestFree (b .places))
@@ -35,7 +37,7 @@ Has b d r opened worked = (isDesk d ≡ true) × (desk b d ≡ working r opened 
 pub data Outcome (b : Book) : Call → Reply → Type 0 where
   -- A refused call that is no mark, and no stale save.
   refusal : {c : Call} (number : ℕ) → isMark c ≡ false → Outcome b c (reply (refused number) b)
-  enrolment : {key first : ℕ} → Admitted key b
+  enrolment : {key first : ℕ} → Admitted key first b
       → Outcome b (Enrol key first) (reply (atRow (lowestFree (b .places))) (putPlace (lowestFree (b .places)) (row key first noTicks) b))
   finding : {key : ℕ} → hasKey key (b .places) ≡ true → Outcome b (Find key) (reply (atRow (placeWith key (b .places))) b)
   opening : {d r : ℕ} (key first : ℕ) (s : Positions) → isDesk d ≡ true → place b r ≡ row key first s → desk b d ≡ closed
@@ -70,9 +72,10 @@ pub outcome : (c : Call) (b : Book) → Outcome b c (step c b)
 unfolding step refusals judge effect afterRefusal
 outcome (Enrol key first) b =
     by-test P (not (validKey key)) (λ _. refusal 22 refl) λ v.
+    by-test P (not (isNumber key first)) (λ _. refusal 32 refl) λ n.
     by-test P (hasKey key (b .places)) (λ _. refusal 23 refl) λ k.
     by-test P (allUsed (b .places)) (λ _. refusal 24 refl) λ u.
-    enrolment record { is-valid = not-false _ v; is-new = k; not-full = u; is-lowest = lowest (b .places) u }
+    enrolment record { is-valid = not-false _ v; is-number = not-false _ n; is-new = k; not-full = u; is-lowest = lowest (b .places) u }
   where
     P : ℕ → Type 0
     P number = Outcome b (Enrol key first) (judged number (Enrol key first) b)

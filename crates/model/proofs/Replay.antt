@@ -230,7 +230,7 @@ module _ (b : Book) (past : List Entry) (h : Inv b (inLog past)) where
   good (refusal {c = c} number m) = refusal-good c number m
   good (enrolment a) =
       record {
-        replays = one (rw (a .is-valid, a .is-new, a .not-full));
+        replays = one (rw (a .is-valid, a .is-number, a .is-new, a .not-full));
         inv = inv-places b (inLog past) _ (keeps-other b _ _ (free-not-open _ (a .is-lowest .is-free))) h;
       }
   good (finding e) = record { replays = stop; inv = h }

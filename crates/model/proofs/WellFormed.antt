@@ -10,11 +10,12 @@ use mathlib.Core.List.{List, [], _∷_}
 use lib.Dec.{eqb}
 use lib.ListN.{getD, set, length-set, length-replicate}
 use lib.Seq.{getD-set-same, getD-set-other}
-use borrow.Author.Tests.{eqb-false}
-use Rattle.model.specs.Positions.{rowLength, Positions, noTicks, modulus}
+use borrow.Author.Tests.{eqb-false, ltb-true}
+use Rattle.keys.specs.Numbers.{modulus}
+use Rattle.model.specs.Positions.{rowLength, Positions, noTicks}
 use Rattle.model.specs.Book.{Place, free, row, Desk, closed, working, Book, fresh, place, desk, putPlace, putDesk, isFree, withTicks, hasKey, lowestFree}
 use Rattle.model.specs.Step.{Call, Reply, step, run}
-use Rattle.model.specs.WellFormed.{IsSet, PlaceOk, DeskOk, keyOf, WellFormed, InRange, AllInRange}
+use Rattle.model.specs.WellFormed.{IsSet, PlaceOk, DeskOk, keyOf, WellFormed}
 use Rattle.model.proofs.Basics.{or-false, put-all, put-same, read-replicate}
 use Rattle.model.proofs.Outcome.{Admitted, Outcome, refusal, enrolment, finding, opening, unopened, unmarked, marking, saving, stale, dropping, outcome}
 
@@ -60,12 +61,12 @@ module _ (b : Book) (s : WellFormed b) where
         used-first = s .used-first;
       }
 
-  enrolled : (key first : ℕ) → first < modulus key → Admitted key b → WellFormed (putPlace (lowestFree (b .places)) (row key first noTicks) b)
-  enrolled key first fits a =
+  enrolled : (key first : ℕ) → Admitted key first b → WellFormed (putPlace (lowestFree (b .places)) (row key first noTicks) b)
+  enrolled key first a =
       record {
         places-count = rw length-set (s .places-count);
         desks-count = s .desks-count;
-        place-ok = put-all free (λ q. PlaceOk) (b .places) r new tt (a .is-valid, fits, noTicks-length) (λ q n. s .place-ok q);
+        place-ok = put-all free (λ q. PlaceOk) (b .places) r new tt (a .is-valid, ltb-true first (modulus key) (a .is-number), noTicks-length) (λ q n. s .place-ok q);
         desk-ok = λ d. desks-keep (b .places) _ (desk b d) (λ q opened worked x. row-stays (b .places) r q new refl) (s .desk-ok d);
         keys-differ = λ q₁ q₂ k e₁ e₂. differ q₁ q₂ k (read q₁ k e₁) (read q₂ k e₂);
         used-first = λ q₁ q₂ e h. used q₁ q₂ e h (λ q. true≢false (sym (rw q at e) ∙ ap isFree here));
@@ -134,28 +135,28 @@ module _ (b : Book) (s : WellFormed b) where
       keys : (q : ℕ) → keyOf (getD (set (b .places) r (withTicks w (place b r))) q free) ≡ keyOf (place b q)
       keys = put-same free keyOf (b .places) r _ (key-of (place b r))
 
-pub well-formed : (b : Book) → WellFormed b → {c : Call} {t : Reply} → Outcome b c t → InRange c → WellFormed (t .book)
-well-formed b s (refusal number m) f = s
-well-formed b s (enrolment {key = key} {first = first} a) f = enrolled b s key first f a
-well-formed b s (finding h) f = s
-well-formed b s (opening {d = d} {r = r} key first t u e x) f =
+pub well-formed : (b : Book) → WellFormed b → {c : Call} {t : Reply} → Outcome b c t → WellFormed (t .book)
+well-formed b s (refusal number m) = s
+well-formed b s (enrolment {key = key} {first = first} a) = enrolled b s key first a
+well-formed b s (finding h) = s
+well-formed b s (opening {d = d} {r = r} key first t u e x) =
     let p = rw e at (s .place-ok r) in desk-put b s d (working r t t) (ap isFree e, p .2, p .2)
-well-formed b s (unopened number e) f = s
-well-formed b s (unmarked r opened worked i number h p q z) f = s
-well-formed b s (marking {flag = flag} {d = d} r opened worked i h p q) f =
+well-formed b s (unopened number e) = s
+well-formed b s (unmarked r opened worked i number h p q z) = s
+well-formed b s (marking {flag = flag} {d = d} r opened worked i h p q) =
     let k = rw (h .1) at (s .desk-ok d) in
     desk-put b s d (working r opened (set worked i flag)) (k .0, k .1, length-set worked i flag ∙ k .2)
-well-formed b s (saving {d = d} r opened worked h t) f =
+well-formed b s (saving {d = d} r opened worked h t) =
     let k = rw (h .1) at (s .desk-ok d) in desk-put (putPlace r (withTicks worked (place b r)) b) (saved b s r worked (k .2)) d closed tt
-well-formed b s (stale {d = d} r opened worked h t) f = desk-put b s d closed tt
-well-formed b s (dropping {d = d} t x) f = desk-put b s d closed tt
+well-formed b s (stale {d = d} r opened worked h t) = desk-put b s d closed tt
+well-formed b s (dropping {d = d} t x) = desk-put b s d closed tt
 
 -- ---- the whole list
 
-well-formed-from : (calls : List Call) (b : Book) → WellFormed b → AllInRange calls → WellFormed (run b calls .book)
-unfolding run AllInRange
-well-formed-from [] b s f = s
-well-formed-from (c ∷ calls) b s f = well-formed-from calls (step c b .book) (well-formed b s (outcome c b) (f .0)) (f .1)
+well-formed-from : (calls : List Call) (b : Book) → WellFormed b → WellFormed (run b calls .book)
+unfolding run
+well-formed-from [] b s = s
+well-formed-from (c ∷ calls) b s = well-formed-from calls (step c b .book) (well-formed b s (outcome c b))
 
 pub fresh-well-formed : WellFormed fresh
 fresh-well-formed =
@@ -168,6 +169,6 @@ fresh-well-formed =
       used-first = λ r q e h. ap isFree (read-replicate free 32 q);
     }
 
--- Every book that calls in range can reach from a fresh one is well-formed.
-pub run-well-formed : (calls : List Call) → AllInRange calls → WellFormed (run fresh calls .book)
-run-well-formed calls f = well-formed-from calls fresh fresh-well-formed f
+-- Every book that calls can reach from a fresh one is well-formed.
+pub run-well-formed : (calls : List Call) → WellFormed (run fresh calls .book)
+run-well-formed calls = well-formed-from calls fresh fresh-well-formed

@@ -1,10 +1,11 @@
 -- Positions of a row: the position of a number, sets of positions, and how they are counted. Assumes nothing.
-use Prim.Native.Nat.{ℕ, zero, suc, _+_, _-_, _^_, _%_}
-use mathlib.Core.Bool.{Bool, true, false, not, _&&_, _||_, Bool·beq}
+use Prim.Native.Nat.{ℕ, zero, suc, _+_, _-_, _%_}
+use mathlib.Core.Bool.{Bool, true, false, cond, not, _&&_, _||_, Bool·beq}
 use mathlib.Core.Option.{Option, none, some, Option·map}
 use mathlib.Core.List.{List, [], _∷_}
 use lib.Dec.{ltb}
 use lib.ListN.{getD, replicate}
+use Rattle.keys.specs.Numbers.{modulus, isNumber}
 
 -- How many positions a row has.
 abbrev pub rowLength : ℕ
@@ -12,13 +13,10 @@ rowLength = 1024
 
 -- ---- numbers
 
--- What the record numbers of a stream are counted modulo. "This holds for every stream": the key decides nothing.
-abbrev pub modulus : (key : ℕ) → ℕ
-modulus key = 2 ^ 32
-
--- "Number n has position (n - first) mod 2^32." The first number is below 2^32.
+-- "Number n has position (n - first) mod 2^32"; "for keys from 2^42 up the position is (n - first) mod 65,536". A number that no
+-- record of the stream has is outside the row.
 unfoldable pub position : (key first n : ℕ) → ℕ
-position key first n = (n + (modulus key - first)) % modulus key
+position key first n = cond (isNumber key n) ((n + (modulus key - first % modulus key)) % modulus key) rowLength
 
 -- The number at a position.
 unfoldable pub numberAt : (key first i : ℕ) → ℕ

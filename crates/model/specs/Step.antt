@@ -7,6 +7,7 @@ use lib.Dec.{eqb}
 use lib.ListN.{set}
 use Rattle.refusals.specs.Judge.{Rule, _when_, verdict}
 use Rattle.keys.specs.Key.{validKey}
+use Rattle.keys.specs.Numbers.{isNumber}
 use Rattle.model.specs.Positions.{noTicks, has, same, inRow}
 use Rattle.model.specs.Book.{row, closed, working, Book, place, desk, putPlace, putDesk, isFree, ticksOf, withTicks, isDesk, isOpen, placeOf, openedOf, workedOf, withWorked, openPlace, hasKey, placeWith, allUsed, lowestFree, positionAt}
 
@@ -60,7 +61,11 @@ alreadySo false = 30
 -- What each call is refused for, in the table's order.
 unfoldable pub refusals : Call → Book → List (Rule ℕ)
 refusals (Enrol key first) b =
-    (22 when not (validKey key)) ∷ (23 when hasKey key (b .places)) ∷ (24 when allUsed (b .places)) ∷ []
+    (22 when not (validKey key))
+    ∷ (32 when not (isNumber key first))
+    ∷ (23 when hasKey key (b .places))
+    ∷ (24 when allUsed (b .places))
+    ∷ []
 refusals (Find key) b = (22 when not (validKey key)) ∷ (25 when not (hasKey key (b .places))) ∷ []
 refusals (Open d r) b = (21 when not (isDesk d)) ∷ (25 when isFree (place b r)) ∷ (26 when isOpen (desk b d)) ∷ []
 refusals (Mark flag d n) b =

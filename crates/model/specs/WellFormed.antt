@@ -1,14 +1,14 @@
 -- What holds of every book that calls can reach, whatever the calls: what a ledger sheet needs of it. Assumes nothing.
-use Prim.Native.Nat.{ℕ, _≤_, _<_, _^_}
+use Prim.Native.Nat.{ℕ, _≤_, _<_}
 use mathlib.Core.Path.{_≡_}
 use mathlib.Core.Bool.{true, false}
 use mathlib.Core.Option.{Option, none, some}
-use mathlib.Core.List.{List, [], _∷_}
+use mathlib.Core.List.{List}
 use lib.ListN.{length, getD}
 use Rattle.keys.specs.Key.{validKey}
-use Rattle.model.specs.Positions.{rowLength, Positions, modulus}
+use Rattle.keys.specs.Numbers.{modulus}
+use Rattle.model.specs.Positions.{rowLength, Positions}
 use Rattle.model.specs.Book.{placeCount, deskCount, Place, free, row, Desk, closed, working, Book, place, desk, isFree}
-use Rattle.model.specs.Step.{Call, Enrol, Find, Open, Mark, Save, Drop}
 
 abbrev pub IsSet : Positions → Type 0
 IsSet s = length s ≡ rowLength
@@ -34,16 +34,3 @@ pub record WellFormed (b : Book) : Type 0 where
   pub keys-differ : (r q key : ℕ) → keyOf (place b r) ≡ some key → keyOf (place b q) ≡ some key → r ≡ q
   -- Used places come first.
   pub used-first : (r q : ℕ) → isFree (place b r) ≡ true → r ≤ q → isFree (place b q) ≡ true
-
--- Desks, rows and keys are numbers of any size; a first number is what its parameter holds, below 2^32.
-abbrev pub InRange : Call → Type 0
-InRange (Enrol key first) = first < 2 ^ 32
-InRange (Find key) = Unit {0}
-InRange (Open d r) = Unit {0}
-InRange (Mark flag d n) = Unit {0}
-InRange (Save d) = Unit {0}
-InRange (Drop d) = Unit {0}
-
-unfoldable pub AllInRange : List Call → Type 0
-AllInRange [] = Unit {0}
-AllInRange (c ∷ calls) = InRange c × AllInRange calls

@@ -36,13 +36,17 @@ use Rattle.refusals.specs.declared.Refusal.the-variants.{
   AlreadyTicked,
   NotTicked,
   Stale,
+  FirstNumber,
 }
 use Rattle.refusals.specs.Table.{numberOf}
 
--- The table back from the numbers: entry n is the refusal with number n. No refusal has 0, 18 or 19.
+-- The table back from the numbers: entry n is the refusal with number n; where no refusal has the number, the first.
 back : List Refusal
 back =
-    TooShort ∷ TooShort ∷ Authority ∷ LabelControl ∷ UnknownKind ∷ LabelLength ∷ Truncated ∷ AggregationLabel ∷ PrimaryLabel ∷ SecondaryLabel ∷ DataType ∷ DataLength ∷ FieldRange ∷ WriterSpace ∷ WriterInput ∷ WrongKind ∷ ListFull ∷ BufferSize ∷ TooShort ∷ TooShort ∷ NotSheet ∷ NoDesk ∷ BadKey ∷ AlreadyEnrolled ∷ LedgerFull ∷ NoRow ∷ DeskOpen ∷ DeskClosed ∷ OutsideRow ∷ AlreadyTicked ∷ NotTicked ∷ Stale ∷ []
+    TooShort ∷ TooShort ∷ Authority ∷ LabelControl ∷ UnknownKind ∷ LabelLength ∷ Truncated ∷ AggregationLabel ∷ PrimaryLabel
+    ∷ SecondaryLabel ∷ DataType ∷ DataLength ∷ FieldRange ∷ WriterSpace ∷ WriterInput ∷ WrongKind ∷ ListFull ∷ BufferSize
+    ∷ TooShort ∷ TooShort ∷ NotSheet ∷ NoDesk ∷ BadKey ∷ AlreadyEnrolled ∷ LedgerFull ∷ NoRow ∷ DeskOpen ∷ DeskClosed ∷ OutsideRow
+    ∷ AlreadyTicked ∷ NotTicked ∷ Stale ∷ FirstNumber ∷ []
 
 refusalOf : ℕ → Refusal
 refusalOf n = getD back n TooShort
@@ -78,6 +82,7 @@ found OutsideRow = refl
 found AlreadyTicked = refl
 found NotTicked = refl
 found Stale = refl
+found FirstNumber = refl
 
 pub number-injective : (r s : Refusal) → numberOf r ≡ numberOf s → r ≡ s
 number-injective r s e = sym (found r) ∙ ap refusalOf e ∙ found s

@@ -1,4 +1,4 @@
--- Document 01, "Refusal numbers": the number of each row, in the table's order. Assumes nothing.
+-- Document 01, "Refusal numbers": the number of each row, in the table's order; then the rows that document 02 adds. Assumes nothing.
 use Prim.Native.Nat.{ℕ}
 use Rattle.refusals.specs.declared.Refusal.{Refusal}
 use Rattle.refusals.specs.declared.Refusal.the-variants.{
@@ -31,6 +31,7 @@ use Rattle.refusals.specs.declared.Refusal.the-variants.{
   AlreadyTicked,
   NotTicked,
   Stale,
+  FirstNumber,
 }
 
 abbrev pub numberOf : Refusal → ℕ
@@ -63,3 +64,4 @@ numberOf OutsideRow = 28
 numberOf AlreadyTicked = 29
 numberOf NotTicked = 30
 numberOf Stale = 31
+numberOf FirstNumber = 32

@@ -1,4 +1,4 @@
-// The refusal table of document 01: a name for each row, in the table's order.
+// The refusal table of document 01: a name for each row, in the table's order; then the rows that document 02 adds.
 ghost use mathlib.Core.Path.{_≡_};
 ghost use Rattle.refusals.specs.Table.{numberOf};
 
@@ -35,6 +35,8 @@ pub enum Refusal {
     AlreadyTicked,
     NotTicked,
     Stale,
+    // Document 02: an enrolment whose first number is none of the stream's.
+    FirstNumber,
 }
 
 // The number that the table gives a refusal.
@@ -71,5 +73,6 @@ pub fn number(r: Refusal) -> u32
         Refusal::AlreadyTicked => 29,
         Refusal::NotTicked => 30,
         Refusal::Stale => 31,
+        Refusal::FirstNumber => 32,
     }
 }

@@ -9,7 +9,7 @@ use lib.ListN.{length}
 use borrow.Author.Tests.{eq-eqb, ne-eqb, lt-leb, le-leb, eqb-true, eqb-false, leb-true, ltb-true}
 use Rattle.octets.specs.Octets.{all, zeroAt}
 use Rattle.octets.proofs.Laws.{and-split, and-true, and-assoc, all-at, all-next, zero-join}
-use Rattle.sheet.specs.Sheet.{sheetSize, rowSize, rowCount, rowsStart, deskSize, deskCount, deskZerosAt, deskZerosSize, openedAt, workedAt, desksStart, lengthAt, rowCountAt, rowsStartAt, deskCountAt, desksStartAt, rowAt, deskAt, headerNumber, used, deskByte, deskRow, isClosed, carries, headerRight, validKeys, differentKeys, unusedZero, closedZero, deskMarked, openNames, deskRight, right, Sized}
+use Rattle.sheet.specs.Sheet.{sheetSize, rowSize, rowCount, rowsStart, deskSize, deskCount, deskZerosAt, deskZerosSize, openedAt, workedAt, desksStart, lengthAt, rowCountAt, rowsStartAt, deskCountAt, desksStartAt, rowAt, deskAt, headerNumber, used, deskByte, deskRow, isClosed, carries, headerRight, validKeys, differentKeys, firstNumbers, unusedZero, closedZero, deskMarked, openNames, deskRight, right, Sized}
 use Rattle.sheet.proofs.Ranges.{zero-within, zero-rows}
 
 module _ (s : List ℕ) (d : ℕ) where
@@ -87,6 +87,7 @@ pub record Right (s : List ℕ) : Type 0 where
   pub header : headerRight s ≡ true
   pub valid : validKeys s ≡ true
   pub different : differentKeys s ≡ true
+  pub firsts : firstNumbers s ≡ true
   pub unused : unusedZero s ≡ true
   pub desks : all deskCount (deskRight s) ≡ true
 
@@ -94,13 +95,14 @@ pub right-parts : (s : List ℕ) → right s ≡ true → Right s
 unfolding right
 right-parts s h =
     let long = eqb (length s) sheetSize in
-    let keys = validKeys s && differentKeys s in
-    let h4 = and-split (long && headerRight s && keys && unusedZero s) (all deskCount (deskRight s)) h in
-    let h3 = and-split (long && headerRight s && keys) (unusedZero s) (h4 .0) in
-    let h2 = and-split (long && headerRight s) keys (h3 .0) in
+    let rows = validKeys s && differentKeys s && firstNumbers s in
+    let h4 = and-split (long && headerRight s && rows && unusedZero s) (all deskCount (deskRight s)) h in
+    let h3 = and-split (long && headerRight s && rows) (unusedZero s) (h4 .0) in
+    let h2 = and-split (long && headerRight s) rows (h3 .0) in
     let h1 = and-split long (headerRight s) (h2 .0) in
-    let k = and-split (validKeys s) (differentKeys s) (h2 .1) in
-    record { long = eqb-true _ _ (h1 .0); header = h1 .1; valid = k .0; different = k .1; unused = h3 .1; desks = h4 .1 }
+    let f = and-split (validKeys s && differentKeys s) (firstNumbers s) (h2 .1) in
+    let k = and-split (validKeys s) (differentKeys s) (f .0) in
+    record { long = eqb-true _ _ (h1 .0); header = h1 .1; valid = k .0; different = k .1; firsts = f .1; unused = h3 .1; desks = h4 .1 }
 
 -- its length and its count of rows: what the functions on a right sheet ask
 pub sized : (s : List ℕ) → right s ≡ true → Sized s

@@ -7,6 +7,7 @@ use mathlib.Core.Path.{_≡_}
 use lib.Dec.{eqb, ltb, leb}
 use lib.ListN.{length, getD}
 use Rattle.keys.specs.Key.{validKey}
+use Rattle.keys.specs.Numbers.{isNumber}
 use Rattle.octets.specs.Octets.{numberAt, all, zeroAt, sameAt}
 
 -- ---- sizes and offsets
@@ -143,6 +144,11 @@ validKeys s = all (used s) (λ i. validKey (keyAt s (rowAt i)))
 unfoldable pub differentKeys : List ℕ → Bool
 differentKeys s = all (used s) (λ i. all i (λ j. not (eqb (keyAt s (rowAt j)) (keyAt s (rowAt i)))))
 
+-- "an RSR row with such a first number makes the sheet 20" (request 03): a used row's first number is one of its stream. The copies at
+-- desks carry it.
+unfoldable pub firstNumbers : List ℕ → Bool
+firstNumbers s = all (used s) (λ i. isNumber (keyAt s (rowAt i)) (firstNumberAt s (rowAt i)))
+
 -- "unused rows and closed desks are all zero"
 unfoldable pub unusedZero : List ℕ → Bool
 unusedZero s = all rowCount (λ i. ltb i (used s) || zeroAt s (rowAt i) rowSize)
@@ -169,7 +175,8 @@ deskRight s d = closedZero s d && deskMarked s d && openNames s d
 
 unfoldable pub right : List ℕ → Bool
 right s =
-    eqb (length s) sheetSize && headerRight s && (validKeys s && differentKeys s) && unusedZero s && all deskCount (deskRight s)
+    eqb (length s) sheetSize && headerRight s && (validKeys s && differentKeys s && firstNumbers s) && unusedZero s
+    && all deskCount (deskRight s)
 
 -- ---- what the functions on a right sheet ask of it
 

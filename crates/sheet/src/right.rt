@@ -9,6 +9,8 @@ use crate::DESK_ZEROS_AT;
 use crate::DESKS;
 use crate::DESKS_AT;
 use crate::DESKS_START_AT;
+use crate::FIRST;
+use crate::FIRST_AT;
 use crate::KEY;
 use crate::LENGTH_AT;
 use crate::NUMBER;
@@ -33,7 +35,7 @@ ghost use Prim.Native.Nat.{_+_, _≤_, _<_};
 ghost use lib.Dec.{eqb};
 ghost use lib.ListN.{length, getD};
 ghost use Rattle.octets.specs.Octets.{all};
-ghost use Rattle.sheet.specs.Sheet.{sheetSize, rowSize, rowCount, deskCount, used, keyAt, deskByte, headerRight, validKeys, differentKeys, unusedZero, deskRight, right, Sized};
+ghost use Rattle.sheet.specs.Sheet.{sheetSize, rowSize, rowCount, deskCount, used, keyAt, firstNumberAt, deskByte, headerRight, validKeys, differentKeys, firstNumbers, unusedZero, deskRight, right, Sized};
 
 // Whether a slice is a right sheet.
 pub fn is_sheet(s: &[u8]) -> bool
@@ -45,9 +47,9 @@ pub fn is_sheet(s: &[u8]) -> bool
     if !is_header(s) {
         return false;
     }
-    let keys = are_keys(s);
+    let rows = are_rows(s);
     let rest = is_rest(s);
-    keys & rest
+    rows & rest
 }
 
 fn is_header(s: &[u8]) -> bool
@@ -79,22 +81,33 @@ pub fn key_at(s: &[u8], a: usize) -> u64
     read_be(s, a, KEY)
 }
 
-// Whether the used rows have valid, different keys. Each key is read once.
-fn are_keys(s: &[u8]) -> bool
+// The first number of the row or the copy at offset a.
+pub fn first_at(s: &[u8], a: usize) -> u32
+    requires { ⌜ a + rowSize ≤ length (now s) ⌝ }
+    ensures { λ r. ⌜ r ≡ firstNumberAt (now (s .entry)) a ⌝ }
+{
+    read_be(s, a + FIRST_AT, FIRST) as u32
+}
+
+// Whether the used rows have valid, different keys and first numbers of their streams. Each key is read once.
+fn are_rows(s: &[u8]) -> bool
     requires { ⌜ Sized (now s) ⌝ }
-    ensures { λ r. ⌜ r ≡ (validKeys (now (s .entry)) && differentKeys (now (s .entry))) ⌝ }
+    ensures { λ r. ⌜ r ≡ (validKeys (now (s .entry)) && differentKeys (now (s .entry)) && firstNumbers (now (s .entry))) ⌝ }
 {
     let used = rows_used(s);
     let mut keys = [0u64; ROWS];
     let mut valid = true;
     let mut different = true;
+    let mut numbers = true;
     for i in 0..used {
-        let key = key_at(s, ROWS_AT + ROW * i);
+        let row = ROWS_AT + ROW * i;
+        let key = key_at(s, row);
         valid &= keys::valid(key);
+        numbers &= keys::is_number(key, first_at(s, row));
         different &= is_new(&keys, i, key);
         keys[i] = key;
     }
-    valid & different
+    valid & different & numbers
 }
 
 // Whether none of the first n keys is the key given.

@@ -54,11 +54,11 @@ module _ {rows : List (Rule ℕ)} {o t : Outcome} {s : List ℕ} (law : Law rows
 -- ---- what an accepted call has of its sheet
 
 module _ (s : List ℕ) {v : Answer} where
-  pub enrol-fine : (key : ℕ) → answerWords v ≡ verdictWords (enrolRows key s) → v ≡ A.Done → (length s ≡ sheetSize) × (used s < rowCount)
-  enrol-fine key e g =
-      let h = none-holds (enrolRows key s) e (omega arith, (omega arith, (omega arith, (omega arith, tt)))) g in
+  pub enrol-fine : (key first : ℕ) → answerWords v ≡ verdictWords (enrolRows key first s) → v ≡ A.Done → (length s ≡ sheetSize) × (used s < rowCount)
+  enrol-fine key first e g =
+      let h = none-holds (enrolRows key first s) e (omega arith, (omega arith, (omega arith, (omega arith, (omega arith, tt))))) g in
       let z = sized s (not-false (right s) (h .0)) in
-      (z .long, omega (arith, z .few, eqb-false (used s) rowCount (h .1 .1 .1 .0)))
+      (z .long, omega (arith, z .few, eqb-false (used s) rowCount (h .1 .1 .1 .1 .0)))
 
   pub find-fine : (key : ℕ) → answerWords v ≡ verdictWords (findRows key s) → v ≡ A.Done → Sized s × (rowWith s key < rowCount)
   find-fine key e g =

@@ -16,7 +16,7 @@ freshCall s = judged ((20 when not (eqb (length s) sheetSize)) ∷ []) (done, fr
 
 -- "Enrol (key, first): the next row, no ticks; answers the row."
 unfoldable pub enrolCall : (key first : ℕ) → List ℕ → Outcome
-enrolCall key first s = judged (enrolRows key s) (0 ∷ used s ∷ [], enrolAt (used s) key first s) s
+enrolCall key first s = judged (enrolRows key first s) (0 ∷ used s ∷ [], enrolAt (used s) key first s) s
 
 -- "Find (key): answers the row with it."
 unfoldable pub findCall : (key : ℕ) → List ℕ → Outcome

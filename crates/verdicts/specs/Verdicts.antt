@@ -6,12 +6,18 @@ use mathlib.Core.List.{List, [], _∷_}
 use lib.Dec.{eqb, ltb}
 use Rattle.refusals.specs.Judge.{Rule, _when_, verdict}
 use Rattle.keys.specs.Key.{validKey}
+use Rattle.keys.specs.Numbers.{isNumber}
 use Rattle.sheet.specs.Sheet.{rowCount, deskCount, used, isClosed, right}
 use Rattle.changes.specs.Bytes.{hasKey}
 
-abbrev pub enrolRows : (key : ℕ) → List ℕ → List (Rule ℕ)
-enrolRows key s =
-    (20 when not (right s)) ∷ (22 when not (validKey key)) ∷ (23 when hasKey s key) ∷ (24 when eqb (used s) rowCount) ∷ []
+abbrev pub enrolRows : (key first : ℕ) → List ℕ → List (Rule ℕ)
+enrolRows key first s =
+    (20 when not (right s))
+    ∷ (22 when not (validKey key))
+    ∷ (32 when not (isNumber key first))
+    ∷ (23 when hasKey s key)
+    ∷ (24 when eqb (used s) rowCount)
+    ∷ []
 
 abbrev pub findRows : (key : ℕ) → List ℕ → List (Rule ℕ)
 findRows key s = (20 when not (right s)) ∷ (22 when not (validKey key)) ∷ (25 when not (hasKey s key)) ∷ []

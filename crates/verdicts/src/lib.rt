@@ -11,14 +11,17 @@ ghost use mathlib.Core.Path.{_≡_};
 ghost use Rattle.sheet.specs.Words.{answerWords};
 ghost use Rattle.verdicts.specs.Verdicts.{enrolRows, findRows, openRows, deskRows, reportRows, verdictWords};
 
-pub fn enrol_verdict(s: &[u8], key: u64) -> Answer
-    ensures { λ r. ⌜ answerWords r ≡ verdictWords (enrolRows key (now (s .entry))) ⌝ }
+pub fn enrol_verdict(s: &[u8], key: u64, first: u32) -> Answer
+    ensures { λ r. ⌜ answerWords r ≡ verdictWords (enrolRows key first (now (s .entry))) ⌝ }
 {
     if !is_sheet(s) {
         return Answer::Refused(Refusal::NotSheet);
     }
     if !keys::valid(key) {
         return Answer::Refused(Refusal::BadKey);
+    }
+    if !keys::is_number(key, first) {
+        return Answer::Refused(Refusal::FirstNumber);
     }
     if has_key(s, key) {
         return Answer::Refused(Refusal::AlreadyEnrolled);

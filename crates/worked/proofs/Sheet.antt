@@ -4,7 +4,7 @@ use mathlib.Core.List.{List, [], _∷_, map}
 use mathlib.Core.Path.{_≡_, refl, ap, _∙_}
 use Rattle.model.specs.Book.{Book, fresh}
 use Rattle.model.specs.Step.{Call, answerWords, step, Entry, _⇒_, run}
-use Rattle.model.specs.WellFormed.{WellFormed, AllInRange}
+use Rattle.model.specs.WellFormed.{WellFormed}
 use Rattle.model.proofs.Outcome.{outcome}
 use Rattle.model.proofs.WellFormed.{well-formed, fresh-well-formed}
 use Rattle.changes.specs.Bytes.{freshSheet}
@@ -15,16 +15,16 @@ use Rattle.worked.specs.Calls.{answersOn, sheetAfter}
 abbrev pub wordsIn : Entry → List ℕ
 wordsIn (c ⇒ a) = answerWords a
 
-from : (calls : List Call) (b : Book) → WellFormed b → AllInRange calls
+from : (calls : List Call) (b : Book) → WellFormed b
     → (answersOn calls (layout b) ≡ map wordsIn (run b calls .log)) × (sheetAfter calls (layout b) ≡ layout (run b calls .book))
-unfolding answersOn sheetAfter run AllInRange
-from [] b w r = (refl, refl)
-from (c ∷ calls) b w r =
-    let p = from calls (step c b .book) (well-formed b w (outcome c b) (r .0)) (r .1) in
+unfolding answersOn sheetAfter run
+from [] b w = (refl, refl)
+from (c ∷ calls) b w =
+    let p = from calls (step c b .book) (well-formed b w (outcome c b)) in
     (rw (on-layout (call c) b w, p .0), rw (on-layout (call c) b w, p .1))
 
-pub answers-fresh : (calls : List Call) → AllInRange calls → answersOn calls freshSheet ≡ map wordsIn (run fresh calls .log)
-answers-fresh calls r = ap (answersOn calls) fresh-layout ∙ from calls fresh fresh-well-formed r .0
+pub answers-fresh : (calls : List Call) → answersOn calls freshSheet ≡ map wordsIn (run fresh calls .log)
+answers-fresh calls = ap (answersOn calls) fresh-layout ∙ from calls fresh fresh-well-formed .0
 
-pub after-fresh : (calls : List Call) → AllInRange calls → sheetAfter calls freshSheet ≡ layout (run fresh calls .book)
-after-fresh calls r = ap (sheetAfter calls) fresh-layout ∙ from calls fresh fresh-well-formed r .1
+pub after-fresh : (calls : List Call) → sheetAfter calls freshSheet ≡ layout (run fresh calls .book)
+after-fresh calls = ap (sheetAfter calls) fresh-layout ∙ from calls fresh fresh-well-formed .1

@@ -2,7 +2,6 @@
 use Prim.Native.Nat.{ℕ, _+_}
 use mathlib.Core.List.{List, [], _∷_, _++_, map}
 use mathlib.Core.Path.{_≡_, refl, ap, _∙_}
-use lib.Dec.{lit<}
 use lib.ListN.{getD}
 use Rattle.refusals.specs.Judge.{judge}
 use Rattle.octets.specs.Octets.{numberAt, bytesOf, part, put, all, sameAt}
@@ -14,12 +13,12 @@ use Rattle.headers.specs.Date.{isYear, isDay}
 use Rattle.headers.specs.Ranges.{isRsrBand, isBand, inRange, judgedBytes, fault}
 use Rattle.headers.specs.Headers.{readHeaders}
 use Rattle.keys.specs.Key.{validKey, telemetryKeyCall}
+use Rattle.keys.specs.Numbers.{modulus}
 use Rattle.model.specs.Positions.{position, noTicks, same, size, anyTicked, missing, least}
 use Rattle.model.specs.Positions.{numberAt as numberAtPosition}
 use Rattle.model.specs.Book.{fresh, hasKey, placeWith, allUsed, lowestFree}
 use Rattle.model.specs.Step.{Call, refusals, effect, afterRefusal, step, run}
 use Rattle.model.specs.Counts.{rowReport}
-use Rattle.model.specs.WellFormed.{AllInRange}
 use Rattle.model.proofs.WellFormed.{run-well-formed}
 use Rattle.sheet.specs.Sheet.{rowAt, ticksAt}
 use Rattle.changes.specs.Rows.{rowBytes}
@@ -31,50 +30,25 @@ use Rattle.worked.proofs.Sheet.{wordsIn, answers-fresh, after-fresh}
 
 -- ---- on a sheet: what the model gives
 
-module _ (calls : List Call) (r : AllInRange calls) where
+module _ (calls : List Call) where
   said : verdicts calls ≡ map (λ words. getD words 0 0) (map wordsIn (run fresh calls .log))
-  said = ap (map (λ words. getD words 0 0)) (answers-fresh calls r)
+  said = ap (map (λ words. getD words 0 0)) (answers-fresh calls)
 
   reported : reportAfter calls ≡ rowReport (run fresh calls .book) 0
   reported =
-      ap (λ (s : List ℕ). onSheet (report (λ b. rowReport b 0)) s .0) (after-fresh calls r)
-      ∙ ap (λ x. x .0) (on-layout (report (λ b. rowReport b 0)) (run fresh calls .book) (run-well-formed calls r))
+      ap (λ (s : List ℕ). onSheet (report (λ b. rowReport b 0)) s .0) (after-fresh calls)
+      ∙ ap (λ x. x .0) (on-layout (report (λ b. rowReport b 0)) (run fresh calls .book) (run-well-formed calls))
 
   ticks : tickByteAfter calls ≡ getD (layout (run fresh calls .book)) (rowAt 0 + ticksAt) 0 ∷ []
-  ticks = ap (λ (s : List ℕ). getD s (rowAt 0 + ticksAt) 0 ∷ []) (after-fresh calls r)
+  ticks = ap (λ (s : List ℕ). getD s (rowAt 0 + ticksAt) 0 ∷ []) (after-fresh calls)
 
   both : map number (tickByteAfter calls ++ reportAfter calls)
       ≡ map number (getD (layout (run fresh calls .book)) (rowAt 0 + ticksAt) 0 ∷ rowReport (run fresh calls .book) 0)
   both = ap (λ (x : List ℕ). map number (x ++ reportAfter calls)) ticks
       ∙ ap (λ (x : List ℕ). map number (getD (layout (run fresh calls .book)) (rowAt 0 + ticksAt) 0 ∷ x)) reported
 
--- Every first number of the examples is below 2^32.
-low7 : AllInRange p7
-unfolding AllInRange
-low7 = (lit< tt, (tt, (tt, (tt, (tt, (tt, tt))))))
-
-low8-empty : AllInRange p8-empty
-unfolding AllInRange
-low8-empty = (lit< tt, tt)
-
-low8 : AllInRange p8
-unfolding AllInRange
-low8 = (lit< tt, (tt, (tt, (tt, (tt, (tt, tt))))))
-
-low9-stale : AllInRange p9-stale
-unfolding AllInRange
-low9-stale = (lit< tt, (tt, (tt, (tt, (tt, (tt, (tt, tt)))))))
-
-low9 : AllInRange p9
-unfolding AllInRange
-low9 = (lit< tt, (tt, (tt, (tt, (tt, (tt, (tt, (tt, (tt, (tt, tt))))))))))
-
-low10 : AllInRange p10
-unfolding AllInRange
-low10 = (lit< tt, (tt, (tt, (tt, (tt, (tt, (tt, (tt, (tt, (tt, tt))))))))))
-
 pub worked : Agree table
-unfolding judge numberAt bytesOf part put all sameAt hasKind kindOf labelLength recordLength blockType blockLength lengthInRange accepts readOne dataPart labelBytes block primaryBlock headBytes recordBytes signedByte recordNumber isYear isDay isRsrBand isBand inRange judgedBytes fault readHeaders validKey telemetryKeyCall position noTicks same size anyTicked missing least numberAtPosition hasKey placeWith allUsed lowestFree refusals effect afterRefusal step run rowBytes headerBytes bitsValue tickBytes placeBytes countUsed laid layout
+unfolding judge modulus numberAt bytesOf part put all sameAt hasKind kindOf labelLength recordLength blockType blockLength lengthInRange accepts readOne dataPart labelBytes block primaryBlock headBytes recordBytes signedByte recordNumber isYear isDay isRsrBand isBand inRange judgedBytes fault readHeaders validKey telemetryKeyCall position noTicks same size anyTicked missing least numberAtPosition hasKey placeWith allUsed lowestFree refusals effect afterRefusal step run rowBytes headerBytes bitsValue tickBytes placeBytes countUsed laid layout
 worked = (
   refl,
   (
@@ -104,20 +78,20 @@ worked = (
                           (
                             refl,
                             (
-                              ap (map number) (said p7 low7),
+                              ap (map number) (said p7),
                               (
-                                ap (map number) (reported p7 low7),
+                                ap (map number) (reported p7),
                                 (
-                                  ap (map number) (reported p8 low8),
+                                  ap (map number) (reported p8),
                                   (
-                                    ap (map number) (reported p8-empty low8-empty),
+                                    ap (map number) (reported p8-empty),
                                     (
-                                      ap (map number) (said p9 low9),
+                                      ap (map number) (said p9),
                                       (
-                                        both p9-stale low9-stale,
+                                        both p9-stale,
                                         (
-                                          both p9 low9,
-                                          (ap (map number) (said p10 low10), (both p10 low10, tt)),
+                                          both p9,
+                                          (ap (map number) (said p10), (both p10, tt)),
                                         ),
                                       ),
                                     ),

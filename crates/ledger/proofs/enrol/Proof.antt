@@ -30,7 +30,7 @@ enrol-row-requires : tie.Need-enrol-row-requires
 enrol-row-requires c κs =
     let judged = c .before .before .before in
     let g = judged .before .before .before .args in
-    enrol-fine (g .s .now) (g .key) (judged .enrol-verdict .ensures) (c .before .enum-told .given .1)
+    enrol-fine (g .s .now) (g .key) (g .first) (judged .enrol-verdict .ensures) (c .before .enum-told .given .1)
 
 same-length-2 : tie.Need-same-length-2
 same-length-2 c = search needs

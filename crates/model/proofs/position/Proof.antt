@@ -1,6 +1,6 @@
 -- `position` meets its contract. Assumes nothing.
 use borrow.Author.Needs.{needs}
-use Rattle.model.proofs.Numbers.{difference}
+use Rattle.model.proofs.Numbers.{telemetry-position, rsr-position, rsr-outside}
 use Rattle.model.proofs.position.Statement.{statement}
 use Rattle.model.proofs.position.Tie as tie
 
@@ -8,7 +8,15 @@ wrapping-sub-u32-requires : tie.Need-wrapping-sub-u32-requires
 wrapping-sub-u32-requires c κs = search needs
 
 returns : tie.Need-returns
-returns c = difference _ _ _ _ (search needs) (search needs) (search needs) (c .wrapping-sub-u32 .ensures)
+returns c =
+    telemetry-position _ _ _ _ (search needs) (search needs) (search needs) (search needs) (c .before .wrapping-sub-u32 .ensures)
+
+returns-2 : tie.Need-returns-2
+returns-2 c =
+    rsr-position _ _ _ _ (search needs) (search needs) (c .before .before .wrapping-sub-u32 .ensures)
+
+returns-3 : tie.Need-returns-3
+returns-3 c = rsr-outside _ _ _ 0 (search needs) (search needs)
 
 pub position-spec : {M : Type 1} → statement M
-position-spec = tie.close (tie.spec wrapping-sub-u32-requires returns)
+position-spec = tie.close (tie.spec wrapping-sub-u32-requires returns returns-2 returns-3)

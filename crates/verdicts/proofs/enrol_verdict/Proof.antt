@@ -20,25 +20,94 @@ valid-requires c κs = search needs
 
 returns-2 : tie.Need-returns-2
 unfolding verdictWords judge
-returns-2 c = rw (passed (c .before .before .before .is-sheet .ensures) (c .before .before .if1 .left), failed (c .before .valid .ensures) (c .if2 .taken))
+returns-2 c =
+    let right = c .before .before in
+    rw (passed (right .before .is-sheet .ensures) (right .if1 .left), failed (c .before .valid .ensures) (c .if2 .taken))
 
-has-key-requires : tie.Need-has-key-requires
-has-key-requires c κs = sized _ (passed (c .before .before .before .is-sheet .ensures) (c .before .before .if1 .left))
+is-number-requires : tie.Need-is-number-requires
+is-number-requires c κs = search needs
 
 returns-3 : tie.Need-returns-3
 unfolding verdictWords judge
-returns-3 c = rw (passed (c .before .before .before .before .before .is-sheet .ensures) (c .before .before .before .before .if1 .left), passed (c .before .before .before .valid .ensures) (c .before .before .if2 .left), ← c .before .has-key .ensures, c .if3 .taken)
+returns-3 c =
+    let valid = c .before .before in
+    let right = valid .before .before in
+    rw (
+      passed (right .before .is-sheet .ensures) (right .if1 .left),
+      passed (valid .before .valid .ensures) (valid .if2 .left),
+      failed (c .before .is-number .ensures) (c .if3 .taken),
+    )
 
-rows-used-requires : tie.Need-rows-used-requires
-rows-used-requires c κs = sized _ (passed (c .before .before .before .before .before .is-sheet .ensures) (c .before .before .before .before .if1 .left)) .long
+has-key-requires : tie.Need-has-key-requires
+has-key-requires c κs =
+    let right = c .before .before .before .before in
+    sized _ (passed (right .before .is-sheet .ensures) (right .if1 .left))
 
 returns-4 : tie.Need-returns-4
 unfolding verdictWords judge
-returns-4 c = rw (passed (c .before .before .before .before .before .before .before .is-sheet .ensures) (c .before .before .before .before .before .before .if1 .left), passed (c .before .before .before .before .before .valid .ensures) (c .before .before .before .before .if2 .left), ← c .before .before .before .has-key .ensures, c .before .before .if3 .left, ← c .before .rows-used .ensures, eq-eqb _ _ (c .if4 .taken))
+returns-4 c =
+    let number = c .before .before in
+    let valid = number .before .before in
+    let right = valid .before .before in
+    rw (
+      passed (right .before .is-sheet .ensures) (right .if1 .left),
+      passed (valid .before .valid .ensures) (valid .if2 .left),
+      passed (number .before .is-number .ensures) (number .if3 .left),
+      ← c .before .has-key .ensures,
+      c .if4 .taken,
+    )
+
+rows-used-requires : tie.Need-rows-used-requires
+rows-used-requires c κs =
+    let right = c .before .before .before .before .before .before in
+    sized _ (passed (right .before .is-sheet .ensures) (right .if1 .left)) .long
 
 returns-5 : tie.Need-returns-5
 unfolding verdictWords judge
-returns-5 c = rw (passed (c .before .before .before .before .before .before .before .is-sheet .ensures) (c .before .before .before .before .before .before .if1 .left), passed (c .before .before .before .before .before .valid .ensures) (c .before .before .before .before .if2 .left), ← c .before .before .before .has-key .ensures, c .before .before .if3 .left, ← c .before .rows-used .ensures, ne-eqb _ _ (c .if4 .left))
+returns-5 c =
+    let new = c .before .before in
+    let number = new .before .before in
+    let valid = number .before .before in
+    let right = valid .before .before in
+    rw (
+      passed (right .before .is-sheet .ensures) (right .if1 .left),
+      passed (valid .before .valid .ensures) (valid .if2 .left),
+      passed (number .before .is-number .ensures) (number .if3 .left),
+      ← new .before .has-key .ensures,
+      new .if4 .left,
+      ← c .before .rows-used .ensures,
+      eq-eqb _ _ (c .if5 .taken),
+    )
+
+returns-6 : tie.Need-returns-6
+unfolding verdictWords judge
+returns-6 c =
+    let new = c .before .before in
+    let number = new .before .before in
+    let valid = number .before .before in
+    let right = valid .before .before in
+    rw (
+      passed (right .before .is-sheet .ensures) (right .if1 .left),
+      passed (valid .before .valid .ensures) (valid .if2 .left),
+      passed (number .before .is-number .ensures) (number .if3 .left),
+      ← new .before .has-key .ensures,
+      new .if4 .left,
+      ← c .before .rows-used .ensures,
+      ne-eqb _ _ (c .if5 .left),
+    )
 
 pub enrol-verdict-spec : {M : Type 1} → statement M
-enrol-verdict-spec = tie.close (tie.spec is-sheet-requires returns valid-requires returns-2 has-key-requires returns-3 rows-used-requires returns-4 returns-5)
+enrol-verdict-spec =
+    tie.close
+    (tie.spec
+    is-sheet-requires
+    returns
+    valid-requires
+    returns-2
+    is-number-requires
+    returns-3
+    has-key-requires
+    returns-4
+    rows-used-requires
+    returns-5
+    returns-6)

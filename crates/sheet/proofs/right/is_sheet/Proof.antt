@@ -19,8 +19,8 @@ returns-2 : tie.Need-returns-2
 unfolding right
 returns-2 c = rw (eq-eqb _ _ (c .before .before .if1 .left), failed (c .before .is-header .ensures) (c .if2 .taken))
 
-are-keys-requires : tie.Need-are-keys-requires
-are-keys-requires c κs = record { long = omega arith; few = header-few _ (passed (c .before .is-header .ensures) (c .if2 .left)) }
+are-rows-requires : tie.Need-are-rows-requires
+are-rows-requires c κs = record { long = omega arith; few = header-few _ (passed (c .before .is-header .ensures) (c .if2 .left)) }
 
 is-rest-requires : tie.Need-is-rest-requires
 is-rest-requires c κs = record { long = omega arith; few = header-few _ (passed (c .before .before .is-header .ensures) (c .before .if2 .left)) }
@@ -29,7 +29,7 @@ returns-3 : tie.Need-returns-3
 unfolding right
 returns-3 c =
     let header = c .before .before in
-    rw (eq-eqb _ _ (header .before .before .if1 .left), passed (header .before .is-header .ensures) (header .if2 .left), ← c .before .are-keys .ensures, ← and-assoc, ← c .is-rest .ensures)
+    rw (eq-eqb _ _ (header .before .before .if1 .left), passed (header .before .is-header .ensures) (header .if2 .left), ← c .before .are-rows .ensures, ← and-assoc, ← c .is-rest .ensures)
 
 pub is-sheet-spec : {M : Type 1} → statement M
 is-sheet-spec =
@@ -38,6 +38,6 @@ is-sheet-spec =
     returns
     is-header-requires
     returns-2
-    are-keys-requires
+    are-rows-requires
     is-rest-requires
     returns-3)

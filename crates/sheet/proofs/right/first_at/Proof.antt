@@ -1,10 +1,10 @@
--- `rows::first_at` meets its contract: four bytes fit 32 bits. Assumes nothing.
+-- `right::first_at` meets its contract: four bytes fit 32 bits. Assumes nothing.
 use Prim.Native.Nat.{_+_}
 use Rattle.octets.proofs.Laws.{number-lt}
 use Rattle.sheet.specs.Sheet.{firstAt, firstSize}
 use borrow.Author.Needs.{needs}
-use Rattle.changes.proofs.rows.first_at.Statement.{statement}
-use Rattle.changes.proofs.rows.first_at.Tie as tie
+use Rattle.sheet.proofs.right.first_at.Statement.{statement}
+use Rattle.sheet.proofs.right.first_at.Tie as tie
 
 add-read-be : tie.Need-add-read-be
 add-read-be c = search needs

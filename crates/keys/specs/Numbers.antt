@@ -1,0 +1,13 @@
+-- The record numbers of a stream (document 01, "The ledger sheet"; document 02, request 03). Assumes nothing.
+use Prim.Native.Nat.{ℕ, _^_}
+use mathlib.Core.Bool.{Bool, cond}
+use lib.Dec.{ltb}
+use Rattle.keys.specs.Key.{isTelemetryKey}
+
+-- What the record numbers of a stream are counted modulo: 2^32; "the RSR record number has 16 bits", so "for keys from 2^42 up" 65,536.
+unfoldable pub modulus : (key : ℕ) → ℕ
+modulus key = cond (isTelemetryKey key) (2 ^ 32) (2 ^ 16)
+
+-- Whether a number is one that the stream's records can have.
+abbrev pub isNumber : (key n : ℕ) → Bool
+isNumber key n = ltb n (modulus key)
