@@ -7,7 +7,7 @@ use mathlib.Core.List.{List, [], _∷_, map, map-append}
 use mathlib.Core.Logic.{_⊎_, inl, inr}
 use mathlib.Core.Path.{_≡_, refl, sym, ap, _∙_}
 use lib.Dec.{leb}
-use lib.ListN.{length, drop, length-map}
+use lib.ListN.{length, getD, drop, length-map}
 use borrow.Author.Tests.{leb-true, leb-false}
 use Rattle.sfdu.specs.Read.{inStream, accepts, readOne}
 use Rattle.sfdu.proofs.Accepted.{Reads, accepted-one, refused-one, reads}
@@ -75,14 +75,14 @@ from (suc free) s at h = by (whole s at) refl (λ e. from free s (past s at) (wh
 
 -- ---- lists
 
--- Read one gives no 16.
-no-16 : (s : List ℕ) (at : ℕ) (rest : List ℕ) → accepts s ≡ false → inStream at (readOne s) ≡ 16 ∷ rest → ⊥
+-- Read one gives no 16, so no refused record does.
+pub refused-16 : (s : List ℕ) (at : ℕ) (why : List ℕ) → accepts s ≡ false → why ≡ inStream at (readOne s) → getD why 0 0 ≡ 16 → ⊥
 unfolding inStream
-no-16 s at rest e h = by (reads s)
+refused-16 s at why e h z = by (reads s)
   where
     by : Reads s → ⊥
     by (accepted-one a) = false≢true (sym e ∙ a)
-    by (refused-one r) = let z : r .number ≡ 16 = cc (rw (r .words) at h) in omega (arith, r .small)
+    by (refused-one r) = let n : r .number ≡ 16 = rw (h, r .words) at z in omega (arith, n, r .small)
 
 pub list-right : EveryList
 unfolding whole
@@ -94,7 +94,7 @@ list-right size s =
     l = listing size s 0
 
     none-full : (at : ℕ) → whole s at ≡ false → inStream at (readOne (drop at s)) ≡ full → ⊥
-    none-full at e h = no-16 (drop at s) at _ e h
+    none-full at e h = refused-16 (drop at s) at full e (sym h) refl
 
     told : StopsAtEnd s l ⊎ (StopsRefused s l ⊎ (Full s size l × (l .why ≡ full))) → l .why ≡ full → Full s size l
     told (inl x) e = let z : _≡_ {A = ℕ} 0 16 = cc (x .1, e) in absurd (omega arith)

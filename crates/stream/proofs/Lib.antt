@@ -5,4 +5,6 @@ pub mod Filled
 pub mod Underway
 pub mod Columns
 pub mod Laws
+pub mod Enough
+pub mod Shortest
 pub mod Words

@@ -1,9 +1,12 @@
 // Streams of records back to back: a cursor, a walk, number lists and a table of entries.
 mod listing;
+mod room;
 mod walking;
 
 pub use listing::list_entries;
 pub use listing::list_numbers;
+pub use room::most_records;
+pub use room::most_rsr_records;
 pub use walking::walk;
 
 // A place in a stream, in bytes from its start.
