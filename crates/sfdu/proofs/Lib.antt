@@ -5,3 +5,4 @@ pub mod Within
 pub mod Nested
 pub mod Parts
 pub mod Words
+pub mod Wholes

@@ -84,6 +84,10 @@ blockType s at = numberAt s at wordSize
 unfoldable pub blockLength : List ℕ → ℕ → ℕ
 blockLength s at = numberAt s (at + wordSize) wordSize
 
+-- It has that type and that length.
+abbrev pub isLabel : List ℕ → (at type size : ℕ) → Bool
+isLabel s at type size = eqb (blockType s at) type && eqb (blockLength s at) size
+
 -- What a check of fields finds: the offset that its rules give, or that all are right.
 abbrev pub checked : List (Rule ℕ) → Checked
 checked rules = judge Wrong rules Right
@@ -153,6 +157,10 @@ inStream place (n ∷ m ∷ rest) = n ∷ cond (isCount n) m (place + m) ∷ res
 -- Read one accepts the slice.
 unfoldable pub accepts : List ℕ → Bool
 accepts s = noneApplies (readRules s)
+
+-- N, and 0 where read one refuses.
+unfoldable pub wholeSize : List ℕ → ℕ
+wholeSize s = cond (accepts s) (recordLength s) 0
 
 -- ---- the calls
 

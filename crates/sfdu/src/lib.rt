@@ -1,6 +1,7 @@
 // One record: its label, its nested blocks and its parts, for telemetry and for the radio science receiver (RSR).
 mod nesting;
 mod reader;
+mod whole;
 
 pub use nesting::AGGREGATION_AT;
 pub use nesting::AGGREGATION_TYPE;
@@ -33,6 +34,7 @@ pub use nesting::secondary_type;
 pub use reader::data_part;
 pub use reader::read_one;
 pub use reader::secondary_part;
+pub use whole::whole_size;
 
 pub enum Kind {
     Telemetry,

@@ -73,14 +73,14 @@ fn refused(refusal: Refusal, at: usize) -> Read
     Read::Refused(Fault { refusal, at })
 }
 
-fn has_authority(s: &[u8]) -> bool
+pub fn has_authority(s: &[u8]) -> bool
     requires { ⌜ labelSize ≤ length (now s) ⌝ }
     ensures { λ r. ⌜ r ≡ sameAt (now (s .entry)) authorityAt authority 0 tagSize ⌝ }
 {
     is_same(s, AUTHORITY_AT, &AUTHORITY, 0, TAG)
 }
 
-fn has_control(s: &[u8]) -> bool
+pub fn has_control(s: &[u8]) -> bool
     requires { ⌜ labelSize ≤ length (now s) ⌝ }
     ensures { λ r. ⌜ r ≡ sameAt (now (s .entry)) controlAt control 0 tagSize ⌝ }
 {
@@ -129,14 +129,14 @@ fn read_length(s: &[u8], kind: Kind) -> Read
 }
 
 // The length in the label: that of the record past the label.
-fn label_length(s: &[u8]) -> u64
+pub fn label_length(s: &[u8]) -> u64
     requires { ⌜ labelSize ≤ length (now s) ⌝ }
     ensures { λ r. ⌜ r ≡ labelLength (now (s .entry)) ⌝ }
 {
     read_be(s, LENGTH_AT, LENGTH)
 }
 
-fn length_in_range(after: u64, kind: Kind) -> bool
+pub fn length_in_range(after: u64, kind: Kind) -> bool
     ensures { λ r. ⌜ r ≡ (leb (leastLabelLength kind) after && leb after (mostLabelLength kind)) ⌝ }
 {
     let least = least_label_length(kind);

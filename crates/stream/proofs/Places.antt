@@ -1,7 +1,7 @@
 -- A place in a stream: what is known where a whole record stands, and where none does. Assumes nothing.
 use Prim.Native.Nat.{ℕ, _+_, _-_, _≤_, _<_}
 use native.Mathlib.Omega.{arith}
-use mathlib.Core.Bool.{Bool, true, false, false≢true}
+use mathlib.Core.Bool.{Bool, true, false, cond, false≢true}
 use mathlib.Core.List.{List, [], _∷_}
 use mathlib.Core.Path.{_≡_, refl, sym, ap, _∙_}
 use lib.Dec.{leb}
@@ -12,7 +12,7 @@ use Rattle.refusals.specs.Judge.{judge}
 use Rattle.refusals.proofs.Judged.{Outcome, none, first, outcome, none-judge, first-judge}
 use Rattle.sfdu.specs.declared.Kind.{Kind}
 use Rattle.sfdu.specs.Nesting.{kindNumber, dataValueAt}
-use Rattle.sfdu.specs.Read.{kindOf, readRules, inStream, accepts, recordWords, readOne}
+use Rattle.sfdu.specs.Read.{kindOf, recordLength, readRules, inStream, accepts, wholeSize, recordWords, readOne}
 use Rattle.sfdu.proofs.Placed.{placed}
 use Rattle.sfdu.proofs.Accepted.{accepted, found, words-refused, accepted-words, Reads, accepted-one, refused-one, reads}
 use Rattle.sfdu.proofs.Within.{second-inside}
@@ -51,6 +51,31 @@ headers-there s at k n r =
     let l : length (take (length s - at) (drop at s)) ≡ length (drop at s) = ap length (from-there s at) in
     let p = placed (kindOf (drop at s)) in
     rw (r .kind) (omega arith)
+
+-- ---- the size of the record there, 0 where none is whole
+
+module _ (s : List ℕ) (at n : ℕ) (e : n ≡ wholeSize (take (length s - at) (drop at s))) where
+  size-there : n ≡ cond (whole s at) (recordLength (drop at s)) 0
+  unfolding wholeSize whole
+  size-there = e ∙ ap wholeSize (from-there s at)
+
+  pub size-whole : (n ≡ 0 → ⊥) → (whole s at ≡ true) × (at + n ≡ past s at)
+  unfolding past
+  size-whole h = by (whole s at) refl
+    where
+      by : (b : Bool) → whole s at ≡ b → (whole s at ≡ true) × (at + n ≡ at + recordLength (drop at s))
+      by true w = (w, ap (λ (m : ℕ). at + m) (size-there ∙ rw w))
+      by false w = absurd (h (size-there ∙ rw w))
+
+  pub size-none : n ≡ 0 → whole s at ≡ false
+  unfolding past
+  size-none z = by (whole s at) refl
+    where
+      by : (b : Bool) → whole s at ≡ b → whole s at ≡ false
+      by true w =
+          let m : n ≡ recordLength (drop at s) = size-there ∙ rw w in
+          absurd (omega (arith, whole-record s at w .further))
+      by false w = w
 
 -- ---- a step, from what read one answers at the place
 

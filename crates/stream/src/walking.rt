@@ -1,10 +1,11 @@
 // The cursor's step, and the walk over a whole stream.
+ghost use mathlib.Core.Bool.{false};
 ghost use mathlib.Core.Path.{_≡_};
 ghost use Prim.Native.Nat.{_+_, _≤_};
 ghost use lib.ListN.{length};
 ghost use Rattle.refusals.specs.Table.{numberOf};
 ghost use Rattle.sfdu.specs.Read.{faultWords, isCount, inStream};
-ghost use Rattle.stream.specs.Walk.{stepWords, wordsOf, step};
+ghost use Rattle.stream.specs.Walk.{stepWords, stopWords, wordsOf, whole, refusal, step};
 ghost use Rattle.stream.specs.Listing.{walked};
 use crate::Cursor;
 use crate::Step;
@@ -15,6 +16,7 @@ use refusals::number;
 use sfdu::Fault;
 use sfdu::Read;
 use sfdu::read_one;
+use sfdu::whole_size;
 
 // The refusals that give a count of bytes: the numbers of document 01's table.
 const TOO_SHORT: u32 = 1;
@@ -60,25 +62,32 @@ pub fn walk(s: &[u8]) -> Walked
     let mut at = 0;
     let mut count = 0;
     loop {
-        let cursor = Cursor { at };
-        let found = cursor.step(s);
-        match found {
-            Step::Found {
-                kind: _,
-                size: _,
-                primary: _,
-                next,
-            } => {
-                at = next.at;
-                count = count + 1;
-            }
-            Step::Done(_) => {
-                return stopped(count, at, Stop::End);
-            }
-            Step::Refused(f, _) => {
-                return stopped(count, at, Stop::Refused(in_stream(s, at, f)));
-            }
+        let size = whole_size(&s[at..]);
+        if size == 0 {
+            return stopped(count, at, stop_at(s, at));
         }
+        at = at + size;
+        count = count + 1;
+    }
+}
+
+// Why a walk stops at a place where no whole record stands.
+fn stop_at(s: &[u8], at: usize) -> Stop
+    requires { ⌜ whole (now s) at ≡ false ⌝ }
+    ensures { λ r. ⌜ stopWords r ≡ refusal (now (s .entry)) at ⌝ }
+{
+    let cursor = Cursor { at };
+    let found = cursor.step(s);
+    match found {
+        // It has none to find.
+        Step::Found {
+            kind: _,
+            size: _,
+            primary: _,
+            next: _,
+        } => Stop::End,
+        Step::Done(_) => Stop::End,
+        Step::Refused(f, _) => Stop::Refused(in_stream(s, at, f)),
     }
 }
 

@@ -1,0 +1,83 @@
+-- `sfdu::whole::whole_size` meets its contract. The tests stand in the order of the definition's rules. Assumes nothing.
+use mathlib.Core.Path.{sym, _∙_}
+use borrow.Author.Tests.{lt-ltb, le-ltb}
+use Rattle.refusals.specs.Judge.{judge}
+use Rattle.octets.proofs.Laws.{failed, passed}
+use Rattle.sfdu.specs.declared.Kind.the-variants.{Telemetry, Rsr}
+use Rattle.sfdu.specs.Read.{kindOf, accepts, wholeSize}
+use Rattle.sfdu.proofs.Wholes.{tag-same, tag-other}
+use borrow.Author.Needs.{needs}
+use Rattle.sfdu.proofs.whole.whole_size.Statement.{statement}
+use Rattle.sfdu.proofs.whole.whole_size.Tie as tie
+
+returns : tie.Need-returns
+unfolding wholeSize accepts judge kindOf
+returns c = rw (lt-ltb _ _ (c .if1 .taken))
+
+has-authority-requires : tie.Need-has-authority-requires
+has-authority-requires c κs = search needs
+
+returns-2 : tie.Need-returns-2
+unfolding wholeSize accepts judge kindOf
+returns-2 c =
+    rw (le-ltb _ _ (c .before .before .if1 .left), failed (c .before .has-authority .ensures) (c .if2 .taken))
+
+has-control-requires : tie.Need-has-control-requires
+has-control-requires c κs = search needs
+
+returns-3 : tie.Need-returns-3
+unfolding wholeSize accepts judge kindOf
+returns-3 c =
+    rw (le-ltb _ _ (c .before .before .before .before .if1 .left), passed (c .before .before .before .has-authority .ensures) (c .before .before .if2 .left), failed (c .before .has-control .ensures) (c .if3 .taken))
+
+read-u32-requires : tie.Need-read-u32-requires
+read-u32-requires c κs = search needs
+
+size-as-requires : tie.Need-size-as-requires
+size-as-requires c κs = search needs
+
+returns-4 : tie.Need-returns-4
+unfolding wholeSize accepts judge kindOf
+returns-4 c =
+    let s = c .before .before .before .before .before .before .before .before .before .args .s .now in
+    let here = tag-same Telemetry s (c .before .before .before .before .before .before .before .before .shared-slice-known .given) (c .before .before .before .before .before .before .before .if1 .left) (sym (c .before .before .read-u32 .ensures) ∙ c .before .if4 .taken) in
+    rw (le-ltb _ _ (c .before .before .before .before .before .before .before .if1 .left), passed (c .before .before .before .before .before .before .has-authority .ensures) (c .before .before .before .before .before .if2 .left), passed (c .before .before .before .before .has-control .ensures) (c .before .before .before .if3 .left), here) (c .size-as .ensures)
+
+size-as-requires-2 : tie.Need-size-as-requires-2
+size-as-requires-2 c κs = search needs
+
+returns-5 : tie.Need-returns-5
+unfolding wholeSize accepts judge kindOf
+returns-5 c =
+    let s = c .before .before .before .before .before .before .before .before .before .before .args .s .now in
+    let bytes = c .before .before .before .before .before .before .before .before .before .shared-slice-known .given in
+    let tag = c .before .before .before .read-u32 .ensures in
+    let other = tag-other Telemetry s bytes (c .before .before .before .before .before .before .before .before .if1 .left) (λ e. c .before .before .if4 .left (tag ∙ e)) in
+    let here = tag-same Rsr s bytes (c .before .before .before .before .before .before .before .before .if1 .left) (sym tag ∙ c .before .if5 .taken) in
+    rw (le-ltb _ _ (c .before .before .before .before .before .before .before .before .if1 .left), passed (c .before .before .before .before .before .before .before .has-authority .ensures) (c .before .before .before .before .before .before .if2 .left), passed (c .before .before .before .before .before .has-control .ensures) (c .before .before .before .before .if3 .left), other, here) (c .size-as2 .ensures)
+
+returns-6 : tie.Need-returns-6
+unfolding wholeSize accepts judge kindOf
+returns-6 c =
+    let s = c .before .before .before .before .before .before .before .before .before .args .s .now in
+    let bytes = c .before .before .before .before .before .before .before .before .shared-slice-known .given in
+    let tag = c .before .before .read-u32 .ensures in
+    let other = tag-other Telemetry s bytes (c .before .before .before .before .before .before .before .if1 .left) (λ e. c .before .if4 .left (tag ∙ e)) in
+    let neither = tag-other Rsr s bytes (c .before .before .before .before .before .before .before .if1 .left) (λ e. c .if5 .left (tag ∙ e)) in
+    rw (le-ltb _ _ (c .before .before .before .before .before .before .before .if1 .left), passed (c .before .before .before .before .before .before .has-authority .ensures) (c .before .before .before .before .before .if2 .left), passed (c .before .before .before .before .has-control .ensures) (c .before .before .before .if3 .left), other, neither)
+
+pub whole-size-spec : {M : Type 1} → statement M
+whole-size-spec =
+    tie.close
+    (tie.spec
+    returns
+    has-authority-requires
+    returns-2
+    has-control-requires
+    returns-3
+    read-u32-requires
+    size-as-requires
+    returns-4
+    size-as-requires-2
+    returns-5
+    returns-6)

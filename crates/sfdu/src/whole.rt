@@ -1,0 +1,130 @@
+// How long the record at the start of a slice is, where read one accepts it: all that a walk asks of a record, and asked of each. A tag
+// and a block's label are each one word, and each kind is judged by itself, its offsets and lengths constants.
+ghost use mathlib.Core.Bool.{cond, _&&_};
+ghost use mathlib.Core.List.{_++_};
+ghost use mathlib.Core.Path.{_≡_};
+ghost use Prim.Native.Nat.{_+_, _-_, _≤_};
+ghost use lib.ListN.{length};
+ghost use Rattle.refusals.specs.Judge.{noneApplies};
+ghost use Rattle.sfdu.specs.Nesting.{labelSize, blockLabelSize, aggregationAt, secondaryAt, dataAt, dataValueAt, aggregationType, secondaryType, dataType, aggregationLength, secondaryLength, mostData};
+ghost use Rattle.sfdu.specs.Read.{recordLength, lengthRules, headerRules, dataRules, isLabel, wholeSize};
+use crate::Kind;
+use crate::nesting::AGGREGATION_AT;
+use crate::nesting::AGGREGATION_TYPE;
+use crate::nesting::DATA_TYPE;
+use crate::nesting::KIND_AT;
+use crate::nesting::LABEL;
+use crate::nesting::PRIMARY_AT;
+use crate::nesting::PRIMARY_LENGTH;
+use crate::nesting::PRIMARY_TYPE;
+use crate::nesting::SECONDARY_AT;
+use crate::nesting::aggregation_length;
+use crate::nesting::data_at;
+use crate::nesting::data_value_at;
+use crate::nesting::secondary_length;
+use crate::nesting::secondary_type;
+use crate::reader::has_authority;
+use crate::reader::has_control;
+use crate::reader::label_length;
+use crate::reader::length_in_range;
+use octets::read_u32;
+
+// What the label spells for each kind, as a word: 0800 and C997.
+const TELEMETRY_TAG: u32 = 808988720;
+
+const RSR_TAG: u32 = 1127823671;
+
+const WORD_VALUES: u64 = 65536;
+
+// 0 where read one refuses.
+pub fn whole_size(s: &[u8]) -> usize
+    ensures { λ r. ⌜ r ≡ wholeSize (now (s .entry)) ⌝ }
+{
+    if s.len() < LABEL {
+        return 0;
+    }
+    if !has_authority(s) {
+        return 0;
+    }
+    if !has_control(s) {
+        return 0;
+    }
+    let tag = read_u32(s, KIND_AT);
+    if tag == TELEMETRY_TAG {
+        return size_as(s, Kind::Telemetry);
+    }
+    if tag == RSR_TAG {
+        return size_as(s, Kind::Rsr);
+    }
+    0
+}
+
+fn size_as(s: &[u8], kind: Kind) -> usize
+    requires { ⌜ labelSize ≤ length (now s) ⌝ }
+    ensures { λ r. ⌜ r ≡ cond (noneApplies (lengthRules kind (now (s .entry)) ++ headerRules kind (now (s .entry)) ++ dataRules kind (now (s .entry)))) (recordLength (now (s .entry))) 0 ⌝ }
+{
+    let after = label_length(s);
+    if !length_in_range(after, kind) {
+        return 0;
+    }
+    let size = LABEL + after as usize;
+    if s.len() < size {
+        return 0;
+    }
+    if has_blocks(s, kind, size) {
+        return size;
+    }
+    0
+}
+
+// Whether each block has its label, of a record that is `size` bytes long and lent whole.
+fn has_blocks(s: &[u8], kind: Kind, size: usize) -> bool
+    requires { ⌜ (size ≡ recordLength (now s)) × (dataValueAt kind ≤ size) × (size ≤ dataValueAt kind + mostData) × (size ≤ length (now s)) ⌝ }
+    ensures { λ r. ⌜ r ≡ noneApplies (headerRules kind (now (s .entry)) ++ dataRules kind (now (s .entry))) ⌝ }
+{
+    let aggregation = is_aggregation(s, kind);
+    let primary = is_label(s, PRIMARY_AT, PRIMARY_TYPE, PRIMARY_LENGTH);
+    let secondary = is_secondary(s, kind);
+    let data = is_data(s, kind, size);
+    aggregation & (primary & (secondary & data))
+}
+
+fn is_aggregation(s: &[u8], kind: Kind) -> bool
+    requires { ⌜ dataValueAt kind ≤ length (now s) ⌝ }
+    ensures { λ r. ⌜ r ≡ isLabel (now (s .entry)) aggregationAt aggregationType (aggregationLength kind) ⌝ }
+{
+    is_label(
+        s,
+        AGGREGATION_AT,
+        AGGREGATION_TYPE,
+        aggregation_length(kind),
+    )
+}
+
+fn is_secondary(s: &[u8], kind: Kind) -> bool
+    requires { ⌜ dataValueAt kind ≤ length (now s) ⌝ }
+    ensures { λ r. ⌜ r ≡ isLabel (now (s .entry)) secondaryAt (secondaryType kind) (secondaryLength kind) ⌝ }
+{
+    is_label(
+        s,
+        SECONDARY_AT,
+        secondary_type(kind),
+        secondary_length(kind) as u64,
+    )
+}
+
+fn is_data(s: &[u8], kind: Kind, size: usize) -> bool
+    requires { ⌜ (size ≡ recordLength (now s)) × (dataValueAt kind ≤ size) × (size ≤ dataValueAt kind + mostData) × (size ≤ length (now s)) ⌝ }
+    ensures { λ r. ⌜ r ≡ isLabel (now (s .entry)) (dataAt kind) dataType (recordLength (now (s .entry)) - dataValueAt kind) ⌝ }
+{
+    let rest = size - data_value_at(kind);
+    is_label(s, data_at(kind), DATA_TYPE, rest as u64)
+}
+
+// Whether the block at an offset has this type and this length.
+fn is_label(s: &[u8], at: usize, class: u64, size: u64) -> bool
+    requires { ⌜ (at + blockLabelSize ≤ length (now s)) × (class ≤ mostData) × (size ≤ mostData) ⌝ }
+    ensures { λ r. ⌜ r ≡ isLabel (now (s .entry)) at class size ⌝ }
+{
+    read_u32(s, at) as u64 == class * WORD_VALUES + size
+}
