@@ -1,6 +1,7 @@
 //! Benchmarks: each call over fixed inputs, in nanoseconds a call, the best of several passes. With the feature
 //! `rattle` every line has the proved library's time too, and the ratio.
 
+use crate::idr::{self, Idr};
 use crate::make::Rng;
 use crate::record::{Fields, Record, Refused, Rsr, Telemetry, RSR, TELEMETRY};
 use crate::stream;
@@ -19,6 +20,7 @@ pub struct Implementation {
     pub name: &'static str,
     pub read_headers: fn(&[u8], u32) -> u64,
     pub walk: fn(&[u8]) -> u64,
+    pub read_tape: fn(&[u8]) -> u64,
     pub is_sheet: fn(&[u8]) -> u64,
     pub tick: fn(&mut [u8], u32, u32) -> u64,
     pub untick: fn(&mut [u8], u32, u32) -> u64,
@@ -32,6 +34,7 @@ pub const REFERENCE: Implementation = Implementation {
     read_headers: |s, wanted| headers_number(record::read_headers(s, wanted)),
     // The count of whole records.
     walk: |s| black_box(stream::walk(s)).count,
+    read_tape: |s| tape_number(idr::read(s)),
     is_sheet: |s| ledger::is_sheet(s) as u64,
     tick: |s, desk, n| ledger::tick(s, desk, n).err().unwrap_or(0) as u64,
     untick: |s, desk, n| ledger::untick(s, desk, n).err().unwrap_or(0) as u64,
@@ -86,6 +89,41 @@ fn rsr_number(r: &Rsr) -> u64 {
         ^ r.peak as u64;
     let time = r.year as u64 ^ r.day as u64 ^ r.override_frequency;
     source ^ signal ^ time ^ r.key
+}
+
+/// Every number of the fields, one on the other, flags as 0 or 1; 0 where there are none.
+fn tape_number(answer: Result<Idr, u32>) -> u64 {
+    let f = match answer {
+        Ok(Idr { fields: Some(fields), .. }) => fields,
+        Ok(_) => return 0,
+        Err(refusal) => return refusal as u64,
+    };
+    let flags = f.first_of_run
+        ^ f.source_error
+        ^ f.pps_absent
+        ^ f.clock_out_of_sync
+        ^ f.recorder_b
+        ^ f.microseconds_abnormal
+        ^ f.time_track_in_sync
+        ^ f.bypass
+        ^ f.overflow
+        ^ f.pps_out_of_sync
+        ^ f.bit_slip;
+    let bytes = f.tape_number
+        ^ f.spacecraft
+        ^ f.station
+        ^ f.time.hour
+        ^ f.time.minute
+        ^ f.time.second
+        ^ f.input
+        ^ f.decimation
+        ^ f.pps_track
+        ^ f.time_track
+        ^ f.channel
+        ^ f.decimation_counter;
+    let words = f.record_number ^ f.dra_tape_number ^ f.time.day ^ f.reduction_day;
+    let longs = f.time.microseconds ^ f.playback_rate ^ f.sampling_rate ^ f.block_size ^ f.reduction_second;
+    (flags as u32 ^ bytes as u32 ^ words as u32 ^ longs ^ f.sample_count.unwrap_or(0)) as u64
 }
 
 /// The ticked and the missing count and the lowest missing number.
@@ -163,6 +201,11 @@ pub fn run() {
     ] {
         let s = sample::telemetry_stream(records, length);
         compare(name, records as f64, &each, |i| (i.walk)(black_box(&s)));
+    }
+    for (name, sample) in [("read a medium band record", 0), ("read one without a valid time tag", 1)] {
+        let tape = sample::sample("tapes/good-tape").expect("a sample");
+        let s = &tape[sample * idr::RECORD..][..idr::RECORD];
+        compare(name, 1.0, &each, |i| (i.read_tape)(black_box(s)));
     }
     let full = nights::full_sheet(&Rng::new(1));
     for (name, s) in [

@@ -11,6 +11,8 @@ const REFUSALS: &[RangeInclusive<u32>] = &[
     1..=16,
     // The ledger.
     20..=32,
+    // Medium band records.
+    50..=54,
 ];
 
 /// The wrong fields that it has to meet: the refusal, and the field's offset in the record.

@@ -1,16 +1,19 @@
-//! Document 01 in plain Rust, apart from the proved library: the expected output of its programs, and the baseline of
+//! Documents 01 and 02 in plain Rust, apart from the proved library: the expected output of its programs, and the baseline of
 //! its benchmarks. See README.md.
 
-// The calls, each module a section of document 01.
+// The calls, each module a section of document 01 or a request of document 02; and the programs' listings.
+pub mod idr;
 pub mod keys;
 pub mod ledger;
 pub mod list;
 pub mod record;
 pub mod stream;
+pub mod tapes;
 
 // What is done with them.
 pub mod bench;
 pub mod coverage;
+pub mod files;
 pub mod make;
 pub mod nights;
 pub mod random;

@@ -1,42 +1,10 @@
 //! The listing program. Document 01: its example, and refusal 17; request 05: the last line's third number.
 
 use crate::record::{self, Record, Refused, TELEMETRY};
-use std::ffi::OsString;
-use std::fs::File;
 use std::io::{self, Read, Write};
 
 pub const WINDOW: usize = 65_536;
 pub const HEADING: &str = "place length kind number";
-
-/// Lists each file, or standard input where none is named; several under a line with the name.
-/// A file that cannot be opened or read is told of on standard error. Answers whether all went well.
-pub fn list_files(names: &[OsString], out: &mut impl Write) -> io::Result<bool> {
-    if names.is_empty() {
-        return list_one("standard input", Ok(io::stdin().lock()), out);
-    }
-    let mut well = true;
-    for name in names {
-        let file = File::open(name);
-        if names.len() > 1 && file.is_ok() {
-            out.write_all(name.as_encoded_bytes())?;
-            out.write_all(b"\n")?;
-        }
-        well &= list_one(&name.to_string_lossy(), file, out)?;
-    }
-    Ok(well)
-}
-
-fn list_one(name: &str, input: io::Result<impl Read>, out: &mut impl Write) -> io::Result<bool> {
-    let listed = match input {
-        Ok(input) => list(input, out)?,
-        Err(reason) => Err(reason),
-    };
-    out.flush()?;
-    if let Err(reason) = &listed {
-        eprintln!("{name}: {reason}");
-    }
-    Ok(listed.is_ok())
-}
 
 /// The bytes of the input that are in memory: those from `start` to `end`.
 struct Window<R> {

@@ -1,7 +1,7 @@
 //! The commands; see README.md.
 
 use reference::coverage::Coverage;
-use reference::{bench, list, random, sample, script, tables};
+use reference::{bench, files, list, random, sample, script, tables, tapes};
 use std::ffi::OsString;
 use std::io::{self, BufWriter, Read, Write};
 use std::process::ExitCode;
@@ -9,7 +9,9 @@ use std::process::ExitCode;
 const USAGE: &str = "reference script < SCRIPT        the lines of a call script
 reference coverage < SCRIPT      how often each refusal and wrong field stands in its lines; fails where one is missing
 reference list [FILE..]          lists streams
-reference random SEED COUNT      a random call script
+reference tapes [FILE..]         lists tapes of medium band records
+reference random SEED COUNT [PART]
+                                 a random call script; of calls on records, ledger or tapes alone
 reference sample [NAME]          a sample stream; without a name, the names, what is wrong in each, and its last line
 reference big BYTES              a stream of mixed records of about so many bytes
 reference bench                  benchmarks
@@ -39,14 +41,14 @@ fn command(args: &[OsString], out: &mut impl Write) -> io::Result<bool> {
             coverage.write(out)?;
             return Ok(coverage.is_whole());
         }
-        ["list", ..] => return list::list_files(&args[1..], out),
-        ["random", seed, count] => {
-            for frame in random::script(parse(seed)?, parse(count)? as usize) {
-                frame.write(out)?;
-            }
+        ["list", ..] => return files::list_files(&args[1..], out, |input, out| list::list(input, out)),
+        ["tapes", ..] => return files::list_files(&args[1..], out, |input, out| tapes::list(input, out)),
+        ["random", seed, count] => random_script(seed, count, None, out)?,
+        ["random", seed, count, part] if random::parts().contains(&part) => {
+            random_script(seed, count, Some(part), out)?
         }
         ["sample"] => {
-            for sample in &sample::SAMPLES {
+            for sample in sample::SAMPLES.iter().chain(&tapes::TAPES) {
                 writeln!(out, "{}: {} ({})", sample.name, sample.about, sample.last_line)?;
             }
         }
@@ -66,6 +68,11 @@ fn command(args: &[OsString], out: &mut impl Write) -> io::Result<bool> {
         }
     }
     Ok(true)
+}
+
+fn random_script(seed: &str, count: &str, part: Option<&str>, out: &mut impl Write) -> io::Result<()> {
+    let frames = random::script_of(parse(seed)?, parse(count)? as usize, part);
+    frames.iter().try_for_each(|frame| frame.write(out))
 }
 
 fn standard_input() -> io::Result<Vec<u8>> {

@@ -1,9 +1,11 @@
 //! Random call scripts: scenes of a few calls each, dealt from a deck, so that every kind of call and of damage
-//! comes up soon. Ledger calls stand in nights.rs.
+//! comes up soon. Ledger calls stand in nights.rs, those of later requests in random/.
 
 use crate::make::{self, put, Deck, Rng};
 use crate::record::{self, RSR, SECONDARY, TELEMETRY};
 use crate::script::{Calls, Frame, MOST_B, MOST_LIST, MOST_SLICE};
+
+mod idr;
 
 const EDGES: [u32; 8] = [0, 1, 255, 256, 65_535, 65_536, u32::MAX - 1, u32::MAX];
 
@@ -17,19 +19,28 @@ enum Scene {
     Long,
     Night,
     Sheets,
+    Tapes,
 }
 
-/// How often each scene stands in the deck; a deck is some 300 calls.
-const SCENES: [(Scene, usize); 8] = [
-    (Scene::Records, 32),
-    (Scene::Headers, 8),
-    (Scene::Writes, 5),
-    (Scene::Keys, 4),
-    (Scene::Streams, 8),
-    (Scene::Long, 1),
-    (Scene::Night, 3),
-    (Scene::Sheets, 10),
+/// How often each scene stands in the deck, a deck being some 300 calls; and the part of the papers that it is of.
+const SCENES: &[(Scene, usize, &str)] = &[
+    (Scene::Records, 32, "records"),
+    (Scene::Headers, 8, "records"),
+    (Scene::Writes, 5, "records"),
+    (Scene::Keys, 4, "records"),
+    (Scene::Streams, 8, "records"),
+    (Scene::Long, 1, "records"),
+    (Scene::Night, 3, "ledger"),
+    (Scene::Sheets, 10, "ledger"),
+    (Scene::Tapes, 8, "tapes"),
 ];
+
+/// The parts of which a script alone can be made.
+pub fn parts() -> Vec<&'static str> {
+    let mut parts: Vec<&str> = SCENES.iter().map(|(_, _, part)| *part).collect();
+    parts.dedup();
+    parts
+}
 
 pub struct Generator {
     pub rng: Rng,
@@ -47,10 +58,17 @@ pub struct Generator {
     pub sheet_ops: Deck<u32>,
     pub pieces: Deck<crate::nights::Piece>,
     pub nights: Deck<crate::nights::NightCase>,
+    tapes: Vec<Deck<idr::TapeCase>>,
+    tape_kinds: Deck<usize>,
 }
 
 /// `count` frames, the same for the same seed.
 pub fn script(seed: u64, count: usize) -> Vec<Frame> {
+    script_of(seed, count, None)
+}
+
+/// The same with calls of one part alone.
+pub fn script_of(seed: u64, count: usize, part: Option<&str>) -> Vec<Frame> {
     let mut g = Generator {
         rng: Rng::new(seed),
         calls: Calls::default(),
@@ -66,8 +84,11 @@ pub fn script(seed: u64, count: usize) -> Vec<Frame> {
         sheet_ops: Deck::new((21..=29).collect()),
         pieces: Deck::new(crate::nights::PIECES.to_vec()),
         nights: Deck::new(crate::nights::NIGHT_CASES.to_vec()),
+        tapes: idr::tape_cases().into_iter().map(Deck::new).collect(),
+        tape_kinds: Deck::new((0..idr::tape_cases().len()).collect()),
     };
-    let mut scenes = Deck::new(SCENES.iter().flat_map(|(scene, times)| vec![*scene; *times]).collect());
+    let scenes = SCENES.iter().filter(|(_, _, of)| part.is_none_or(|part| part == *of));
+    let mut scenes = Deck::new(scenes.flat_map(|(scene, times, _)| vec![*scene; *times]).collect());
     while g.frames.len() < count {
         let scene = scenes.deal(&g.rng);
         g.play(scene);
@@ -94,6 +115,7 @@ impl Generator {
             Scene::Long => self.long(),
             Scene::Night => self.night(),
             Scene::Sheets => self.sheets(),
+            Scene::Tapes => self.tapes(),
         }
     }
 

@@ -3,6 +3,7 @@
 use crate::list;
 use crate::make::{self, put, put_secondary, Rng, RSR_PRIMARY, TELEMETRY_PRIMARY};
 use crate::record::{self, RSR, TELEMETRY};
+use crate::tapes;
 use std::io::{self, Write};
 
 const SEED: u64 = 1;
@@ -13,7 +14,7 @@ pub struct Sample {
     pub last_line: &'static str,
     /// What is to be seen, for samples/README.md.
     pub about: &'static str,
-    make: fn() -> Vec<u8>,
+    pub(crate) make: fn() -> Vec<u8>,
 }
 
 pub const SAMPLES: [Sample; 13] = [
@@ -129,7 +130,7 @@ pub const LISTED: [Sample; 5] = [
 ];
 
 pub fn sample(name: &str) -> Option<Vec<u8>> {
-    SAMPLES.iter().chain(&LISTED).find(|sample| sample.name == name).map(|sample| (sample.make)())
+    SAMPLES.iter().chain(&LISTED).chain(&tapes::TAPES).find(|sample| sample.name == name).map(|sample| (sample.make)())
 }
 
 /// A telemetry record that is all zero but for its number.

@@ -5,6 +5,8 @@ use crate::stream::{self, Cursor, Step, Stop};
 use crate::{keys, ledger};
 use std::io::{self, Write};
 
+mod idr;
+
 pub const HEADER: usize = 40;
 pub const MOST_A: usize = 131_072;
 pub const MOST_B: usize = 66_000;
@@ -104,6 +106,8 @@ impl Calls {
             8 => Some(line_of_stop(&stream::walk(&f.a))),
             9 => number_lists(f),
             11 => Some(line_of_step(Cursor { place: f.key }.step(&f.a))),
+            16 => Some(idr::read(f)),
+            17 => idr::write(f),
             19..=29 => self.ledger_line(f),
             _ => None,
         }
