@@ -1,4 +1,6 @@
 // The calls that `reference bench` times, for its Rust program to link: numbers, and slices as a pointer and a length.
+pub mod tapes;
+
 use headers::Band;
 use headers::Headers;
 use headers::RsrSignal;

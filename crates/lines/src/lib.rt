@@ -1,8 +1,9 @@
-// The lines of a script's calls on records, keys and streams.
+// The lines of a script's calls on records, keys, streams and tapes.
 pub mod crc;
 pub mod line;
 mod lists;
 mod records;
+mod tapes;
 
 use line::Line;
 
@@ -32,6 +33,8 @@ pub fn on_bytes(f: Frame, a: &[u8], b: &[u8]) -> Line {
         8 => records::stopped(stream::walk(a)),
         9 => lists::list_numbers(f, a),
         11 => records::step(a, f.key),
+        16 => tapes::read(a),
+        17 => tapes::write(f, a, b),
         _ => Line::empty(),
     }
 }

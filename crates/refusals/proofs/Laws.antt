@@ -37,6 +37,11 @@ use Rattle.refusals.specs.declared.Refusal.the-variants.{
   NotTicked,
   Stale,
   FirstNumber,
+  TapeLengths,
+  TapeLengthWord,
+  TapeTime,
+  TapeRate,
+  TapeBlock,
 }
 use Rattle.refusals.specs.Table.{numberOf}
 
@@ -46,7 +51,9 @@ back =
     TooShort ∷ TooShort ∷ Authority ∷ LabelControl ∷ UnknownKind ∷ LabelLength ∷ Truncated ∷ AggregationLabel ∷ PrimaryLabel
     ∷ SecondaryLabel ∷ DataType ∷ DataLength ∷ FieldRange ∷ WriterSpace ∷ WriterInput ∷ WrongKind ∷ ListFull ∷ BufferSize
     ∷ TooShort ∷ TooShort ∷ NotSheet ∷ NoDesk ∷ BadKey ∷ AlreadyEnrolled ∷ LedgerFull ∷ NoRow ∷ DeskOpen ∷ DeskClosed ∷ OutsideRow
-    ∷ AlreadyTicked ∷ NotTicked ∷ Stale ∷ FirstNumber ∷ []
+    ∷ AlreadyTicked ∷ NotTicked ∷ Stale ∷ FirstNumber ∷ TooShort ∷ TooShort ∷ TooShort ∷ TooShort ∷ TooShort ∷ TooShort ∷ TooShort
+    ∷ TooShort ∷ TooShort ∷ TooShort ∷ TooShort ∷ TooShort ∷ TooShort ∷ TooShort ∷ TooShort ∷ TooShort ∷ TooShort ∷ TapeLengths
+    ∷ TapeLengthWord ∷ TapeTime ∷ TapeRate ∷ TapeBlock ∷ []
 
 refusalOf : ℕ → Refusal
 refusalOf n = getD back n TooShort
@@ -83,6 +90,11 @@ found AlreadyTicked = refl
 found NotTicked = refl
 found Stale = refl
 found FirstNumber = refl
+found TapeLengths = refl
+found TapeLengthWord = refl
+found TapeTime = refl
+found TapeRate = refl
+found TapeBlock = refl
 
 pub number-injective : (r s : Refusal) → numberOf r ≡ numberOf s → r ≡ s
 number-injective r s e = sym (found r) ∙ ap refusalOf e ∙ found s

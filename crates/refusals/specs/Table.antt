@@ -32,6 +32,11 @@ use Rattle.refusals.specs.declared.Refusal.the-variants.{
   NotTicked,
   Stale,
   FirstNumber,
+  TapeLengths,
+  TapeLengthWord,
+  TapeTime,
+  TapeRate,
+  TapeBlock,
 }
 
 abbrev pub numberOf : Refusal → ℕ
@@ -65,3 +70,8 @@ numberOf AlreadyTicked = 29
 numberOf NotTicked = 30
 numberOf Stale = 31
 numberOf FirstNumber = 32
+numberOf TapeLengths = 50
+numberOf TapeLengthWord = 51
+numberOf TapeTime = 52
+numberOf TapeRate = 53
+numberOf TapeBlock = 54

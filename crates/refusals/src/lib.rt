@@ -37,6 +37,12 @@ pub enum Refusal {
     Stale,
     // Document 02: an enrolment whose first number is none of the stream's.
     FirstNumber,
+    // Medium band tapes (document 02, Req 04).
+    TapeLengths,
+    TapeLengthWord,
+    TapeTime,
+    TapeRate,
+    TapeBlock,
 }
 
 // The number that the table gives a refusal.
@@ -74,5 +80,10 @@ pub fn number(r: Refusal) -> u32
         Refusal::NotTicked => 30,
         Refusal::Stale => 31,
         Refusal::FirstNumber => 32,
+        Refusal::TapeLengths => 50,
+        Refusal::TapeLengthWord => 51,
+        Refusal::TapeTime => 52,
+        Refusal::TapeRate => 53,
+        Refusal::TapeBlock => 54,
     }
 }

@@ -1,15 +1,8 @@
 -- `lines::records::write_one` is safe. Assumes nothing.
-use Prim.Native.Nat.{ℕ, _≤_}
-use mathlib.Core.Path.{sym, subst}
-use lib.ListN.{length, replicate, length-replicate}
-use lib.Seq.{length-take-le}
+use Rattle.lines.proofs.Room.{within, first-length}
 use borrow.Author.Needs.{needs}
 use Rattle.lines.proofs.records.write_one.Statement.{statement}
 use Rattle.lines.proofs.records.write_one.Tie as tie
-
--- By the law and not by `search`, which counts the elements of the array.
-within : (n b z : ℕ) → z ≤ n → z ≤ length (replicate n b)
-within n b z h = subst (λ (k : ℕ). z ≤ k) (sym (length-replicate n b)) h
 
 cast-z : tie.Need-cast-z
 cast-z c = search needs
@@ -24,7 +17,7 @@ array-borrow-prefix-room : tie.Need-array-borrow-prefix-room
 array-borrow-prefix-room c = within _ 165 _ (c .if1 .left)
 
 slice-aggregate-lent : tie.Need-slice-aggregate-lent
-slice-aggregate-lent c = sym (length-take-le _ _ (within _ 165 _ (c .before .if1 .left)))
+slice-aggregate-lent c = first-length _ 165 _ (c .before .if1 .left)
 
 primary-of-requires : tie.Need-primary-of-requires
 primary-of-requires c κs = search needs

@@ -1,0 +1,7 @@
+pub mod Bits
+pub mod Rates
+pub mod Header
+pub mod Given
+pub mod Judging
+pub mod Worked
+pub mod Answers

@@ -1,0 +1,48 @@
+-- `idr::fields::origin_of` meets its contract. Assumes nothing.
+use borrow.Author.Needs.{needs}
+use Rattle.idr.proofs.fields.origin_of.Statement.{statement}
+use Rattle.idr.proofs.fields.origin_of.Tie as tie
+
+field-requires : tie.Need-field-requires
+field-requires c κs = search needs
+
+field-requires-2 : tie.Need-field-requires-2
+field-requires-2 c κs = search needs
+
+field-requires-3 : tie.Need-field-requires-3
+field-requires-3 c κs = search needs
+
+shared-slice-read-t6 : tie.Need-shared-slice-read-t6
+shared-slice-read-t6 c = search needs
+
+field-requires-4 : tie.Need-field-requires-4
+field-requires-4 c κs = search needs
+
+field-requires-5 : tie.Need-field-requires-5
+field-requires-5 c κs = search needs
+
+shared-slice-read-t10 : tie.Need-shared-slice-read-t10
+shared-slice-read-t10 c = search needs
+
+returns : tie.Need-returns
+returns c =
+    rw (
+      c .before .field5 .ensures .0,
+      c .before .before .field4 .ensures .0,
+      c .before .before .before .before .field3 .ensures .0,
+      c .before .before .before .before .before .field2 .ensures .0,
+      c .before .before .before .before .before .before .field .ensures .0,
+    )
+
+pub origin-of-spec : {M : Type 1} → statement M
+origin-of-spec =
+    tie.close
+    (tie.spec
+    field-requires
+    field-requires-2
+    field-requires-3
+    shared-slice-read-t6
+    field-requires-4
+    field-requires-5
+    shared-slice-read-t10
+    returns)

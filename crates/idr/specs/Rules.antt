@@ -1,0 +1,49 @@
+-- Document 02, Req 04: refusals 51 to 54 of header words w, in order. Assumes nothing.
+use Prim.Native.Nat.{ℕ}
+use mathlib.Core.Bool.{Bool, not, _&&_}
+use mathlib.Core.List.{List, [], _∷_}
+use lib.Dec.{eqb, leb}
+use lib.ListN.{length}
+use Rattle.refusals.specs.Judge.{Rule, _when_}
+use Rattle.refusals.specs.Table.{numberOf}
+use Rattle.octets.specs.Octets.{all}
+use Rattle.idr.specs.declared.Outcome.{Outcome}
+use Rattle.idr.specs.declared.Outcome.the-variants.{Accepted, Refused}
+use Rattle.idr.specs.Words.{headerCount, recordWords, wordOf}
+use Rattle.idr.specs.Fields.{tagged, digit, digitCount, day, hour, minute, second, micros, playback, sampling, blockStored}
+
+-- The number of an answer that gives nothing more: 0, or the refusal's.
+abbrev pub outcomeNumber : Outcome → ℕ
+outcomeNumber Accepted = 0
+outcomeNumber (Refused r) = numberOf r
+
+unfoldable pub areDigits : List ℕ → Bool
+areDigits w = all digitCount (λ k. leb (digit w k) 9)
+
+-- "day 1 to 366, hour to 23, minute and second to 59, microseconds to 999,999"
+unfoldable pub isClock : (day hour minute second micros : ℕ) → Bool
+isClock day hour minute second micros =
+    leb 1 day && leb day 366 && leb hour 23 && leb minute 59 && leb second 59 && leb micros 999999
+
+unfoldable pub isTime : List ℕ → Bool
+isTime w = areDigits w && isClock (day w) (hour w) (minute w) (second w) (micros w)
+
+-- Both codes are listed.
+unfoldable pub areRates : List ℕ → Bool
+areRates w = not (eqb (playback w) 0) && not (eqb (sampling w) 0)
+
+-- The stored block size is negative.
+unfoldable pub isBlock : List ℕ → Bool
+isBlock w = leb 8388608 (blockStored w)
+
+abbrev pub wordRules : List ℕ → List (Rule ℕ)
+wordRules w =
+    (51 when not (eqb (wordOf w 3) recordWords))
+    ∷ (52 when (tagged w && not (isTime w)))
+    ∷ (53 when (tagged w && not (areRates w)))
+    ∷ (54 when (tagged w && not (isBlock w)))
+    ∷ []
+
+-- The rules of header words that a caller lends: 50 where they are not 28.
+abbrev pub lentRules : List ℕ → List (Rule ℕ)
+lentRules w = (50 when not (eqb (length w) headerCount)) ∷ wordRules w

@@ -1,0 +1,115 @@
+// The refusals of header words, in order, for the reader and the writer.
+ghost use mathlib.Core.Path.{_≡_};
+ghost use lib.ListN.{length};
+ghost use Rattle.refusals.specs.Judge.{verdict};
+ghost use Rattle.idr.specs.Words.{headerCount};
+ghost use Rattle.idr.specs.Rules.{outcomeNumber, areDigits, isClock, isTime, areRates, isBlock, wordRules, lentRules};
+use crate::Outcome;
+use crate::Time;
+use crate::fields::block_stored;
+use crate::fields::digit_at;
+use crate::fields::is_tagged;
+use crate::fields::playback_rate;
+use crate::fields::sampling_rate;
+use crate::fields::time_of;
+use crate::words::HEADER;
+use crate::words::field;
+use refusals::Refusal;
+
+// The length word, word 3, and what it says.
+const LENGTH_WORD: usize = 2;
+
+const RECORD_WORDS: u16 = 2528;
+
+const TIME_DIGITS: usize = 9;
+
+const LAST_DAY: u16 = 366;
+
+const LAST_HOUR: u16 = 23;
+
+const LAST_MINUTE: u16 = 59;
+
+const LAST_SECOND: u16 = 59;
+
+const LAST_MICRO: u32 = 999999;
+
+// The lowest negative number of 24 bits, as it is stored.
+const LEAST_BLOCK: u32 = 8388608;
+
+// Whether header words make a record: how many they are, and the rules that follow.
+pub fn judge(w: &[u16]) -> Outcome
+    ensures { λ r. ⌜ outcomeNumber r ≡ verdict (lentRules (now (w .entry))) ⌝ }
+{
+    if w.len() != HEADER {
+        return Outcome::Refused(Refusal::TapeLengths);
+    }
+    judge_words(w)
+}
+
+// The rules on as many words as a header has.
+pub fn judge_words(w: &[u16]) -> Outcome
+    requires { ⌜ length (now w) ≡ headerCount ⌝ }
+    ensures { λ r. ⌜ outcomeNumber r ≡ verdict (wordRules (now (w .entry))) ⌝ }
+{
+    if w[LENGTH_WORD] != RECORD_WORDS {
+        return Outcome::Refused(Refusal::TapeLengthWord);
+    }
+    if !is_tagged(w) {
+        return Outcome::Accepted;
+    }
+    if !is_time(w) {
+        return Outcome::Refused(Refusal::TapeTime);
+    }
+    if !are_rates(w) {
+        return Outcome::Refused(Refusal::TapeRate);
+    }
+    if !is_block(w) {
+        return Outcome::Refused(Refusal::TapeBlock);
+    }
+    Outcome::Accepted
+}
+
+fn is_time(w: &[u16]) -> bool
+    requires { ⌜ length (now w) ≡ headerCount ⌝ }
+    ensures { λ r. ⌜ r ≡ isTime (now (w .entry)) ⌝ }
+{
+    are_digits(w) & is_clock(time_of(w))
+}
+
+fn are_digits(w: &[u16]) -> bool
+    requires { ⌜ length (now w) ≡ headerCount ⌝ }
+    ensures { λ r. ⌜ r ≡ areDigits (now (w .entry)) ⌝ }
+{
+    for k in 0..TIME_DIGITS {
+        if 9 < digit_at(w, k) {
+            return false;
+        }
+    }
+    true
+}
+
+fn is_clock(t: Time) -> bool
+    ensures { λ r. ⌜ r ≡ isClock (t .day) (t .hour) (t .minute) (t .second) (t .micros) ⌝ }
+{
+    (1 <= t.day)
+        & (t.day <= LAST_DAY)
+        & (t.hour <= LAST_HOUR)
+        & (t.minute <= LAST_MINUTE)
+        & (t.second <= LAST_SECOND)
+        & (t.micros <= LAST_MICRO)
+}
+
+// Whether both rates are listed.
+fn are_rates(w: &[u16]) -> bool
+    requires { ⌜ length (now w) ≡ headerCount ⌝ }
+    ensures { λ r. ⌜ r ≡ areRates (now (w .entry)) ⌝ }
+{
+    (playback_rate(field(w, 10, 12, 16)) != 0) & (sampling_rate(field(w, 11, 12, 16)) != 0)
+}
+
+fn is_block(w: &[u16]) -> bool
+    requires { ⌜ length (now w) ≡ headerCount ⌝ }
+    ensures { λ r. ⌜ r ≡ isBlock (now (w .entry)) ⌝ }
+{
+    LEAST_BLOCK <= block_stored(w)
+}

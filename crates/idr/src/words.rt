@@ -1,0 +1,53 @@
+// Words and bits of a record, and how long its parts are.
+ghost use mathlib.Core.Path.{_≡_};
+ghost use Prim.Native.Nat.{_+_, _*_, _-_, _^_, _≤_, _<_};
+ghost use lib.ListN.{length};
+ghost use Rattle.idr.specs.Words.{wordBits, headerCount, samplesAt, bits, fieldOf, longOf, header};
+
+pub const WORD: usize = 2;
+
+pub const HEADER: usize = 28;
+
+pub const SAMPLES_AT: usize = HEADER * WORD;
+
+pub const SAMPLES: usize = 5000;
+
+pub const RECORD: usize = SAMPLES_AT + SAMPLES;
+
+const BITS: usize = 16;
+
+// What one in the upper half of a long number counts.
+const UPPER: u32 = 65536;
+
+// Bits `first` to `last` of a word, counted from 1 at the top.
+fn bits_of(x: u16, first: usize, last: usize) -> u16
+    requires { ⌜ (1 ≤ first) × (first ≤ last) × (last ≤ wordBits) ⌝ }
+    ensures { λ r. ⌜ (r ≡ bits x first last) × (r < 2 ^ (last + 1 - first)) ⌝ }
+{
+    let width = last + 1 - first;
+    ((x as u32 >> (BITS - last)) % (1u32 << width)) as u16
+}
+
+// The same of word k.
+pub fn field(w: &[u16], k: usize, first: usize, last: usize) -> u16
+    requires { ⌜ (1 ≤ k) × (k ≤ length (now w)) × (1 ≤ first) × (first ≤ last) × (last ≤ wordBits) ⌝ }
+    ensures { λ r. ⌜ (r ≡ fieldOf (now (w .entry)) k first last) × (r < 2 ^ (last + 1 - first)) ⌝ }
+{
+    bits_of(w[k - 1], first, last)
+}
+
+pub fn long(high: u16, low: u16) -> u32
+    ensures { λ r. ⌜ r ≡ longOf high low ⌝ }
+{
+    high as u32 * UPPER + low as u32
+}
+
+// Fills a list with the header words of a record.
+pub fn fill(s: &[u8], w: &mut [u16])
+    requires { ⌜ (samplesAt ≤ length (now s)) × (length (now w) ≡ headerCount) ⌝ }
+    ensures { λ _. ⌜ now (w .exit) ≡ header (now (s .entry)) ⌝ }
+{
+    for i in 0..HEADER {
+        w[i] = octets::read_u16(s, i * WORD);
+    }
+}

@@ -1,0 +1,86 @@
+-- `idr_list::list_tape` meets its contract. The loop's invariant is `Round`: a run stands at the state, and the place stays low. The
+-- measure is the number of turns that are left. Assumes nothing.
+use borrow.Author.Needs.{needs}
+use lib.Dec.{lit≤}
+use Rattle.idr_listing.specs.Text.{heading}
+use Rattle.idr_list.proofs.Onward.{Round, round-begins, round-going, round-goes, round-ends, round-gives-up}
+use Rattle.idr_list.proofs.list_tape.Statement.{statement}
+use Rattle.idr_list.proofs.list_tape.Tie as tie
+
+abbrev Inv-loop : tie.InvT-loop
+Inv-loop fd name w₀ out₀ end s₀ turns₀ w out s turns = Round w out s turns
+
+abbrev μ-loop : tie.MeasureT-loop
+μ-loop fd name w₀ out₀ end s₀ turns₀ w out s turns = turns
+
+begin-requires : tie.Need-begin-requires Inv-loop μ-loop
+unfolding heading
+begin-requires c κs = search needs
+
+loop-holds : tie.Need-loop-holds Inv-loop μ-loop
+loop-holds c =
+    let began = c .before .before in
+    let start = began .before .before .before .before .before in
+    round-begins _ _ _ _ _ (search needs) (search needs) (began .begin .ensures) (lit≤ tt)
+
+take-turn-requires : tie.Need-take-turn-requires Inv-loop μ-loop
+take-turn-requires c κs =
+    let k = c .before .before .before .loop in
+    round-going (k .w) (k .out) (k .s) (k .turns) (k .inv) (c .before .before .loop-test .taken)
+
+same-length : tie.Need-same-length Inv-loop μ-loop
+same-length c = search needs
+
+same-length-2 : tie.Need-same-length-2 Inv-loop μ-loop
+same-length-2 c = search needs
+
+returns : tie.Need-returns Inv-loop μ-loop
+returns c =
+    let turned = c .before .before .before .before .before .before .before .before in
+    let k = turned .before .before .before .before .loop in
+    round-ends (k .w) (k .out) (k .s) (k .turns) (k .inv) _ _ _ (turned .take-turn .ensures) (c .if1 .taken)
+
+sub-turns : tie.Need-sub-turns Inv-loop μ-loop
+sub-turns c = search needs
+
+loop-less : tie.Need-loop-less Inv-loop μ-loop
+loop-less c = search needs
+
+loop-again : tie.Need-loop-again Inv-loop μ-loop
+loop-again c =
+    let turned = c .before .before .before .before .before .before .before .before in
+    let k = turned .before .before .before .before .loop in
+    let more = turned .before .before .before .loop-test .taken in
+    round-goes (k .w) (k .out) (k .s) (k .turns) (k .inv) _ _ _ more (search needs) (search needs) (turned .take-turn .ensures) (c .if1 .left) _ (search needs)
+
+give-up-requires : tie.Need-give-up-requires Inv-loop μ-loop
+give-up-requires c κs = search needs
+
+same-length-3 : tie.Need-same-length-3 Inv-loop μ-loop
+same-length-3 c = search needs
+
+same-length-4 : tie.Need-same-length-4 Inv-loop μ-loop
+same-length-4 c = search needs
+
+returns-2 : tie.Need-returns-2 Inv-loop μ-loop
+returns-2 c = let k = c .before .before .loop in round-gives-up (k .w) (k .out) (k .s) (k .turns) (k .inv)
+
+pub list-tape-spec : {M : Type 1} → statement M
+list-tape-spec =
+    tie.close
+    (tie.spec
+    Inv-loop
+    μ-loop
+    begin-requires
+    loop-holds
+    take-turn-requires
+    same-length
+    same-length-2
+    returns
+    sub-turns
+    loop-less
+    loop-again
+    give-up-requires
+    same-length-3
+    same-length-4
+    returns-2)

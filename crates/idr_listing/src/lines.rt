@@ -1,0 +1,153 @@
+// The lines of a listing, laid out in a lent slice. Each function puts its text from index `at` on and answers where it ends.
+ghost use mathlib.Core.Path.{_≡_};
+ghost use Prim.Native.Nat.{_+_, _≤_};
+ghost use lib.ListN.{length};
+ghost use Rattle.text.specs.Text.{Puts};
+ghost use Rattle.idr_listing.specs.Text.{heading, originText, clock, timeText, reductionText, untaggedText, why, lastLine, mostWhy, mostOrigin, mostTime, mostReduction, mostLine};
+use idr::Reduction;
+use idr::Time;
+use text::LINE_END;
+use text::SPACE;
+use text::put_text;
+use text::put_word;
+
+// The refusals that a listing can end with, by their numbers; 0 is the end.
+const END: u32 = 0;
+
+const LENGTHS: u32 = 50;
+
+const LENGTH_WORD: u32 = 51;
+
+const TIME: u32 = 52;
+
+const RATE: u32 = 53;
+
+const ZERO: u8 = b'0';
+
+const COLON: u8 = b':';
+
+const POINT: u8 = b'.';
+
+// The first line.
+pub fn begin(out: &mut [u8]) -> usize
+    requires { ⌜ length heading ≤ length (now out) ⌝ }
+    ensures { λ r. ⌜ Puts (now (out .entry)) (now (out .exit)) 0 r heading ⌝ }
+{
+    put_text(
+        out,
+        0,
+        b"place tape record spacecraft station day time playback sampling decimation\n",
+    )
+}
+
+// Where a record stands, and whose it is.
+pub fn put_origin(
+    out: &mut [u8],
+    at: usize,
+    place: u64,
+    tape: u16,
+    number: u16,
+    spacecraft: u16,
+    station: u16,
+) -> usize
+    requires { ⌜ at + mostOrigin ≤ length (now out) ⌝ }
+    ensures { λ r. ⌜ Puts (now (out .entry)) (now (out .exit)) at r (originText place tape number spacecraft station) ⌝ }
+    ensures { λ r. ⌜ r ≤ at + mostOrigin ⌝ }
+{
+    let a = put_word(out, at, place, SPACE);
+    let b = put_word(out, a, tape as u64, SPACE);
+    let c = put_word(out, b, number as u64, SPACE);
+    let d = put_word(out, c, spacecraft as u64, SPACE);
+    put_word(out, d, station as u64, SPACE)
+}
+
+// When it was recorded.
+pub fn put_time(out: &mut [u8], at: usize, t: Time) -> usize
+    requires { ⌜ at + mostTime ≤ length (now out) ⌝ }
+    ensures { λ r. ⌜ Puts (now (out .entry)) (now (out .exit)) at r (timeText (t .day) (t .hour) (t .minute) (t .second) (t .micros)) ⌝ }
+    ensures { λ r. ⌜ r ≤ at + mostTime ⌝ }
+{
+    let a = put_word(out, at, t.day as u64, SPACE);
+    let time = clock_of(t);
+    put_text(out, a, &time)
+}
+
+// How it was reduced.
+pub fn put_reduction(out: &mut [u8], at: usize, d: Reduction) -> usize
+    requires { ⌜ at + mostReduction ≤ length (now out) ⌝ }
+    ensures { λ r. ⌜ Puts (now (out .entry)) (now (out .exit)) at r (reductionText (d .playback) (d .sampling) (d .decimation)) ⌝ }
+    ensures { λ r. ⌜ r ≤ at + mostReduction ⌝ }
+{
+    let a = put_word(out, at, d.playback as u64, SPACE);
+    let b = put_word(out, a, d.sampling as u64, SPACE);
+    put_word(out, b, d.decimation as u64, LINE_END)
+}
+
+fn clock_of(t: Time) -> [u8; 16]
+    ensures { λ r. ⌜ r ≡ clock (t .hour) (t .minute) (t .second) (t .micros) ⌝ }
+{
+    let hour = t.hour as u32;
+    let minute = t.minute as u32;
+    let second = t.second as u32;
+    let micros = t.micros;
+    [
+        ZERO + (hour / 10 % 10) as u8,
+        ZERO + (hour % 10) as u8,
+        COLON,
+        ZERO + (minute / 10 % 10) as u8,
+        ZERO + (minute % 10) as u8,
+        COLON,
+        ZERO + (second / 10 % 10) as u8,
+        ZERO + (second % 10) as u8,
+        POINT,
+        ZERO + (micros / 100000 % 10) as u8,
+        ZERO + (micros / 10000 % 10) as u8,
+        ZERO + (micros / 1000 % 10) as u8,
+        ZERO + (micros / 100 % 10) as u8,
+        ZERO + (micros / 10 % 10) as u8,
+        ZERO + (micros % 10) as u8,
+        SPACE,
+    ]
+}
+
+// Where the time tag is not valid.
+pub fn put_untagged(out: &mut [u8], at: usize) -> usize
+    requires { ⌜ at + length untaggedText ≤ length (now out) ⌝ }
+    ensures { λ r. ⌜ Puts (now (out .entry)) (now (out .exit)) at r untaggedText ⌝ }
+{
+    put_text(out, at, b"- - - - -\n")
+}
+
+// The last line: the stop place, the stop number, and what it means.
+pub fn put_last(out: &mut [u8], at: usize, place: u64, number: u32) -> usize
+    requires { ⌜ at + mostLine ≤ length (now out) ⌝ }
+    ensures { λ r. ⌜ Puts (now (out .entry)) (now (out .exit)) at r (lastLine place number) ⌝ }
+    ensures { λ r. ⌜ r ≤ at + mostLine ⌝ }
+{
+    let a = put_word(out, at, place, SPACE);
+    let b = put_word(out, a, number as u64, SPACE);
+    put_why(out, b, number)
+}
+
+fn put_why(out: &mut [u8], at: usize, number: u32) -> usize
+    requires { ⌜ at + mostWhy ≤ length (now out) ⌝ }
+    ensures { λ r. ⌜ Puts (now (out .entry)) (now (out .exit)) at r (why number) ⌝ }
+    ensures { λ r. ⌜ r ≤ at + mostWhy ⌝ }
+{
+    if number == END {
+        return put_text(out, at, b"end of tape\n");
+    }
+    if number == LENGTHS {
+        return put_text(out, at, b"not a whole record\n");
+    }
+    if number == LENGTH_WORD {
+        return put_text(out, at, b"length word not 2528\n");
+    }
+    if number == TIME {
+        return put_text(out, at, b"not a time\n");
+    }
+    if number == RATE {
+        return put_text(out, at, b"rate not listed\n");
+    }
+    put_text(out, at, b"block size zero or positive\n")
+}

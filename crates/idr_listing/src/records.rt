@@ -1,0 +1,94 @@
+// The line of what stands at a place of a tape.
+ghost use mathlib.Core.Bool.{true};
+ghost use mathlib.Core.Path.{_≡_};
+ghost use Prim.Native.Nat.{_+_, _≤_};
+ghost use lib.ListN.{length};
+ghost use Rattle.refusals.specs.Judge.{verdict};
+ghost use Rattle.refusals.specs.Table.{numberOf};
+ghost use Rattle.text.specs.Text.{Puts};
+ghost use Rattle.idr.specs.Words.{header};
+ghost use Rattle.idr.specs.Read.{accepts, readRules};
+ghost use Rattle.idr_listing.specs.Text.{source, mostOrigin, mostLine};
+ghost use Rattle.idr_listing.specs.Listing.{stopNumber};
+ghost use Rattle.idr_listing.specs.Run.{Lists};
+use crate::Listed;
+use crate::lines::put_last;
+use crate::lines::put_origin;
+use crate::lines::put_reduction;
+use crate::lines::put_time;
+use crate::lines::put_untagged;
+use idr::HEADER;
+use idr::Read;
+use refusals::Refusal;
+
+// Words 1, 2 and 4.
+const TAPE_WORD: usize = 0;
+
+const NUMBER_WORD: usize = 1;
+
+const SOURCE_WORD: usize = 3;
+
+const BYTE: u16 = 256;
+
+// Lays out the line of `r`, a record or what the end of the tape left of one, whose first byte stands at `place`.
+pub fn list_record(r: &[u8], place: u64, out: &mut [u8], at: usize) -> Listed
+    requires { ⌜ at + mostLine ≤ length (now out) ⌝ }
+    ensures { λ l. ⌜ Lists (now (r .entry)) place (now (out .entry)) (now (out .exit)) at l ⌝ }
+    ensures { λ l. ⌜ l .end ≤ at + mostLine ⌝ }
+{
+    let read = idr::read_record(r);
+    match read {
+        Read::Tagged {
+            origin: _,
+            time,
+            recorder: _,
+            reduction,
+            status: _,
+            count: _,
+        } => {
+            let a = put_source(out, at, place, r);
+            let b = put_time(out, a, time);
+            let end = put_reduction(out, b, reduction);
+            return Listed { end, done: false };
+        }
+        Read::Untagged => {
+            let a = put_source(out, at, place, r);
+            let end = put_untagged(out, a);
+            return Listed { end, done: false };
+        }
+        Read::Refused(why) => {
+            let end = put_last(out, at, place, stop_number(r, why));
+            return Listed { end, done: true };
+        }
+    }
+}
+
+// What the header words of a record always say.
+fn put_source(out: &mut [u8], at: usize, place: u64, r: &[u8]) -> usize
+    requires { ⌜ (at + mostOrigin ≤ length (now out)) × (accepts (now r) ≡ true) ⌝ }
+    ensures { λ e. ⌜ Puts (now (out .entry)) (now (out .exit)) at e (source place (header (now (r .entry)))) ⌝ }
+    ensures { λ e. ⌜ e ≤ at + mostOrigin ⌝ }
+{
+    let mut w = [0u16; HEADER];
+    idr::read_words(r, &mut w);
+    put_origin(
+        out,
+        at,
+        place,
+        w[TAPE_WORD] % BYTE,
+        w[NUMBER_WORD],
+        w[SOURCE_WORD] / BYTE,
+        w[SOURCE_WORD] % BYTE,
+    )
+}
+
+// 0 where nothing is left of the tape.
+fn stop_number(r: &[u8], why: Refusal) -> u32
+    requires { ⌜ numberOf why ≡ verdict (readRules (now r)) ⌝ }
+    ensures { λ n. ⌜ n ≡ stopNumber (now (r .entry)) ⌝ }
+{
+    if r.len() == 0 {
+        return 0;
+    }
+    refusals::number(why)
+}
