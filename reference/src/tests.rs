@@ -516,6 +516,44 @@ fn walks_and_lists() {
     assert_eq!(stream::table(&[], &mut []), stop(0, 0, 0, 0));
 }
 
+/// Request 12: an entry for each 120 bytes of the stream, or for each 260 where all is RSR, is enough; one less is not.
+#[test]
+fn how_long_a_list_must_be() {
+    let rng = Rng::new(12);
+    let shortest = |kind| {
+        by_hand(
+            kind,
+            if kind == TELEMETRY { 100 } else { 240 },
+            &vec![0; if kind == TELEMETRY { 80 } else { 220 }],
+            &[],
+        )
+    };
+    let mut streams: Vec<Vec<u8>> = random::script(12, 4_000).into_iter().map(|frame| frame.a).collect();
+    for kind in [TELEMETRY, RSR] {
+        let length = shortest(kind).len();
+        for _ in 0..100 {
+            let mut stream = shortest(kind).repeat(rng.index(20));
+            stream.extend(rng.bytes(rng.index(length)));
+            streams.push(stream);
+        }
+    }
+    let mut full = 0;
+    for s in streams {
+        let mut entries = vec![Entry::default(); s.len() / 120];
+        let stop = stream::table(&s, &mut entries);
+        assert!(stop.number != 16 && stop == stream::walk(&s) && stop.count as usize <= s.len() / 120);
+        let found = &entries[..stop.count as usize];
+        let least = if found.iter().all(|entry| entry.kind == RSR) { 260 } else { 120 };
+        assert!(found.len() <= s.len() / least);
+        assert_eq!(stream::table(&s, &mut vec![Entry::default(); s.len() / least]), stop);
+        if !found.is_empty() && found.len() == s.len() / least {
+            assert_eq!(stream::table(&s, &mut vec![Entry::default(); s.len() / least - 1]).number, 16);
+            full += 1;
+        }
+    }
+    assert!(full > 150);
+}
+
 /// The book's call that a frame makes, if it is one.
 fn call_of(f: &Frame) -> Option<Call> {
     match f.op {
