@@ -211,8 +211,9 @@ pub fn run() {
     for (name, s) in [
         ("is it a sheet: fresh", &fresh_sheet()),
         ("is it a sheet: one row, one desk open", &one_row_sheet()),
-        ("is it a sheet: 16 rows", &nights::sheet_with(&Rng::new(1), 16, 0)),
-        ("is it a sheet: 32 rows", &nights::sheet_with(&Rng::new(1), 32, 0)),
+        ("is it a sheet: 16 rows", &nights::sheet_with(&Rng::new(1), 16, 0, 0)),
+        ("is it a sheet: 16 rows, 16 struck", &nights::sheet_with(&Rng::new(1), 16, 16, 0)),
+        ("is it a sheet: 32 rows", &nights::sheet_with(&Rng::new(1), 32, 0, 0)),
         ("is it a sheet: 32 rows, 8 desks open", &full),
     ] {
         compare(name, 1.0, &each, |i| (i.is_sheet)(black_box(s)));

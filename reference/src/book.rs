@@ -1,5 +1,5 @@
 //! The plain book, for tests: a second, still plainer ledger, to which the sheet's calls are held.
-//! Document 01: 'The plain book', and the sheet's layout.
+//! Document 01: 'The plain book', with requests 03 and 10; and both sheets' layouts.
 
 use crate::keys;
 use std::collections::BTreeSet;
@@ -34,6 +34,7 @@ pub enum Call {
     Untick(u32, u32),
     Save(u32),
     Drop(u32),
+    Strike(u32),
 }
 
 impl Place {
@@ -79,10 +80,18 @@ impl Book {
                 self.desks[desk as usize] = None;
                 Ok(0)
             }
+            Call::Strike(row) => self.strike(row),
         }
     }
 
     fn enrol(&mut self, key: u64, first: u32) -> Result<usize, u32> {
+        self.judge_stream(key, first)?;
+        let row = self.places.iter().position(Option::is_none).ok_or(24u32)?;
+        self.places[row] = Some(Place { key, first, set: Set::new() });
+        Ok(row)
+    }
+
+    fn judge_stream(&self, key: u64, first: u32) -> Result<(), u32> {
         if !keys::valid(key) {
             return Err(22);
         }
@@ -92,9 +101,16 @@ impl Book {
         if self.places.iter().flatten().any(|place| place.key == key) {
             return Err(23);
         }
-        let row = self.places.iter().position(Option::is_none).ok_or(24u32)?;
-        self.places[row] = Some(Place { key, first, set: Set::new() });
-        Ok(row)
+        Ok(())
+    }
+
+    fn strike(&mut self, row: u32) -> Result<usize, u32> {
+        let place = self.places.get_mut(row as usize).filter(|place| place.is_some()).ok_or(25u32)?;
+        if self.desks.iter().flatten().any(|desk| desk.place == row as usize) {
+            return Err(36);
+        }
+        *place = None;
+        Ok(0)
     }
 
     fn open(&mut self, desk: u32, row: u32) -> Result<usize, u32> {
@@ -145,16 +161,28 @@ impl Book {
         (0..32).find_map(|row| self.report(row).ok()?.2.map(|number| (number, row as usize)))
     }
 
+    pub fn find(&self, key: u64) -> Result<usize, u32> {
+        if !keys::valid(key) {
+            return Err(22);
+        }
+        self.places.iter().position(|place| place.as_ref().is_some_and(|place| place.key == key)).ok_or(25)
+    }
+
     pub fn laid_out(&self) -> Vec<u8> {
+        self.laid_out_as(&NEW)
+    }
+
+    /// Request 10's sheet, or document 01's.
+    pub fn laid_out_as(&self, layout: &Layout) -> Vec<u8> {
         let mut s = Vec::new();
         let used = self.places.iter().flatten().count() as u32;
-        for number in [6_776, used, 32, 24, 8, 4_504] {
+        for number in [layout.sheet as u32, used, 32, 24, 8, layout.desks as u32] {
             s.extend(number.to_be_bytes());
         }
         for place in &self.places {
             match place {
-                Some(place) => s.extend(row(place, &place.set)),
-                None => s.extend([0; 140]),
+                Some(place) => s.extend(row(layout, place, &place.set)),
+                None => s.resize(s.len() + layout.row, 0),
             }
         }
         for desk in &self.desks {
@@ -162,54 +190,76 @@ impl Book {
                 Some(desk) => {
                     let place = self.places[desk.place].as_ref().expect("open desks name used rows");
                     s.extend([1, desk.place as u8, 0, 0]);
-                    s.extend(row(place, &desk.opened));
-                    s.extend(row(place, &desk.worked));
+                    s.extend(row(layout, place, &desk.opened));
+                    s.extend(row(layout, place, &desk.worked));
                 }
-                None => s.extend([0; 284]),
+                None => s.resize(s.len() + 4 + 2 * layout.row, 0),
             }
         }
         s
     }
 
-    /// The book that a sheet of the right length says; a right sheet is this book laid out again.
-    pub fn said_by(s: &[u8]) -> Option<Book> {
+    /// The book that a sheet says, if it is one: it is right exactly when it is this book laid out.
+    pub fn of_sheet(s: &[u8]) -> Option<Book> {
+        Book::of_sheet_as(&NEW, s)
+    }
+
+    pub fn of_sheet_as(layout: &Layout, s: &[u8]) -> Option<Book> {
+        if s.len() != layout.sheet {
+            return None;
+        }
+        let number = |at: usize| u32::from_be_bytes(s[at..at + 4].try_into().unwrap());
         let mut book = Book::new();
-        let used = u32::from_be_bytes(s[4..8].try_into().unwrap()) as usize;
-        for row in 0..used.min(33) {
-            let bytes = &s[24 + 140 * row..][..140];
+        for r in 0..32 {
+            let at = 24 + layout.row * r;
+            let used = if layout.word == 4 { number(at) == 1 } else { (r as u32) < number(4) };
+            if !used {
+                continue;
+            }
+            let bytes = &s[at + layout.word..at + layout.row];
             let key = u64::from_be_bytes(bytes[..8].try_into().unwrap());
             let first = u32::from_be_bytes(bytes[8..12].try_into().unwrap());
-            if book.enrol(key, first) != Ok(row) {
-                return None;
-            }
-            book.places[row].as_mut()?.set = set(&bytes[12..]);
+            book.judge_stream(key, first).ok()?;
+            book.places[r] = Some(Place { key, first, set: set(&bytes[12..]) });
         }
-        for desk in 0..8 {
-            let bytes = &s[4_504 + 284 * desk..][..284];
+        for d in 0..8 {
+            let bytes = &s[layout.desks + (4 + 2 * layout.row) * d..][..4 + 2 * layout.row];
             if bytes[0] == 1 {
-                book.open(desk as u32, bytes[1] as u32).ok()?;
-                let desk = book.desks[desk].as_mut()?;
-                desk.opened = set(&bytes[16..144]);
-                desk.worked = set(&bytes[156..284]);
+                book.open(d as u32, bytes[1] as u32).ok()?;
+                let desk = book.desks[d].as_mut()?;
+                desk.opened = set(&bytes[4 + layout.word + 12..4 + layout.row]);
+                desk.worked = set(&bytes[4 + layout.row + layout.word + 12..]);
             }
         }
-        Some(book)
+        Some(book).filter(|book| book.laid_out_as(layout) == s)
     }
 }
+
+/// The lengths of a sheet, a row and a row's used word, and where the desks start.
+pub struct Layout {
+    pub sheet: usize,
+    pub row: usize,
+    pub word: usize,
+    pub desks: usize,
+}
+
+pub const NEW: Layout = Layout { sheet: 6_968, row: 144, word: 4, desks: 4_632 };
+pub const OLD: Layout = Layout { sheet: 6_776, row: 140, word: 0, desks: 4_504 };
 
 fn missing(set: &Set) -> Vec<u32> {
     let highest = set.last().copied().unwrap_or(0);
     (0..highest).filter(|position| !set.contains(position)).collect()
 }
 
-fn row(place: &Place, set: &Set) -> Vec<u8> {
+fn row(layout: &Layout, place: &Place, set: &Set) -> Vec<u8> {
     let mut ticks = [0; 128];
     for position in set {
         ticks[*position as usize / 8] += 1 << (position % 8);
     }
-    [&place.key.to_be_bytes()[..], &place.first.to_be_bytes(), &ticks].concat()
+    [&[0, 0, 0, 1][4 - layout.word..], &place.key.to_be_bytes(), &place.first.to_be_bytes(), &ticks].concat()
 }
 
 fn set(ticks: &[u8]) -> Set {
-    (0..1_024).filter(|position| ticks[*position as usize / 8] & 1 << (position % 8) != 0).collect()
+    let positions = (0..128).filter(|i| ticks[*i] != 0).flat_map(|i| (0..8).map(move |bit| (i, bit)));
+    positions.filter(|(i, bit)| ticks[*i] & 1 << bit != 0).map(|(i, bit)| 8 * i as u32 + bit).collect()
 }

@@ -11,6 +11,7 @@ const REFUSALS: &[RangeInclusive<u32>] = &[
     1..=16,
     // The ledger.
     20..=32,
+    36..=36,
     // Medium band records.
     50..=54,
 ];

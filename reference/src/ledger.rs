@@ -1,26 +1,31 @@
 //! The ledger sheet. Document 01: 'The ledger sheet'; request 02: ticks are counted by words; request 03: RSR numbers
-//! have 16 bits. In each call the sheet is judged first (20), then the refusals stand in the table's order.
+//! have 16 bits; request 10: rows are struck and used again. In each call the sheet is judged first (20), then the
+//! refusals stand in the table's order.
 
 use crate::keys;
 use crate::record::number;
 
-pub const SHEET: usize = 6_776;
+pub const SHEET: usize = 6_968;
 pub const ROW_PLACES: usize = 32;
 pub const ROWS: usize = 24;
-pub const ROW: usize = 140;
+pub const ROW: usize = 144;
 pub const DESK_PLACES: usize = 8;
-pub const DESKS: usize = 4_504;
-pub const DESK: usize = 284;
+pub const DESKS: usize = 4_632;
+pub const DESK: usize = 292;
 pub const POSITIONS: u32 = 1_024;
 const TICK_WORDS: usize = 16;
 
-// Offsets in the header, a row and a desk.
-pub const USED: usize = 4;
-pub const FIRST: usize = 8;
-pub const TICKS: usize = 12;
+// Offsets in the header, a row and a desk. A row starts with its used word, a desk with 1 where it is open.
+pub const ROWS_USED: usize = 4;
+pub const KEY: usize = 4;
+pub const FIRST: usize = 12;
+pub const TICKS: usize = 16;
 pub const ROW_NAMED: usize = 1;
 pub const OPENED: usize = 4;
-pub const WORKED: usize = 144;
+pub const WORKED: usize = 148;
+
+const FREE: u64 = 0;
+const USED: u64 = 1;
 
 pub fn row_place(row: usize) -> usize {
     ROWS + row * ROW
@@ -30,20 +35,32 @@ pub fn desk_place(desk: usize) -> usize {
     DESKS + desk * DESK
 }
 
-pub fn row(s: &[u8], row: usize) -> &[u8] {
-    &s[row_place(row)..][..ROW]
+pub fn row(s: &[u8], row: usize) -> &[u8; ROW] {
+    s[row_place(row)..][..ROW].try_into().expect("a row's bytes")
 }
 
-pub fn desk(s: &[u8], desk: usize) -> &[u8] {
-    &s[desk_place(desk)..][..DESK]
+pub fn desk(s: &[u8], desk: usize) -> &[u8; DESK] {
+    s[desk_place(desk)..][..DESK].try_into().expect("a desk's bytes")
 }
 
 pub fn rows_used(s: &[u8]) -> usize {
-    number(s, USED, 4) as usize
+    number(s, ROWS_USED, 4) as usize
+}
+
+fn used_word(row: &[u8]) -> u64 {
+    number(row, 0, 4)
+}
+
+pub fn is_used(s: &[u8], r: usize) -> bool {
+    used_word(row(s, r)) == USED
+}
+
+pub fn used_rows(s: &[u8]) -> impl Iterator<Item = usize> + '_ {
+    (0..ROW_PLACES).filter(|r| is_used(s, *r))
 }
 
 pub fn key(row: &[u8]) -> u64 {
-    number(row, 0, 8)
+    number(row, KEY, 8)
 }
 
 pub fn first(row: &[u8]) -> u32 {
@@ -54,8 +71,10 @@ fn ticks(row: &[u8]) -> &[u8] {
     &row[TICKS..ROW]
 }
 
-fn all_zero(s: &[u8]) -> bool {
-    s.iter().fold(0, |all, byte| all | byte) == 0
+/// By words of four bytes, of which rows and desks are made.
+fn all_zero<const LENGTH: usize>(s: &[u8; LENGTH]) -> bool {
+    let (words, _) = s.as_chunks::<4>();
+    words.iter().fold(0, |all, word| all | u32::from_ne_bytes(*word)) == 0
 }
 
 fn write_header(s: &mut [u8], used: usize) {
@@ -65,41 +84,51 @@ fn write_header(s: &mut [u8], used: usize) {
     }
 }
 
-/// 'A sheet is right when'.
+/// Request 10's sheet, right as document 01 says: 'A sheet is right when'.
 pub fn is_sheet(s: &[u8]) -> bool {
     s.len() == SHEET && header_right(s) && rows_right(s) && (0..DESK_PLACES).all(|d| desk_right(s, d))
 }
 
+/// But for the count of used rows, which is the rows' matter.
 fn header_right(s: &[u8]) -> bool {
     let header = |i: usize| number(s, 4 * i, 4) as usize;
-    header(0) == SHEET
-        && header(1) <= ROW_PLACES
-        && header(2) == ROW_PLACES
-        && header(3) == ROWS
-        && header(4) == DESK_PLACES
-        && header(5) == DESKS
+    header(0) == SHEET && header(2) == ROW_PLACES && header(3) == ROWS && header(4) == DESK_PLACES && header(5) == DESKS
 }
 
-/// Used rows come first, with valid, different keys and first numbers of their streams; unused rows are all zero.
+/// Free rows are all zero; used ones, as many as the header counts, have valid, different keys and first numbers of
+/// their streams.
 fn rows_right(s: &[u8]) -> bool {
-    let used = rows_used(s);
-    let new_key = |r| (0..r).all(|earlier| key(row(s, earlier)) != key(row(s, r)));
-    let right = |r| {
+    let mut keys = [0; ROW_PLACES];
+    let mut used = 0;
+    for r in 0..ROW_PLACES {
         let row = row(s, r);
-        keys::valid(key(row)) && keys::is_number(key(row), first(row)) && new_key(r)
-    };
-    (0..used).all(right) && all_zero(&s[row_place(used)..DESKS])
+        match used_word(row) {
+            FREE if all_zero(row) => {}
+            USED if keys::valid(key(row)) && keys::is_number(key(row), first(row)) => {
+                keys[used] = key(row);
+                used += 1;
+            }
+            _ => return false,
+        }
+    }
+    used == rows_used(s) && all_different(&mut keys[..used])
 }
 
-/// Closed and all zero, or open with a used row, two zeros, and copies that carry its key and first number.
+fn all_different(keys: &mut [u64]) -> bool {
+    keys.sort_unstable();
+    keys.windows(2).all(|pair| pair[0] != pair[1])
+}
+
+/// Closed and all zero, or open with a used row, two zeros, and copies that carry its word, key and first number.
 fn desk_right(s: &[u8], d: usize) -> bool {
     let desk = desk(s, d);
     let named = desk[ROW_NAMED] as usize;
     match desk[0] {
         0 => all_zero(desk),
         1 => {
-            all_zero(&desk[2..4])
-                && named < rows_used(s)
+            desk[2..OPENED] == [0, 0]
+                && named < ROW_PLACES
+                && is_used(s, named)
                 && desk[OPENED..][..TICKS] == row(s, named)[..TICKS]
                 && desk[WORKED..][..TICKS] == row(s, named)[..TICKS]
         }
@@ -126,8 +155,9 @@ fn judge_desk(desk: u32) -> Result<usize, u32> {
 
 /// The row, if it is a used one (25).
 fn judge_row(s: &[u8], row: u32) -> Result<usize, u32> {
-    if (row as usize) < rows_used(s) {
-        Ok(row as usize)
+    let row = row as usize;
+    if row < ROW_PLACES && is_used(s, row) {
+        Ok(row)
     } else {
         Err(25)
     }
@@ -145,7 +175,7 @@ fn judge_open_desk(s: &[u8], d: u32) -> Result<usize, u32> {
 }
 
 fn row_with(s: &[u8], wanted: u64) -> Option<usize> {
-    (0..rows_used(s)).find(|r| key(row(s, *r)) == wanted)
+    used_rows(s).find(|r| key(row(s, *r)) == wanted)
 }
 
 fn clear_desk(s: &mut [u8], desk: usize) {
@@ -173,16 +203,28 @@ pub fn enrol(s: &mut [u8], key: u64, first: u32) -> Result<usize, u32> {
     if row_with(s, key).is_some() {
         return Err(23);
     }
-    let row = rows_used(s);
-    if row == ROW_PLACES {
+    let Some(free) = (0..ROW_PLACES).find(|r| !is_used(s, *r)) else {
         return Err(24);
+    };
+    let row = &mut s[row_place(free)..][..ROW];
+    row[..KEY].copy_from_slice(&(USED as u32).to_be_bytes());
+    row[KEY..FIRST].copy_from_slice(&key.to_be_bytes());
+    row[FIRST..TICKS].copy_from_slice(&first.to_be_bytes());
+    row[TICKS..].copy_from_slice(&[0; 128]);
+    write_header(s, rows_used(s) + 1);
+    Ok(free)
+}
+
+/// Gives a row back: it is free again, and enrolments can use it.
+pub fn strike(s: &mut [u8], r: u32) -> Result<(), u32> {
+    judge_sheet(s)?;
+    let r = judge_row(s, r)?;
+    if (0..DESK_PLACES).any(|d| desk(s, d)[0] == 1 && desk(s, d)[ROW_NAMED] as usize == r) {
+        return Err(36);
     }
-    let place = row_place(row);
-    s[place..place + FIRST].copy_from_slice(&key.to_be_bytes());
-    s[place + FIRST..place + TICKS].copy_from_slice(&first.to_be_bytes());
-    s[place + TICKS..place + ROW].copy_from_slice(&[0; 128]);
-    write_header(s, row + 1);
-    Ok(row)
+    s[row_place(r)..][..ROW].fill(0);
+    write_header(s, rows_used(s) - 1);
+    Ok(())
 }
 
 pub fn find(s: &[u8], key: u64) -> Result<usize, u32> {
@@ -326,5 +368,5 @@ fn lowest_missing_number(row: &[u8]) -> Option<u32> {
 pub fn first_gap(s: &[u8]) -> Result<Option<(u32, usize)>, u32> {
     judge_sheet(s)?;
     let gap = |r| lowest_missing_number(row(s, r)).map(|number| (number, r));
-    Ok((0..rows_used(s)).find_map(gap))
+    Ok(used_rows(s).find_map(gap))
 }

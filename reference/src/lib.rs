@@ -2,6 +2,7 @@
 //! its benchmarks. See README.md.
 
 // The calls, each module a section of document 01 or a request of document 02; and the programs' listings.
+pub mod convert;
 pub mod idr;
 pub mod keys;
 pub mod ledger;

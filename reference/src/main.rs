@@ -48,8 +48,13 @@ fn command(args: &[OsString], out: &mut impl Write) -> io::Result<bool> {
             random_script(seed, count, Some(part), out)?
         }
         ["sample"] => {
-            for sample in sample::SAMPLES.iter().chain(&tapes::TAPES) {
-                writeln!(out, "{}: {} ({})", sample.name, sample.about, sample.last_line)?;
+            for sample in sample::SAMPLES.iter().chain(&tapes::TAPES).chain(&sample::SHEETS) {
+                write!(out, "{}: {}", sample.name, sample.about)?;
+                writeln!(
+                    out,
+                    "{}",
+                    if sample.last_line.is_empty() { String::new() } else { format!(" ({})", sample.last_line) }
+                )?;
             }
         }
         ["sample", name] => match sample::sample(name) {

@@ -1,7 +1,7 @@
 //! The ledger's part of random scripts: nights of calls by eight desks, and sheets right and damaged.
 
 use crate::keys::{FIRST_RSR, PAST_RSR};
-use crate::ledger::{self, DESK_PLACES, FIRST, OPENED, POSITIONS, ROW, ROW_PLACES, SHEET, TICKS, WORKED};
+use crate::ledger::{self, DESK, DESK_PLACES, FIRST, KEY, OPENED, POSITIONS, ROW, ROW_PLACES, SHEET, TICKS, WORKED};
 use crate::make::{put, Rng};
 use crate::random::Generator;
 use crate::script::{Frame, MOST_SHEET};
@@ -21,20 +21,23 @@ const BAD_DESKS: [u32; 6] = [8, 9, 255, 256, 264, u32::MAX];
 pub enum NightCase {
     /// A few rows that many desks want: most saves meet another's.
     Crowded,
-    /// Every row, and one enrolment more.
+    /// Every row, and one enrolment more; rows struck and used again.
     Full,
+    /// Rows come and go.
+    Strikes,
     /// From a right sheet with ticks everywhere and desks in the middle of their work.
     Underway,
     /// Calls of any kind with little regard to the sheet.
     Careless,
 }
 
-pub const NIGHT_CASES: [NightCase; 8] = [
+pub const NIGHT_CASES: [NightCase; 9] = [
     NightCase::Crowded,
     NightCase::Crowded,
     NightCase::Crowded,
     NightCase::Crowded,
     NightCase::Full,
+    NightCase::Strikes,
     NightCase::Underway,
     NightCase::Underway,
     NightCase::Careless,
@@ -71,7 +74,23 @@ impl Generator {
                 self.emit(Frame { op: 20, ..Frame::default() });
                 self.enrol_rows(ROW_PLACES);
                 self.enrol_rows(1);
-                self.work(20);
+                self.work(12);
+                for _ in 0..self.rng.between(1, 3) {
+                    self.call(30);
+                }
+                self.enrol_rows(self.rng.between(1, 4));
+                self.work(8);
+            }
+            NightCase::Strikes => {
+                self.emit(Frame { op: 20, ..Frame::default() });
+                self.enrol_rows(self.rng.between(2, 5));
+                self.struck_while_open();
+                self.work(self.rng.between(20, 40));
+                for _ in 0..self.rng.between(2, 5) {
+                    self.call(30);
+                    self.enrol_rows(self.rng.between(0, 2));
+                    self.work(4);
+                }
             }
             NightCase::Underway => {
                 self.emit(Frame { op: 19, a: right_sheet(&self.rng), ..Frame::default() });
@@ -79,7 +98,7 @@ impl Generator {
             }
             NightCase::Careless => {
                 for _ in 0..self.rng.between(10, 30) {
-                    let op = self.rng.between(20, 29) as u32;
+                    let op = self.rng.between(20, 30) as u32;
                     self.call(op);
                 }
             }
@@ -89,7 +108,7 @@ impl Generator {
     /// A sheet right or damaged, and calls on it.
     pub fn sheets(&mut self) {
         let case = self.sheets.deal(&self.rng);
-        self.emit(Frame { op: 19, a: sheet_case(&self.rng, case), ..Frame::default() });
+        self.emit(Frame { op: 19, a: sheet_case(&self.rng, case, true), ..Frame::default() });
         for _ in 0..self.rng.between(2, 4) {
             let op = self.sheet_ops.deal(&self.rng);
             self.call(op);
@@ -134,10 +153,24 @@ impl Generator {
         }
     }
 
+    /// A row is not struck while a desk has it open; then it is no row, and enrolled again it has no ticks.
+    fn struck_while_open(&mut self) {
+        let x = self.rng.below(DESK_PLACES as u64) as u32;
+        let row = self.row();
+        for (op, x, y) in [(23, x, row), (30, row, 0), (24, x, self.number(x)), (26, x, 0), (30, row, 0), (23, x, row)]
+        {
+            self.emit(Frame { op, x, y, ..Frame::default() });
+        }
+        self.enrol_rows(1);
+        for op in [28, 30] {
+            self.emit(Frame { op, x: row, ..Frame::default() });
+        }
+    }
+
     /// An RSR stream, new or not, with a number that it cannot have.
     fn enrol_too_wide(&mut self) {
         let view = self.view();
-        let keys = (0..ledger::rows_used(&view)).map(|row| ledger::key(ledger::row(&view, row)));
+        let keys = ledger::used_rows(&view).map(|row| ledger::key(ledger::row(&view, row)));
         let mut keys: Vec<u64> = keys.filter(|key| *key >= FIRST_RSR).collect();
         keys.push(FIRST_RSR + self.rng.below(PAST_RSR - FIRST_RSR));
         self.emit(Frame { op: 21, key: self.rng.pick(&keys), x: self.rng.pick(&BAD_RSR_FIRSTS), ..Frame::default() });
@@ -155,6 +188,7 @@ impl Generator {
                 19..=38 => 28,
                 39..=44 => 29,
                 45..=60 => self.rng.between(23, 27) as u32,
+                61..=68 => 30,
                 _ => 0,
             };
             if op == 0 {
@@ -184,7 +218,7 @@ impl Generator {
     }
 
     /// A call of this op, with arguments good and bad.
-    fn call(&mut self, op: u32) {
+    pub fn call(&mut self, op: u32) {
         let frame = match op {
             21 => {
                 let key = self.enrolment_key();
@@ -197,7 +231,7 @@ impl Generator {
                 Frame { op, x, y: self.number(x), ..Frame::default() }
             }
             26 | 27 => Frame { op, x: self.desk(), ..Frame::default() },
-            28 => Frame { op, x: self.row(), ..Frame::default() },
+            28 | 30 => Frame { op, x: self.row(), ..Frame::default() },
             _ => Frame { op, ..Frame::default() },
         };
         self.emit(frame);
@@ -216,9 +250,9 @@ impl Generator {
     /// A key: new, one that is there, or a bad one.
     fn enrolment_key(&self) -> u64 {
         let view = self.view();
-        let used = ledger::rows_used(&view);
+        let used: Vec<usize> = ledger::used_rows(&view).collect();
         match self.rng.below(10) {
-            0..=3 if used > 0 => ledger::key(ledger::row(&view, self.rng.index(used))),
+            0..=3 if !used.is_empty() => ledger::key(ledger::row(&view, self.rng.pick(&used))),
             4..=5 => self.rng.pick(&BAD_KEYS),
             _ => new_key(&self.rng),
         }
@@ -244,11 +278,13 @@ impl Generator {
 
     /// A row, mostly a used one.
     fn row(&self) -> u32 {
-        let used = ledger::rows_used(&self.view()) as u32;
-        if used == 0 || self.rng.percent(6) {
-            return self.rng.pick(&[0, used, used + 1, 31, 32, 255, 256, 256 + used, u32::MAX]);
+        let view = self.view();
+        let used: Vec<u32> = ledger::used_rows(&view).map(|row| row as u32).collect();
+        if used.is_empty() || self.rng.percent(6) {
+            let one = used.last().copied().unwrap_or(0);
+            return self.rng.pick(&[0, one + 1, 31, 32, 255, 256, 256 + one, u32::MAX, self.rng.below(32) as u32]);
         }
-        self.rng.below(used as u64) as u32
+        self.rng.pick(&used)
     }
 
     /// A number for the desk's row: few different ones, so that many are already ticked; also the row's edges.
@@ -313,32 +349,45 @@ fn any_first_number(rng: &Rng, key: u64) -> u32 {
 
 // Sheets.
 
-/// Any right sheet: rows with ticks of every sort, and desks closed or in the middle of their work.
+/// Any right sheet: rows with ticks of every sort, free ones between them, and desks closed or in the middle of their work.
 fn right_sheet(rng: &Rng) -> Vec<u8> {
     let used = rng.pick(&[0, 1, 2, 3, 5, 31, 32, 32]);
+    let struck = rng.pick(&[0, 0, 1, 4]);
     let open = rng.pick(&[0, 20, 60, 100]);
-    sheet_with(rng, used, open)
+    sheet_with(rng, used, struck, open)
+}
+
+/// The same with the used rows before all free ones.
+pub fn used_first_sheet(rng: &Rng) -> Vec<u8> {
+    let used = rng.pick(&[0, 1, 2, 3, 5, 31, 32]);
+    let open = rng.pick(&[0, 20, 60, 100]);
+    sheet_with(rng, used, 0, open)
 }
 
 /// A right sheet with every row used and every desk open.
 pub fn full_sheet(rng: &Rng) -> Vec<u8> {
-    sheet_with(rng, ROW_PLACES, 100)
+    sheet_with(rng, ROW_PLACES, 0, 100)
 }
 
-pub fn sheet_with(rng: &Rng, used: usize, open_percent: u64) -> Vec<u8> {
+/// As many rows used, where there are as many places; and so many, enrolled among them, struck.
+pub fn sheet_with(rng: &Rng, used: usize, struck: usize, open_percent: u64) -> Vec<u8> {
     let mut s = vec![0; SHEET];
     ledger::fresh(&mut s).expect("the length is right");
-    while ledger::rows_used(&s) < used {
+    while ledger::rows_used(&s) < (used + struck).min(ROW_PLACES) {
         let key = new_key(rng);
         if let Ok(row) = ledger::enrol(&mut s, key, first_number(rng, key)) {
             let ticks = ticks(rng);
             s[ledger::row_place(row) + TICKS..][..ROW - TICKS].copy_from_slice(&ticks);
         }
     }
+    for _ in 0..struck {
+        let row = rng.pick(&used_rows(&s)) as u32;
+        ledger::strike(&mut s, row).expect("a used row, and no desk open");
+    }
+    let used = used_rows(&s);
     for desk in 0..DESK_PLACES {
-        if used > 0 && rng.percent(open_percent) {
-            let row = rng.index(used) as u32;
-            ledger::open(&mut s, desk as u32, row).expect("a closed desk and a used row");
+        if !used.is_empty() && rng.percent(open_percent) {
+            ledger::open(&mut s, desk as u32, rng.pick(&used) as u32).expect("a closed desk and a used row");
             for copy in [OPENED, WORKED] {
                 if rng.percent(40) {
                     let ticks = ticks(rng);
@@ -348,6 +397,10 @@ pub fn sheet_with(rng: &Rng, used: usize, open_percent: u64) -> Vec<u8> {
         }
     }
     s
+}
+
+fn used_rows(s: &[u8]) -> Vec<usize> {
+    ledger::used_rows(s).collect()
 }
 
 fn ticks(rng: &Rng) -> Vec<u8> {
@@ -376,13 +429,15 @@ pub enum SheetCase {
     Header(usize),
     /// So many rows, and the header's number of them.
     RowsUsed(usize, u32),
+    /// A used row's word.
+    UsedWord(u32),
     KeyNotValid,
     KeyAtEdge,
     /// A key, and a first number: of the stream or not.
     First(u64, u32),
     SameKeys,
-    /// Offset in a row.
-    UnusedRow(usize),
+    /// Offset in a free row.
+    FreeRow(usize),
     DeskByte(u8),
     /// Offset in a desk that is closed.
     ClosedDesk(usize),
@@ -390,9 +445,9 @@ pub enum SheetCase {
     DeskZero(usize),
     /// The row that an open desk names.
     DeskRow(u8),
-    /// The desk names the first unused row, and its copies are as that one: zero.
-    DeskRowUnused,
-    /// Offset of a byte of a copy's key or first number.
+    /// The desk names a free row, and its copies are zero up to the ticks as that one, or have the used word.
+    DeskRowFree(bool),
+    /// Offset of a byte of a copy's word, key or first number.
     Copy(usize),
     AnyBit,
     AllZero,
@@ -400,81 +455,90 @@ pub enum SheetCase {
 
 pub fn sheet_cases() -> Vec<SheetCase> {
     use SheetCase::*;
-    let mut cases =
-        vec![Right, Right, KeyNotValid, KeyNotValid, KeyAtEdge, SameKeys, SameKeys, DeskRowUnused, AnyBit, AllZero];
+    let mut cases = vec![Right, Right, Right, KeyNotValid, KeyNotValid, KeyAtEdge, SameKeys, SameKeys, AnyBit, AllZero];
     cases.extend([0, SHEET - 1, SHEET + 1, MOST_SHEET].map(Length));
     cases.extend([0, 2, 3, 4, 5].map(Header));
     cases.extend(
         [(2, 1), (2, 3), (31, 32), (32, 33), (32, 31), (1, u32::MAX), (1, 257)]
             .map(|(rows, said)| RowsUsed(rows, said)),
     );
+    cases.extend([0, 2, 3, 0x0100_0000, 0x0101, u32::MAX].map(UsedWord));
     cases.extend([65_535, 65_536, 65_536 + 5, u32::MAX].map(|first| First(KEY_OF_NO_RSR, first)));
     cases.extend([65_536, u32::MAX].map(|first| First(KEY_OF_NO_OTHER, first)));
-    cases.extend([0, 11, ROW - 1].map(UnusedRow));
+    cases.extend([0, 3, KEY, FIRST - 1, FIRST, TICKS - 1, TICKS, ROW - 1].map(FreeRow));
     cases.extend([0, 1, 2, 255].map(DeskByte));
-    cases.extend([1, 2, 3, 4, 143, 144, 283].map(ClosedDesk));
+    cases.extend([1, 2, 3, OPENED, WORKED - 1, WORKED, DESK - 1].map(ClosedDesk));
     cases.extend([2, 3].map(DeskZero));
-    cases.extend([3, 32, 255].map(DeskRow));
-    cases.extend([0, 7, 8, 11].map(|at| Copy(OPENED + at)));
-    cases.extend([0, 7, 8, 11].map(|at| Copy(WORKED + at)));
+    cases.extend([32, 33, 255].map(DeskRow));
+    cases.extend([false, true].map(DeskRowFree));
+    cases.extend([0, 3, KEY, FIRST - 1, FIRST, TICKS - 1].map(|at| Copy(OPENED + at)));
+    cases.extend([0, 3, KEY, FIRST - 1, FIRST, TICKS - 1].map(|at| Copy(WORKED + at)));
     cases
 }
 
-fn sheet_case(rng: &Rng, case: SheetCase) -> Vec<u8> {
+/// `holes`: with free rows between used ones.
+pub fn sheet_case(rng: &Rng, case: SheetCase, holes: bool) -> Vec<u8> {
     use SheetCase::*;
     let used = match case {
         RowsUsed(rows, _) => rows,
-        UnusedRow(_) => rng.pick(&[0, 1, 31]),
+        FreeRow(_) => rng.pick(&[0, 1, 31]),
         SameKeys => rng.pick(&[2, 3, 32]),
-        DeskRow(_) | DeskRowUnused => 3,
+        DeskRowFree(_) => 3,
         _ => rng.pick(&[1, 3, 32]),
     };
+    let struck = if holes { rng.pick(&[0, 1, 2]).min(ROW_PLACES - used) } else { 0 };
     let open_percent = match case {
         ClosedDesk(_) | RowsUsed(..) | First(..) | KeyAtEdge => 0,
-        DeskZero(_) | DeskRow(_) | DeskRowUnused | Copy(_) => 100,
+        DeskZero(_) | DeskRow(_) | DeskRowFree(_) | Copy(_) => 100,
         _ => rng.pick(&[0, 50]),
     };
-    let mut s = sheet_with(rng, used, open_percent);
-    let row = ledger::row_place(rng.index(used.max(1)));
+    let mut s = sheet_with(rng, used, struck, open_percent);
+    let rows = used_rows(&s);
+    let free: Vec<usize> = (0..ROW_PLACES).filter(|row| !rows.contains(row)).collect();
+    let row = ledger::row_place(if rows.is_empty() { 0 } else { rng.pick(&rows) });
     let desk = ledger::desk_place(rng.pick(&[0, 7, rng.index(8)]));
     match case {
-        Right => return right_sheet(rng),
+        Right if holes => return right_sheet(rng),
+        Right => return used_first_sheet(rng),
         Length(length) => s.resize(length, 0),
         Header(word) => {
             let right = ledger_word(&s, word);
             let wrong = rng.pick(&[right + 1, right - 1, 0, right ^ 1 << 31, right << 8, u32::MAX]);
             put(&mut s, 4 * word, 4, wrong as u64);
         }
-        RowsUsed(_, said) => {
-            // Zero bytes read as a row have key 0: that it stands twice is not to be the sheet's only fault.
-            if let Ok(row) = ledger::find(&s, 0) {
-                put(&mut s, ledger::row_place(row), 8, KEY_OF_NO_OTHER);
+        RowsUsed(_, said) => put(&mut s, 4, 4, said as u64),
+        UsedWord(word) => {
+            put(&mut s, row, 4, word as u64);
+            // That the header counts one row too many is not to be the sheet's only fault.
+            if rng.percent(70) {
+                put(&mut s, 4, 4, rows.len() as u64 - 1);
             }
-            put(&mut s, 4, 4, said as u64)
         }
-        KeyNotValid => put(&mut s, row, 8, rng.pick(&BAD_KEYS)),
+        KeyNotValid => put(&mut s, row + KEY, 8, rng.pick(&BAD_KEYS)),
         KeyAtEdge => {
-            put(&mut s, row, 8, rng.pick(&VALID_EDGES));
+            put(&mut s, row + KEY, 8, rng.pick(&VALID_EDGES));
             put(&mut s, row + FIRST, 4, rng.pick(&RSR_FIRSTS) as u64);
         }
         First(key, first) => {
-            put(&mut s, row, 8, key);
+            put(&mut s, row + KEY, 8, key);
             put(&mut s, row + FIRST, 4, first as u64);
         }
         SameKeys => {
-            let one = rng.index(used);
-            let two = (one + 1 + rng.index(used - 1)) % used;
-            let key = ledger::key(ledger::row(&s, one));
-            put(&mut s, ledger::row_place(two), 8, key);
+            let one = rng.index(rows.len());
+            let two = (one + 1 + rng.index(rows.len() - 1)) % rows.len();
+            let key = ledger::key(ledger::row(&s, rows[one]));
+            put(&mut s, ledger::row_place(rows[two]) + KEY, 8, key);
         }
-        UnusedRow(at) => s[ledger::row_place(rng.pick(&[used, ROW_PLACES - 1])) + at] = 1 << rng.below(8),
+        FreeRow(at) => s[ledger::row_place(rng.pick(&free)) + at] |= 1 << rng.below(8),
         DeskByte(byte) => s[desk] = byte,
         ClosedDesk(at) | DeskZero(at) => s[desk + at] = 1 << rng.below(8),
         DeskRow(row) => s[desk + 1] = row,
-        DeskRowUnused => {
-            s[desk + 1] = used as u8;
-            s[desk + OPENED..][..TICKS].fill(0);
-            s[desk + WORKED..][..TICKS].fill(0);
+        DeskRowFree(with_word) => {
+            s[desk + 1] = rng.pick(&free) as u8;
+            for copy in [OPENED, WORKED] {
+                s[desk + copy..][..TICKS].fill(0);
+                put(&mut s, desk + copy, 4, with_word as u64);
+            }
         }
         Copy(at) => s[desk + at] ^= 1 << rng.below(8),
         AnyBit => s[rng.index(SHEET)] ^= 1 << rng.below(8),

@@ -6,6 +6,7 @@ use crate::record::{self, RSR, SECONDARY, TELEMETRY};
 use crate::script::{Calls, Frame, MOST_B, MOST_LIST, MOST_SLICE};
 
 mod idr;
+pub mod old_sheets;
 
 const EDGES: [u32; 8] = [0, 1, 255, 256, 65_535, 65_536, u32::MAX - 1, u32::MAX];
 
@@ -19,6 +20,7 @@ enum Scene {
     Long,
     Night,
     Sheets,
+    OldSheets,
     Tapes,
 }
 
@@ -32,6 +34,7 @@ const SCENES: &[(Scene, usize, &str)] = &[
     (Scene::Long, 1, "records"),
     (Scene::Night, 3, "ledger"),
     (Scene::Sheets, 10, "ledger"),
+    (Scene::OldSheets, 4, "ledger"),
     (Scene::Tapes, 8, "tapes"),
 ];
 
@@ -58,6 +61,7 @@ pub struct Generator {
     pub sheet_ops: Deck<u32>,
     pub pieces: Deck<crate::nights::Piece>,
     pub nights: Deck<crate::nights::NightCase>,
+    old_sheets: Deck<old_sheets::OldCase>,
     tapes: Vec<Deck<idr::TapeCase>>,
     tape_kinds: Deck<usize>,
 }
@@ -81,9 +85,10 @@ pub fn script_of(seed: u64, count: usize, part: Option<&str>) -> Vec<Frame> {
         streams: Deck::new(STREAM_CASES.to_vec()),
         longs: Deck::new(LONG_CASES.to_vec()),
         sheets: Deck::new(crate::nights::sheet_cases()),
-        sheet_ops: Deck::new((21..=29).collect()),
+        sheet_ops: Deck::new((21..=30).collect()),
         pieces: Deck::new(crate::nights::PIECES.to_vec()),
         nights: Deck::new(crate::nights::NIGHT_CASES.to_vec()),
+        old_sheets: Deck::new(old_sheets::old_cases()),
         tapes: idr::tape_cases().into_iter().map(Deck::new).collect(),
         tape_kinds: Deck::new((0..idr::tape_cases().len()).collect()),
     };
@@ -115,6 +120,7 @@ impl Generator {
             Scene::Long => self.long(),
             Scene::Night => self.night(),
             Scene::Sheets => self.sheets(),
+            Scene::OldSheets => self.old_sheets(),
             Scene::Tapes => self.tapes(),
         }
     }

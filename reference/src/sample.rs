@@ -1,9 +1,9 @@
 //! Sample streams for lessons, and long mixed streams for benchmarks.
 
-use crate::list;
 use crate::make::{self, put, put_secondary, Rng, RSR_PRIMARY, TELEMETRY_PRIMARY};
+use crate::random::old_sheets::as_old;
 use crate::record::{self, RSR, TELEMETRY};
-use crate::tapes;
+use crate::{keys, ledger, list, tapes};
 use std::io::{self, Write};
 
 const SEED: u64 = 1;
@@ -129,8 +129,54 @@ pub const LISTED: [Sample; 5] = [
     },
 ];
 
+/// Ledger sheets.
+pub const SHEETS: [Sample; 2] = [
+    Sample {
+        name: "sheets/old-night",
+        last_line: "",
+        about:
+            "A sheet of 6,776 bytes, as sheets were before rows could be struck: three rows, and desks 0 and 3 open.",
+        make: || as_old(&night_sheet()),
+    },
+    Sample {
+        name: "sheets/new-night",
+        last_line: "",
+        about: "The same, converted: 6,968 bytes, each row with its used word.",
+        make: night_sheet,
+    },
+];
+
+/// Two telemetry streams and one of RSR whose numbers pass 65,535. Desk 0 has work on the first that is not saved; desk 3
+/// has the third open.
+fn night_sheet() -> Vec<u8> {
+    let mut s = vec![0; ledger::SHEET];
+    let keys = [keys::telemetry_key(177, 43, 2, 1), keys::telemetry_key(177, 43, 2, 2), keys::rsr_key(177, 43, 1, 2)];
+    let mut night = || -> Result<(), u32> {
+        ledger::fresh(&mut s)?;
+        for (key, first) in keys.into_iter().zip([1, 4_294_967_270, 65_510]) {
+            ledger::enrol(&mut s, key?, first)?;
+        }
+        for (row, numbers) in [(0, [1, 2, 4]), (1, [4_294_967_295, 0, 1]), (2, [65_510, 65_535, 1])] {
+            ledger::open(&mut s, 0, row)?;
+            numbers.iter().try_for_each(|n| ledger::tick(&mut s, 0, *n))?;
+            ledger::save(&mut s, 0)?;
+        }
+        ledger::open(&mut s, 0, 0)?;
+        ledger::tick(&mut s, 0, 3)?;
+        ledger::open(&mut s, 3, 2)
+    };
+    night().expect("no call is refused");
+    s
+}
+
 pub fn sample(name: &str) -> Option<Vec<u8>> {
-    SAMPLES.iter().chain(&LISTED).chain(&tapes::TAPES).find(|sample| sample.name == name).map(|sample| (sample.make)())
+    SAMPLES
+        .iter()
+        .chain(&LISTED)
+        .chain(&tapes::TAPES)
+        .chain(&SHEETS)
+        .find(|sample| sample.name == name)
+        .map(|sample| (sample.make)())
 }
 
 /// A telemetry record that is all zero but for its number.

@@ -2,7 +2,7 @@
 
 use crate::record::{self, Fields, Record, Refused, Rsr, Telemetry};
 use crate::stream::{self, Cursor, Step, Stop};
-use crate::{keys, ledger};
+use crate::{convert, keys, ledger};
 use std::io::{self, Write};
 
 mod idr;
@@ -108,7 +108,7 @@ impl Calls {
             11 => Some(line_of_step(Cursor { place: f.key }.step(&f.a))),
             16 => Some(idr::read(f)),
             17 => idr::write(f),
-            19..=29 => self.ledger_line(f),
+            19..=31 => self.ledger_line(f),
             _ => None,
         }
     }
@@ -136,10 +136,18 @@ impl Calls {
             27 => ledger::drop_desk(s, f.x).map(nothing),
             28 => ledger::report(s, f.x)
                 .map(|report| format!(" {} {} {}", report.ticked, report.missing, or_none(report.lowest))),
-            _ => ledger::first_gap(s).map(|gap| match gap {
+            29 => ledger::first_gap(s).map(|gap| match gap {
                 Some((number, row)) => format!(" {number} {row}"),
                 None => " none".to_string(),
             }),
+            30 => ledger::strike(s, f.x).map(nothing),
+            _ => {
+                if f.z > MOST_SHEET as u32 {
+                    return None;
+                }
+                *s = vec![SLICE_FILL; f.z as usize];
+                convert::convert(&f.a, s).map(nothing)
+            }
         };
         let crc = crc32(s);
         Some(match answer {

@@ -1,6 +1,6 @@
 //! Document 01's worked examples, and the calls held to plainer or other definitions of themselves.
 
-use crate::book::{Book, Call};
+use crate::book::{self, Book, Call};
 use crate::coverage::Coverage;
 use crate::ledger::{self, Report};
 use crate::make::{self, Rng};
@@ -13,6 +13,7 @@ use std::io::{self, Read};
 
 mod idr;
 mod rsr_rows;
+mod strikes;
 
 /// A record written out by hand, from the paper's first table; `label_length` as given, the rest right.
 fn by_hand(kind: u32, label_length: u64, secondary: &[u8], data: &[u8]) -> Vec<u8> {
@@ -58,7 +59,7 @@ fn short(number: u32, bytes: usize) -> Refused {
 }
 
 fn fresh() -> Vec<u8> {
-    let mut s = vec![0xAA; 6_776];
+    let mut s = vec![0xAA; 6_968];
     assert_eq!(ledger::fresh(&mut s), Ok(()));
     s
 }
@@ -71,9 +72,9 @@ fn one_row(first: u32) -> Vec<u8> {
 
 /// The numbers ticked in row 0.
 fn ticked(s: &[u8]) -> Vec<u32> {
-    let row = &s[24..164];
-    let first = u32::from_be_bytes(row[8..12].try_into().unwrap());
-    (0..1_024u32).filter(|i| row[12 + *i as usize / 8] >> (i % 8) & 1 == 1).map(|i| first.wrapping_add(i)).collect()
+    let row = &s[24..168];
+    let first = u32::from_be_bytes(row[12..16].try_into().unwrap());
+    (0..1_024u32).filter(|i| row[16 + *i as usize / 8] >> (i % 8) & 1 == 1).map(|i| first.wrapping_add(i)).collect()
 }
 
 #[test]
@@ -137,9 +138,9 @@ fn p7_wrap() {
     assert_eq!(ledger::position(760_930_632_193, 4_294_967_290, 3), Some(9));
     ledger::open(&mut s, 0, 0).unwrap();
     assert_eq!(ledger::tick(&mut s, 0, 3), Ok(()));
-    assert_eq!(s[4_504 + 144 + 12 + 1], 1 << 1);
+    assert_eq!(s[4_632 + 148 + 16 + 1], 1 << 1);
     assert_eq!(ledger::tick(&mut s, 0, 1_017), Ok(()));
-    assert_eq!(s[4_504 + 283], 1 << 7);
+    assert_eq!(s[4_632 + 291], 1 << 7);
     assert_eq!(ledger::tick(&mut s, 0, 1_018), Err(28));
     assert_eq!(ledger::tick(&mut s, 0, 4_294_967_289), Err(28));
 }
@@ -162,10 +163,10 @@ fn p8_report() {
 fn reports_are_those_of_the_positions() {
     let rng = Rng::new(6);
     for _ in 0..2_000 {
-        let s = nights::sheet_with(&rng, 1, 0);
+        let s = nights::sheet_with(&rng, 1, 0, 0);
         let (row, first) = (ledger::row(&s, 0), ledger::first(ledger::row(&s, 0)));
-        let modulus = if row[..8] < [0, 0, 4, 0, 0, 0, 0, 0][..] { 1 << 32 } else { 1u64 << 16 };
-        let is_ticked = |i: u32| row[12 + i as usize / 8] >> (i % 8) & 1 == 1;
+        let modulus = if row[4..12] < [0, 0, 4, 0, 0, 0, 0, 0][..] { 1 << 32 } else { 1u64 << 16 };
+        let is_ticked = |i: u32| row[16 + i as usize / 8] >> (i % 8) & 1 == 1;
         let highest = (0..1_024).rev().find(|i| is_ticked(*i)).unwrap_or(0);
         let missing: Vec<u32> = (0..highest).filter(|i| !is_ticked(*i)).collect();
         let report = Report {
@@ -563,6 +564,7 @@ fn call_of(f: &Frame) -> Option<Call> {
         25 => Some(Call::Untick(f.x, f.y)),
         26 => Some(Call::Save(f.x)),
         27 => Some(Call::Drop(f.x)),
+        30 => Some(Call::Strike(f.x)),
         _ => None,
     }
 }
@@ -578,15 +580,19 @@ fn the_ledger_is_the_book_laid_out() {
             let line = calls.line(&f).unwrap();
             let mut words = line.split(' ');
             let mut word = || words.next().unwrap().parse::<u32>().ok();
-            match (f.op, &mut book) {
-                (19, _) => book = if calls.sheet.len() == 6_776 { Book::said_by(&calls.sheet) } else { None },
-                (20, _) if calls.sheet.len() == 6_776 => book = Some(Book::new()),
+            match f.op {
+                19 => {
+                    book = Book::of_sheet(&calls.sheet);
+                    assert_eq!(ledger::is_sheet(&calls.sheet), book.is_some());
+                }
+                20 if calls.sheet.len() == 6_968 => book = Some(Book::new()),
+                31 => {
+                    book = Book::of_sheet_as(&book::OLD, &f.a).filter(|_| f.z == 6_968);
+                    assert_eq!(word(), Some(if book.is_some() { 0 } else { 20 }));
+                    let left = book.as_ref().map_or(vec![165; f.z as usize], Book::laid_out);
+                    assert!(calls.sheet == left);
+                }
                 _ => {}
-            }
-            if f.op == 19 {
-                let right = book.as_ref().is_some_and(|book| book.laid_out() == calls.sheet);
-                assert_eq!(ledger::is_sheet(&calls.sheet), right);
-                book = book.filter(|_| right);
             }
             let Some(book) = &mut book else { continue };
             if let Some(call) = call_of(&f) {
@@ -597,6 +603,9 @@ fn the_ledger_is_the_book_laid_out() {
                 }
                 assert_eq!(book.laid_out(), calls.sheet);
                 compared += 1;
+            }
+            if f.op == 22 {
+                assert_eq!(ledger::find(&calls.sheet, f.key), book.find(f.key));
             }
             if f.op == 28 {
                 let answer =
@@ -613,7 +622,7 @@ fn the_ledger_is_the_book_laid_out() {
 
 #[test]
 fn a_fresh_sheet_judges_only_the_length() {
-    for length in [0, 6_775, 6_777] {
+    for length in [0, 6_776, 6_967, 6_969] {
         let mut s = vec![1; length];
         assert_eq!(ledger::fresh(&mut s), Err(20));
         assert_eq!(s, vec![1; length]);
@@ -621,17 +630,27 @@ fn a_fresh_sheet_judges_only_the_length() {
     assert_eq!(fresh(), Book::new().laid_out());
 }
 
-/// Every bit changed, of a full sheet, a fresh one, and one with a desk open: right only where that is a book laid out.
+/// Every bit changed, of a fresh sheet, one with a desk open, one with every row used and desk open, and one with free rows
+/// between: right only where that is a book laid out.
 #[test]
 fn every_bit_of_a_sheet_counts() {
     let mut underway = one_row(1);
     ledger::open(&mut underway, 3, 0).unwrap();
-    for mut s in [nights::full_sheet(&Rng::new(9)), fresh(), underway] {
+    let mut full = fresh();
+    (0..32).for_each(|key| assert_eq!(ledger::enrol(&mut full, key, key as u32), Ok(key as usize)));
+    for desk in 0..8 {
+        ledger::open(&mut full, desk, 31 - desk).unwrap();
+        ledger::tick(&mut full, desk, 100 + desk).unwrap();
+    }
+    let mut holes = full.clone();
+    for row in [0, 5, 23] {
+        ledger::strike(&mut holes, row).unwrap();
+    }
+    for mut s in [full, holes, fresh(), underway] {
         assert!(ledger::is_sheet(&s));
         for (at, bit) in (0..s.len()).flat_map(|at| (0..8).map(move |bit| (at, bit))) {
             s[at] ^= 1 << bit;
-            let said = Book::said_by(&s).is_some_and(|book| book.laid_out() == s);
-            assert_eq!(ledger::is_sheet(&s), said, "byte {at}, bit {bit}");
+            assert_eq!(ledger::is_sheet(&s), Book::of_sheet(&s).is_some(), "byte {at}, bit {bit}");
             s[at] ^= 1 << bit;
         }
     }
@@ -717,7 +736,7 @@ fn bad_frames() {
     assert_eq!(lines_of(&[]), [""; 0]);
     assert_eq!(lines_of(&bytes), ["0 0"]);
     assert_eq!(lines_of(&[&bytes[..], &bytes[..39]].concat()), ["0 0", "bad frame"]);
-    for op in [0, 10, 12, 18, 30, u32::MAX] {
+    for op in [0, 10, 12, 18, 32, u32::MAX] {
         assert_eq!(lines(&[good.clone(), Frame { op, ..Frame::default() }, good.clone()]), ["0 0", "bad frame"]);
     }
     let most = Frame { op: 8, a: vec![0; 131_072], b: vec![0; 66_000], ..Frame::default() };
@@ -744,8 +763,11 @@ fn random_scripts_meet_every_refusal() {
 fn samples_are_stored_and_told_of() {
     let folder = concat!(env!("CARGO_MANIFEST_DIR"), "/../samples");
     let page = std::fs::read_to_string(format!("{folder}/README.md")).unwrap();
-    for sample in sample::SAMPLES.iter().chain(&tapes::TAPES) {
-        let told = format!("| `{}` | `{}` | {} |", sample.name, sample.last_line, sample.about);
+    for sample in sample::SAMPLES.iter().chain(&tapes::TAPES).chain(&sample::SHEETS) {
+        let told = match sample.last_line {
+            "" => format!("| `{}` | {} |", sample.name, sample.about),
+            last_line => format!("| `{}` | `{last_line}` | {} |", sample.name, sample.about),
+        };
         assert!(page.contains(&told), "{}", sample.name);
         let stored = std::fs::read(format!("{folder}/{}", sample.name)).unwrap();
         assert!(sample::sample(sample.name).unwrap() == stored, "{}", sample.name);

@@ -60,8 +60,8 @@ fn enrolments() {
 fn a_sheet_with_a_number_too_wide() {
     for (key, first, right) in [(RSR_KEY, 65_535, true), (RSR_KEY, 65_536, false), ((1 << 42) - 1, 65_536, true)] {
         let mut s = opened(key, 0);
-        for copy in [24, 4_504 + 4, 4_504 + 144] {
-            s[copy + 8..copy + 12].copy_from_slice(&u32::to_be_bytes(first));
+        for copy in [24, 4_632 + 4, 4_632 + 148] {
+            s[copy + 12..copy + 16].copy_from_slice(&u32::to_be_bytes(first));
         }
         assert_eq!(ledger::is_sheet(&s), right);
     }
