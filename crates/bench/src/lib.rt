@@ -23,9 +23,8 @@ ghost use Rattle.headers.specs.Words.{number};
 ghost use Rattle.headers.specs.Headers.{readHeaders, bandWord, telemetryFieldWords, sourceWords, signalWords, timeWords};
 ghost use Rattle.stream.specs.Listing.{walked};
 ghost use Rattle.sheet.specs.Sheet.{right};
-ghost use Rattle.model.specs.Step.{Tick, Untick};
-ghost use Rattle.model.specs.Counts.{rowReport};
-ghost use Rattle.layout.specs.Layout.{call, report, onSheet};
+ghost use Rattle.model.specs.Step.{Tick, Untick, Ask, RowReport};
+ghost use Rattle.layout.specs.Layout.{call, onSheet};
 ghost use Rattle.bench.specs.Digest.{value, onto, digest, flag, counts, counted};
 
 // The words of an accepted answer that the kinds begin with, and that of a kind not asked for; and what adds nothing to a number.
@@ -183,7 +182,7 @@ fn said(answer: Answer) -> u64
 
 #[no_mangle]
 pub extern "C" fn bench_report(s: &[u8], row: u32) -> u64
-    ensures { λ r. ⌜ r ≡ counts (onSheet (report (λ b. rowReport b row)) (now (s .entry)) .0) ⌝ }
+    ensures { λ r. ⌜ r ≡ counts (onSheet (call (Ask (RowReport row))) (now (s .entry)) .0) ⌝ }
 {
     reported(ledger::row_report(s, row))
 }

@@ -6,12 +6,18 @@ use lines::line::Line;
 // The first op on the sheet. After it the sheet is as long as the frame's first run.
 pub const NEW_SHEET: u32 = 19;
 
+// The op that converts an old sheet. After it the sheet is as long as the frame says.
+pub const CONVERT: u32 = 31;
+
 pub fn call(f: Frame, a: &[u8], b: &[u8], sheet: &mut [u8], n: usize) -> Line {
     if f.op < NEW_SHEET {
         return lines::on_bytes(f, a, b);
     }
     if f.op == NEW_SHEET {
         return sheets::new_sheet(a, sheet);
+    }
+    if f.op == CONVERT {
+        return sheets::converted(a, sheet, f.z as usize);
     }
     sheets::on_sheet(f, sheet, n)
 }

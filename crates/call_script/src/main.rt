@@ -113,6 +113,9 @@ fn sheet_after(f: Frame, n: usize) -> usize {
     if f.op == calls::NEW_SHEET {
         return f.a;
     }
+    if f.op == calls::CONVERT {
+        return f.z as usize;
+    }
     n
 }
 

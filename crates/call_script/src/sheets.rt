@@ -16,6 +16,26 @@ pub fn new_sheet(a: &[u8], room: &mut [u8]) -> Line {
     Line::accepted().number32(crc(a))
 }
 
+// What a slice that is lent to be written holds before.
+const BEFORE: u8 = 165;
+
+// The old sheet a converted into n bytes, which become the sheet.
+pub fn converted(a: &[u8], room: &mut [u8], n: usize) -> Line {
+    if room.len() < n {
+        return Line::empty();
+    }
+    let s = &mut room[..n];
+    fill(s);
+    let line = done(ledger_convert::convert(a, s));
+    line.number32(crc(s))
+}
+
+fn fill(s: &mut [u8]) {
+    for i in 0..s.len() {
+        s[i] = BEFORE;
+    }
+}
+
 // A call on the sheet, which is the first n bytes of its room. The crc of the whole sheet after the call ends its line.
 pub fn on_sheet(f: Frame, room: &mut [u8], n: usize) -> Line {
     if room.len() < n {
@@ -32,7 +52,7 @@ pub fn on_sheet(f: Frame, room: &mut [u8], n: usize) -> Line {
 fn call(f: Frame, s: &mut [u8]) -> Line {
     let op = f.op;
     match op {
-        20 | 23..=27 => done(change(f, s)),
+        20 | 23..=27 | 30 => done(change(f, s)),
         21 => row(ledger::enrol(s, f.key, f.x)),
         _ => ask(f, s),
     }
@@ -47,6 +67,7 @@ fn change(f: Frame, s: &mut [u8]) -> Answer {
         24 => ledger::tick(s, f.x, f.y),
         25 => ledger::untick(s, f.x, f.y),
         26 => ledger::save(s, f.x),
+        30 => ledger::strike(s, f.x),
         _ => ledger::drop(s, f.x),
     }
 }

@@ -9,7 +9,7 @@ use lib.Seq.{ext-getD}
 use Rattle.octets.specs.Octets.{numberAt, bytesOf, part, put}
 use Rattle.octets.proofs.Laws.{length-bytesOf, length-put, length-part, part-at}
 use Rattle.octets.proofs.Parts.{number-first, number-second, number-bytes, part-second, part-whole}
-use Rattle.sheet.specs.Sheet.{keySize, firstAt, firstSize, ticksAt, ticksSize, rowSize, rowCount, sheetSize, headerNumberSize, usedAt, rowAt, keyAt, firstNumberAt}
+use Rattle.sheet.specs.Sheet.{usedWordSize, usedWord, keyStart, keySize, firstAt, firstSize, ticksAt, ticksSize, rowSize, rowCount, sheetSize, headerNumberSize, usedAt, rowAt, used, keyAt, firstNumberAt}
 use Rattle.changes.specs.Rows.{rowBytes, blankTicks, rowValueAt, blankRow}
 use Rattle.changes.specs.Bytes.{enrolAt}
 use Rattle.changes.proofs.Puts.{put-outside, put-inside}
@@ -29,32 +29,48 @@ part-agree s t a b n la lb h =
 -- ---- the bytes of a row
 
 module _ (key first : ℕ) (ticks : List ℕ) where
+  abbrev word : List ℕ
+  word = bytesOf usedWordSize usedWord
+
+  abbrev head : List ℕ
+  head = word ++ bytesOf keySize key ++ bytesOf firstSize first
+
+  length-word : length word ≡ usedWordSize
+  length-word = length-bytesOf usedWordSize usedWord
+
+  length-key : length (word ++ bytesOf keySize key) ≡ firstAt
+  length-key = rw (length-append word (bytesOf keySize key), length-word, length-bytesOf keySize key)
+
+  length-head : length head ≡ ticksAt
+  length-head = rw (length-append (word ++ bytesOf keySize key) (bytesOf firstSize first), length-key, length-bytesOf firstSize first)
+
   pub length-row : length ticks ≡ ticksSize → length (rowBytes key first ticks) ≡ rowSize
   unfolding rowBytes
-  length-row t = rw (length-append (bytesOf keySize key ++ bytesOf firstSize first) ticks, length-append (bytesOf keySize key) (bytesOf firstSize first), length-bytesOf keySize key, length-bytesOf firstSize first, t)
+  length-row t = rw (length-append head ticks, length-head, t)
+
+  pub row-word : numberAt (rowBytes key first ticks) 0 usedWordSize ≡ usedWord
+  unfolding rowBytes
+  row-word =
+      number-first head ticks 0 usedWordSize (omega (arith, length-head))
+      ∙ number-first (word ++ bytesOf keySize key) (bytesOf firstSize first) 0 usedWordSize (omega (arith, length-key))
+      ∙ number-first word (bytesOf keySize key) 0 usedWordSize (omega (arith, length-word)) ∙ number-bytes usedWordSize usedWord (omega arith)
 
   pub row-key : key < 256 ^ keySize → keyAt (rowBytes key first ticks) 0 ≡ key
   unfolding rowBytes
   row-key k =
-      let lk = length-bytesOf keySize key in
-      number-first (bytesOf keySize key ++ bytesOf firstSize first) ticks 0 keySize (omega (arith, length-append (bytesOf keySize key) (bytesOf firstSize first)))
-      ∙ number-first (bytesOf keySize key) (bytesOf firstSize first) 0 keySize (omega arith) ∙ number-bytes keySize key k
+      number-first head ticks keyStart keySize (omega (arith, length-head))
+      ∙ number-first (word ++ bytesOf keySize key) (bytesOf firstSize first) keyStart keySize (omega (arith, length-key))
+      ∙ number-second word (bytesOf keySize key) keyStart 0 keySize (omega (arith, length-word)) ∙ number-bytes keySize key k
 
   pub row-first : first < 256 ^ firstSize → firstNumberAt (rowBytes key first ticks) 0 ≡ first
   unfolding rowBytes
   row-first f =
-      let lk = length-bytesOf keySize key in
-      let lf = length-bytesOf firstSize first in
-      number-first (bytesOf keySize key ++ bytesOf firstSize first) ticks firstAt firstSize (omega (arith, length-append (bytesOf keySize key) (bytesOf firstSize first)))
-      ∙ number-second (bytesOf keySize key) (bytesOf firstSize first) firstAt 0 firstSize (omega arith) ∙ number-bytes firstSize first f
+      number-first head ticks firstAt firstSize (omega (arith, length-head))
+      ∙ number-second (word ++ bytesOf keySize key) (bytesOf firstSize first) firstAt 0 firstSize (omega (arith, length-key)) ∙ number-bytes firstSize first f
 
   pub row-ticks : length ticks ≡ ticksSize → part (rowBytes key first ticks) ticksAt ticksSize ≡ ticks
   unfolding rowBytes
-  row-ticks t =
-      let lk = length-bytesOf keySize key in
-      let lf = length-bytesOf firstSize first in
-      part-second (bytesOf keySize key ++ bytesOf firstSize first) ticks ticksAt 0 ticksSize (omega (arith, length-append (bytesOf keySize key) (bytesOf firstSize first)))
-      ∙ part-whole ticks ticksSize t
+  row-ticks t = part-second head ticks ticksAt 0 ticksSize (omega (arith, length-head)) ∙ part-whole ticks ticksSize t
 
 length-blank : length blankTicks ≡ ticksSize
 unfolding blankTicks
@@ -70,7 +86,7 @@ value-is s a key first ticks l k f t agree =
     let lr = length-row key first ticks t in
     let later : (m n : ℕ) → m + n ≤ rowSize → (j : ℕ) → j < n → getD s (a + m + j) 0 ≡ getD row (m + j) 0 =
     (λ m n h j q. let e : a + m + j ≡ a + (m + j) = omega arith in rw e (agree (m + j) (omega arith))) in
-    let ek : keyAt s a ≡ key = number-same s row a 0 keySize (λ j q. let z : 0 + j ≡ j = omega arith in rw z (agree j (omega arith))) ∙ row-key key first ticks k in
+    let ek : keyAt s a ≡ key = number-same s row (a + keyStart) keyStart keySize (later keyStart keySize (omega arith)) ∙ row-key key first ticks k in
     let ef : firstNumberAt s a ≡ first = number-same s row (a + firstAt) firstAt firstSize (later firstAt firstSize (omega arith)) ∙ row-first key first ticks f in
     let et : part s (a + ticksAt) ticksSize ≡ ticks = part-agree s row (a + ticksAt) ticksAt ticksSize (omega arith) (omega arith) (later ticksAt ticksSize (omega arith)) ∙ row-ticks key first ticks t in
     rw (ek, ef, et)
@@ -82,9 +98,9 @@ pub enrolled-blank : (s : List ℕ) (i key first : ℕ) → length s ≡ sheetSi
 unfolding enrolAt blankRow
 enrolled-blank s i key first l b k f =
     let row = rowBytes key first blankTicks in
-    let count = bytesOf headerNumberSize (i + 1) in
+    let count = bytesOf headerNumberSize (used s + 1) in
     let lr = length-row key first blankTicks length-blank in
-    let lc = length-bytesOf headerNumberSize (i + 1) in
+    let lc = length-bytesOf headerNumberSize (used s + 1) in
     let lp = length-put s (rowAt i) row (omega arith) in
     let lq = length-put (put s (rowAt i) row) usedAt count (omega arith) in
     value-is (put (put s (rowAt i) row) usedAt count) (rowAt i) key first blankTicks (omega arith) k f length-blank (λ j q.

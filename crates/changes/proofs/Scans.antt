@@ -3,8 +3,11 @@ use Prim.Native.Nat.{ℕ, zero, suc, _+_, _-_, _≤_, _<_}
 use native.Mathlib.Nat.{add-zero, not-suc-le-zero, le-of-suc-le-suc, eq-or-lt-of-le, zero-lt-suc}
 use native.Mathlib.Omega.{arith}
 use mathlib.Core.Bool.{Bool, true, false, cond}
+use mathlib.Core.List.{List}
 use mathlib.Core.Logic.{⊎-elim}
 use mathlib.Core.Path.{_≡_, refl, ap, _∙_}
+use lib.ListN.{length, getD, set}
+use lib.Seq.{getD-set-same, getD-set-other}
 use Rattle.changes.specs.Bytes.{lowest, pastHighest}
 
 -- p is b of each number below i
@@ -115,3 +118,13 @@ past-skip zero m p h = rw add-zero
 past-skip (suc k) m p h =
     let below : m + suc k - 1 ≡ m + k = omega arith in
     past-down (m + suc k) p (omega arith) (h (m + suc k - 1) (omega arith) (omega arith)) ∙ rw below (past-skip k m p (λ i g l. h i g (omega arith)))
+
+-- ---- numbers read into an array, one a turn
+
+pub read-more : (f : ℕ → ℕ) (xs : List ℕ) (i x : ℕ) → ((j : ℕ) → j < i → getD xs j 0 ≡ f j) → x ≡ f i → i < length xs
+    → (j : ℕ) → j < i + 1 → getD (set xs i x) j 0 ≡ f j
+read-more f xs i x known last l j b =
+    ⊎-elim
+    (λ (e : j ≡ i). rw e (getD-set-same xs i x 0 l ∙ last))
+    (λ (q : j < i). getD-set-other xs i j x 0 (λ e. omega arith) ∙ known j q)
+    (eq-or-lt-of-le (omega arith))

@@ -6,10 +6,10 @@ use mathlib.Core.Path.{_≡_, refl, ap, _∙_}
 use lib.ListN.{length, set, replicate, length-append, length-replicate, length-set}
 use Rattle.octets.specs.Octets.{bytesOf, part, put}
 use Rattle.octets.proofs.Laws.{length-bytesOf, length-part}
-use Rattle.sheet.specs.Sheet.{keySize, firstAt, firstSize, ticksAt, ticksSize, rowSize, rowCount, rowsStart, deskRowAt, deskZerosAt, deskZerosSize, openedAt, workedAt, deskCount, desksStart, sheetSize, headerNumberSize, lengthAt, usedAt, rowCountAt, rowsStartAt, deskCountAt, desksStartAt, rowAt, deskAt}
+use Rattle.sheet.specs.Sheet.{usedWordSize, usedWord, keyStart, keySize, firstAt, firstSize, ticksAt, ticksSize, rowSize, rowCount, rowsStart, deskRowAt, deskZerosAt, deskZerosSize, openedAt, workedAt, deskCount, desksStart, sheetSize, headerNumberSize, lengthAt, usedAt, rowCountAt, rowsStartAt, deskCountAt, desksStartAt, rowAt, deskAt, used}
 use Rattle.sheet.specs.declared.Row.{Row}
 use Rattle.changes.specs.Rows.{rowBytes, blankRow}
-use Rattle.changes.specs.Bytes.{headerBytes, freshSheet, enrolAt, openDesk, openAt}
+use Rattle.changes.specs.Bytes.{headerBytes, freshSheet, counting, enrolAt, strikeAt, openDesk, openAt}
 use Rattle.octets.proofs.Puts.{put-next, set-put}
 use Rattle.changes.proofs.Puts.{put-whole, part-before}
 
@@ -52,15 +52,19 @@ fresh-written s l p q =
 
 -- ---- a row
 
-pub row-written : (s : List ℕ) (a key first : ℕ) (ticks : List ℕ) {t u v : List ℕ} → a + rowSize ≤ length s → length ticks ≡ ticksSize
-    → t ≡ put s a (bytesOf keySize key) → u ≡ put t (a + firstAt) (bytesOf firstSize first) → v ≡ put u (a + ticksAt) ticks → v ≡ put s a (rowBytes key first ticks)
+pub row-written : (s : List ℕ) (a key first : ℕ) (ticks : List ℕ) {t u v w : List ℕ} → a + rowSize ≤ length s → length ticks ≡ ticksSize
+    → t ≡ put s a (bytesOf usedWordSize usedWord) → u ≡ put t (a + keyStart) (bytesOf keySize key) → v ≡ put u (a + firstAt) (bytesOf firstSize first)
+    → w ≡ put v (a + ticksAt) ticks → w ≡ put s a (rowBytes key first ticks)
 unfolding rowBytes
-row-written s a key first ticks room lt p q r =
+row-written s a key first ticks room lt o p q r =
+    let word = bytesOf usedWordSize usedWord in
+    let n = length-bytesOf usedWordSize usedWord in
     let k = length-bytesOf keySize key in
     let f = length-bytesOf firstSize first in
-    put-next s a (bytesOf keySize key ++ bytesOf firstSize first) (a + ticksAt) ticks
-    (put-next s a (bytesOf keySize key) (a + firstAt) (bytesOf firstSize first) p q (omega arith) (omega arith)) r
-    (rw (length-append, k, f)) (omega arith)
+    let one = put-next s a word (a + keyStart) (bytesOf keySize key) o p (omega arith) (omega arith) in
+    let two = put-next s a (word ++ bytesOf keySize key) (a + firstAt) (bytesOf firstSize first) one q (rw (length-append, n, k)) (omega arith) in
+    put-next s a (word ++ bytesOf keySize key ++ bytesOf firstSize first) (a + ticksAt) ticks two r
+    (simp (length-append, n, k, f)) (omega arith)
 
 -- ---- an open desk
 
@@ -90,7 +94,14 @@ module _ (s : List ℕ) (d row : ℕ) (long : length s ≡ sheetSize) (desk : d 
 -- ---- an enrolled row
 
 pub enrol-written : (s : List ℕ) (i key first : ℕ) {row : Row} {t u : List ℕ} → row ≡ blankRow key first
-    → t ≡ put s (rowAt i) (rowBytes (row .key) (row .first) (row .ticks)) → u ≡ put t usedAt (bytesOf headerNumberSize (i + 1)) → u ≡ enrolAt i key first s
+    → t ≡ put s (rowAt i) (rowBytes (row .key) (row .first) (row .ticks)) → u ≡ put t usedAt (bytesOf headerNumberSize (used s + 1)) → u ≡ enrolAt i key first s
 unfolding enrolAt blankRow
 enrol-written s i key first e p q =
-    q ∙ ap (λ (x : List ℕ). put x usedAt (bytesOf headerNumberSize (i + 1))) (p ∙ ap (λ (r : Row). put s (rowAt i) (rowBytes (r .key) (r .first) (r .ticks))) e)
+    q ∙ ap (counting (used s + 1)) (p ∙ ap (λ (r : Row). put s (rowAt i) (rowBytes (r .key) (r .first) (r .ticks))) e)
+
+-- ---- a struck row
+
+pub strike-written : (s : List ℕ) (i : ℕ) {t u : List ℕ} → t ≡ put s (rowAt i) (replicate rowSize 0)
+    → u ≡ put t usedAt (bytesOf headerNumberSize (used s - 1)) → u ≡ strikeAt i s
+unfolding strikeAt
+strike-written s i p q = q ∙ ap (counting (used s - 1)) p

@@ -2,16 +2,16 @@
 -- answer's words, 0 and its values or the refusal's number, with the sheet as it is left.
 -- Assumes nothing.
 use Prim.Native.Nat.{ℕ, zero, suc, _+_, _-_}
-use mathlib.Core.Bool.{Bool, not, cond, Bool·beq}
+use mathlib.Core.Bool.{Bool, not, cond, Bool·beq, _&&_, _||_}
 use mathlib.Core.List.{List, [], _∷_, _++_}
 use mathlib.Core.Option.{Option, none, some}
 use lib.Dec.{eqb, ltb}
 use lib.ListN.{replicate}
-use Rattle.octets.specs.Octets.{bytesOf, part, put, sameAt}
+use Rattle.octets.specs.Octets.{bytesOf, part, put, all, sameAt}
 use Rattle.refusals.specs.Judge.{Rule, _when_, verdict}
 use Rattle.model.specs.Positions.{position, numberAt, inRow, size, missing, least}
 use Rattle.model.specs.Step.{alreadySo}
-use Rattle.sheet.specs.Sheet.{sheetSize, rowSize, rowCount, rowsStart, openedAt, workedAt, deskSize, deskCount, desksStart, headerNumberSize, usedAt, rowAt, deskAt, used, keyAt, firstNumberAt, deskRow}
+use Rattle.sheet.specs.Sheet.{sheetSize, rowSize, rowCount, rowsStart, openedAt, workedAt, deskSize, deskCount, desksStart, headerNumberSize, usedAt, rowAt, deskAt, used, isUsed, keyAt, firstNumberAt, deskRow, isClosed}
 use Rattle.changes.specs.Rows.{tickedAt, setTick, clearTick, ticksOf, rowBytes, blankTicks}
 
 abbrev pub Outcome : Type 0
@@ -48,16 +48,38 @@ unfoldable pub pastHighest : ℕ → (ℕ → Bool) → ℕ
 pastHighest zero p = 0
 pastHighest (suc n) p = cond (p n) (suc n) (pastHighest n p)
 
--- The used row with the key, or the count of used rows where there is none.
+-- Whether row i is used and has the key.
+unfoldable pub isRowOf : List ℕ → (key i : ℕ) → Bool
+isRowOf s key i = isUsed s i && eqb (keyAt s (rowAt i)) key
+
+-- The used row with the key, or 32 where there is none.
 unfoldable pub rowWith : List ℕ → ℕ → ℕ
-rowWith s key = lowest (used s) (λ i. eqb (keyAt s (rowAt i)) key)
+rowWith s key = lowest rowCount (isRowOf s key)
 
 abbrev pub hasKey : List ℕ → ℕ → Bool
-hasKey s key = ltb (rowWith s key) (used s)
+hasKey s key = ltb (rowWith s key) rowCount
+
+-- "enrol takes the lowest free one": the lowest free row, or 32 where there is none.
+unfoldable pub freeRow : List ℕ → ℕ
+freeRow s = lowest rowCount (λ i. not (isUsed s i))
+
+-- The header counts n rows.
+abbrev pub counting : ℕ → List ℕ → List ℕ
+counting n s = put s usedAt (bytesOf headerNumberSize n)
 
 -- Row i becomes a row with no ticks, and the header counts it.
 unfoldable pub enrolAt : ℕ → (key first : ℕ) → List ℕ → List ℕ
-enrolAt i key first s = put (put s (rowAt i) (rowBytes key first blankTicks)) usedAt (bytesOf headerNumberSize (i + 1))
+enrolAt i key first s = counting (used s + 1) (put s (rowAt i) (rowBytes key first blankTicks))
+
+-- ---- strike
+
+-- Whether no desk has row i open.
+unfoldable pub noneHasOpen : List ℕ → ℕ → Bool
+noneHasOpen s i = all deskCount (λ d. isClosed s d || not (eqb (deskRow s d) i))
+
+-- "a free row is all zero": row i becomes zeros, and the header counts one less.
+unfoldable pub strikeAt : ℕ → List ℕ → List ℕ
+strikeAt i s = counting (used s - 1) (put s (rowAt i) (replicate rowSize 0))
 
 -- ---- open, drop
 
@@ -137,7 +159,7 @@ abbrev pub gapOr : List ℕ → ℕ → Option ℕ → List ℕ → List ℕ
 gapOr s i none rest = rest
 gapOr s i (some at) rest = 0 ∷ numberAtPosition s (rowAt i) at ∷ i ∷ []
 
--- The first gap of n rows from row i on.
+-- The first gap of n rows from row i on, of which the free ones are passed.
 unfoldable pub gapFrom : List ℕ → ℕ → ℕ → List ℕ
 gapFrom s i zero = 0 ∷ []
-gapFrom s i (suc n) = gapOr s i (least (missing (ticksOf s (rowAt i)))) (gapFrom s (suc i) n)
+gapFrom s i (suc n) = cond (isUsed s i) (gapOr s i (least (missing (ticksOf s (rowAt i)))) (gapFrom s (suc i) n)) (gapFrom s (suc i) n)

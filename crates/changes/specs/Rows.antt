@@ -7,7 +7,7 @@ use lib.Dec.{eqb}
 use lib.ListN.{getD, set, replicate}
 use Rattle.model.specs.Positions.{rowLength, Positions}
 use Rattle.octets.specs.Octets.{bytesOf, part}
-use Rattle.sheet.specs.Sheet.{keySize, firstSize, ticksAt, ticksSize, byteBits, keyAt, firstNumberAt}
+use Rattle.sheet.specs.Sheet.{usedWordSize, usedWord, keySize, firstSize, ticksAt, ticksSize, byteBits, keyAt, firstNumberAt}
 use Rattle.sheet.specs.declared.Row.{Row}
 
 -- "Position i is bit i mod 8, counted from the lowest, of tick byte i div 8." The row or the copy stands at offset a.
@@ -36,9 +36,9 @@ table (suc n) f = f 0 ∷ table n (λ i. f (suc i))
 unfoldable pub ticksOf : List ℕ → ℕ → Positions
 ticksOf s a = table rowLength (tickedAt s a)
 
--- "A row is 140 bytes: key (8), first number (4), ticks (128)."
+-- A row is 144 bytes: the used word, 1 (4), key (8), first number (4), ticks (128).
 unfoldable pub rowBytes : (key first : ℕ) → List ℕ → List ℕ
-rowBytes key first ticks = bytesOf keySize key ++ bytesOf firstSize first ++ ticks
+rowBytes key first ticks = bytesOf usedWordSize usedWord ++ bytesOf keySize key ++ bytesOf firstSize first ++ ticks
 
 -- "a row starts from a blank map of 128 zero bytes"
 unfoldable pub blankTicks : List ℕ

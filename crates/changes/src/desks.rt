@@ -31,7 +31,7 @@ ghost use Prim.Native.Nat.{_+_, _≤_, _<_};
 ghost use lib.ListN.{length};
 ghost use Rattle.octets.specs.Octets.{put};
 ghost use Rattle.sheet.specs.Sheet.{sheetSize, rowsStart, rowCount, deskCount, deskRow, isClosed};
-ghost use Rattle.changes.specs.Bytes.{headerBytes, freshSheet, openAt, clearDesk, isCurrent, stored, saveAt};
+ghost use Rattle.changes.specs.Bytes.{headerBytes, freshSheet, noneHasOpen, openAt, clearDesk, isCurrent, stored, saveAt};
 ghost use Rattle.sheet.specs.Words.{answerWords};
 
 // Makes a slice of a sheet's length a fresh sheet.
@@ -62,6 +62,26 @@ pub fn is_closed(s: &[u8], d: usize) -> bool
     ensures { λ r. ⌜ r ≡ isClosed (now (s .entry)) d ⌝ }
 {
     s[DESKS_AT + DESK * d] == CLOSED
+}
+
+// Whether no desk has the row open.
+pub fn is_idle(s: &[u8], row: usize) -> bool
+    requires { ⌜ length (now s) ≡ sheetSize ⌝ }
+    ensures { λ r. ⌜ r ≡ noneHasOpen (now (s .entry)) row ⌝ }
+{
+    let mut idle = true;
+    for d in 0..DESKS {
+        idle &= is_closed(s, d) | (desk_row(s, d) != row);
+    }
+    idle
+}
+
+// The row that desk d names.
+fn desk_row(s: &[u8], d: usize) -> usize
+    requires { ⌜ (length (now s) ≡ sheetSize) × (d < deskCount) ⌝ }
+    ensures { λ r. ⌜ r ≡ deskRow (now (s .entry)) d ⌝ }
+{
+    s[DESKS_AT + DESK * d + DESK_ROW_AT] as usize
 }
 
 // Opens a row at desk d: both copies become the row.

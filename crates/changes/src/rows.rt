@@ -1,25 +1,31 @@
-// Rows: as values, by their key, and enrolled.
+// Rows: as values, by their key, enrolled and struck.
+use octets::clear;
 use octets::write_be;
 use sheet::FIRST;
 use sheet::FIRST_AT;
 use sheet::KEY;
+use sheet::KEY_AT;
 use sheet::NUMBER;
 use sheet::ROW;
+use sheet::ROWS;
 use sheet::ROWS_AT;
 use sheet::Row;
 use sheet::TICKS;
 use sheet::TICKS_AT;
+use sheet::USED;
 use sheet::USED_AT;
+use sheet::USED_WORD;
 use sheet::right::first_at;
+use sheet::right::is_used;
 use sheet::right::key_at;
 use sheet::right::rows_used;
 ghost use mathlib.Core.Path.{_≡_};
 ghost use Prim.Native.Nat.{_+_, _≤_, _<_};
 ghost use lib.ListN.{length};
 ghost use Rattle.octets.specs.Octets.{part, put};
-ghost use Rattle.sheet.specs.Sheet.{sheetSize, rowSize, rowCount, ticksSize, used, Sized};
+ghost use Rattle.sheet.specs.Sheet.{sheetSize, rowSize, rowCount, ticksSize, used};
 ghost use Rattle.changes.specs.Rows.{rowBytes, rowValueAt, blankRow};
-ghost use Rattle.changes.specs.Bytes.{rowWith, hasKey, enrolAt};
+ghost use Rattle.changes.specs.Bytes.{isRowOf, rowWith, hasKey, freeRow, enrolAt, strikeAt};
 
 // A row with no ticks: the blank map is an array of zeros.
 pub fn blank_row(key: u64, first: u32) -> Row
@@ -60,7 +66,8 @@ pub fn write_row(s: &mut [u8], a: usize, row: Row)
     ensures { λ _. ⌜ now (s .exit) ≡ put (now (s .entry)) a (rowBytes (row .key) (row .first) (row .ticks)) ⌝ }
 {
     let ticks = row.ticks;
-    write_be(s, a, KEY, row.key);
+    write_be(s, a, USED_WORD, USED);
+    write_be(s, a + KEY_AT, KEY, row.key);
     write_be(s, a + FIRST_AT, FIRST, row.first as u64);
     write_ticks(s, a + TICKS_AT, &ticks);
 }
@@ -74,35 +81,69 @@ fn write_ticks(s: &mut [u8], a: usize, ticks: &[u8])
     }
 }
 
-// The used row with the key, or the count of used rows where there is none.
+// The used row with the key, or 32 where there is none.
 pub fn find_row(s: &[u8], key: u64) -> usize
-    requires { ⌜ Sized (now s) ⌝ }
+    requires { ⌜ length (now s) ≡ sheetSize ⌝ }
     ensures { λ r. ⌜ r ≡ rowWith (now (s .entry)) key ⌝ }
 {
-    let used = rows_used(s);
-    for i in 0..used {
-        if key_at(s, ROWS_AT + ROW * i) == key {
+    for i in 0..ROWS {
+        if is_row_of(s, key, i) {
             return i;
         }
     }
-    used
+    ROWS
+}
+
+// Whether row i is used and has the key.
+fn is_row_of(s: &[u8], key: u64, i: usize) -> bool
+    requires { ⌜ (length (now s) ≡ sheetSize) × (i < rowCount) ⌝ }
+    ensures { λ r. ⌜ r ≡ isRowOf (now (s .entry)) key i ⌝ }
+{
+    if !is_used(s, i) {
+        return false;
+    }
+    key_at(s, ROWS_AT + ROW * i) == key
 }
 
 // Whether a used row has the key.
 pub fn has_key(s: &[u8], key: u64) -> bool
-    requires { ⌜ Sized (now s) ⌝ }
+    requires { ⌜ length (now s) ≡ sheetSize ⌝ }
     ensures { λ r. ⌜ r ≡ hasKey (now (s .entry)) key ⌝ }
 {
-    find_row(s, key) < rows_used(s)
+    find_row(s, key) < ROWS
 }
 
-// Enrols a stream in the next row, and answers the row.
-pub fn enrol_row(s: &mut [u8], key: u64, first: u32) -> u32
-    requires { ⌜ (length (now s) ≡ sheetSize) × (used (now s) < rowCount) ⌝ }
-    ensures { λ r. ⌜ (r ≡ used (now (s .entry))) × (now (s .exit) ≡ enrolAt (used (now (s .entry))) key first (now (s .entry))) ⌝ }
+// The lowest free row, or 32 where there is none.
+pub fn free_row(s: &[u8]) -> usize
+    requires { ⌜ length (now s) ≡ sheetSize ⌝ }
+    ensures { λ r. ⌜ r ≡ freeRow (now (s .entry)) ⌝ }
 {
-    let row = rows_used(s);
+    for i in 0..ROWS {
+        if !is_used(s, i) {
+            return i;
+        }
+    }
+    ROWS
+}
+
+// Enrols a stream in the lowest free row, and answers the row.
+pub fn enrol_row(s: &mut [u8], key: u64, first: u32) -> u32
+    requires { ⌜ (length (now s) ≡ sheetSize) × (freeRow (now s) < rowCount) ⌝ }
+    ensures { λ r. ⌜ (r ≡ freeRow (now (s .entry))) × (now (s .exit) ≡ enrolAt (freeRow (now (s .entry))) key first (now (s .entry))) ⌝ }
+{
+    let row = free_row(s);
+    let used = rows_used(s) as u64;
     write_row(s, ROWS_AT + ROW * row, blank_row(key, first));
-    write_be(s, USED_AT, NUMBER, row as u64 + 1);
+    write_be(s, USED_AT, NUMBER, used + 1);
     row as u32
+}
+
+// Strikes a row: it is all zero, and the header counts one less.
+pub fn strike_row(s: &mut [u8], row: usize)
+    requires { ⌜ (length (now s) ≡ sheetSize) × (row < rowCount) × (0 < used (now s)) ⌝ }
+    ensures { λ _. ⌜ now (s .exit) ≡ strikeAt row (now (s .entry)) ⌝ }
+{
+    let used = rows_used(s) as u64;
+    clear(s, ROWS_AT + ROW * row, ROW);
+    write_be(s, USED_AT, NUMBER, used - 1);
 }

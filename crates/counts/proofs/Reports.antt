@@ -2,14 +2,14 @@
 use Prim.Native.Nat.{ℕ, suc, _+_, _-_, _≤_, _<_}
 use native.Mathlib.Numerals.{add-one}
 use native.Mathlib.Omega.{arith}
-use mathlib.Core.Bool.{Bool, true, false, not}
+use mathlib.Core.Bool.{Bool, true, false, cond, not}
 use mathlib.Core.List.{List, [], _∷_}
 use mathlib.Core.Option.{none, some}
 use mathlib.Core.Path.{_≡_, refl, sym, ap}
 use borrow.Author.Tests.{not-true, not-false}
 use Rattle.model.specs.Positions.{rowLength, size, missing, least}
 use Rattle.model.proofs.Counts.{least-none}
-use Rattle.sheet.specs.Sheet.{rowAt}
+use Rattle.sheet.specs.Sheet.{rowAt, isUsed}
 use Rattle.changes.specs.Rows.{tickedAt, ticksOf}
 use Rattle.changes.specs.Bytes.{lowest, pastHighest, numberAtPosition, reportWords, gapFrom}
 use Rattle.changes.proofs.Scans.{Each, lowest-holds, lowest-fails, top-of}
@@ -58,17 +58,40 @@ module _ (s : List ℕ) (a : ℕ) where
 
 -- ---- the first gap
 
-module _ (s : List ℕ) (i u : ℕ) where
-  left : i < u → u - i ≡ suc (u - (i + 1))
-  left l = omega arith
+-- the end of the ticks of row i, 0 where it is free
+abbrev pub rowEnd : List ℕ → ℕ → ℕ
+rowEnd s i = cond (isUsed s i) (pastHighest rowLength (tickedAt s (rowAt i))) 0
 
-  pub gap-next : i < u → least (missing (ticksOf s (rowAt i))) ≡ none → gapFrom s i (u - i) ≡ gapFrom s (i + 1) (u - (i + 1))
-  unfolding gapFrom
-  gap-next l e = rw (left l, e) (ap (λ (k : ℕ). gapFrom s k (u - (i + 1))) (sym (add-one i)))
+pub row-end-within : (s : List ℕ) (i : ℕ) → rowEnd s i ≤ rowLength
+row-end-within s i = by (isUsed s i)
+  where
+    by : (b : Bool) → cond b (pastHighest rowLength (tickedAt s (rowAt i))) 0 ≤ rowLength
+    by true = end-within s (rowAt i)
+    by false = omega arith
 
-  pub gap-here : (at : ℕ) → i < u → least (missing (ticksOf s (rowAt i))) ≡ some at → gapFrom s i (u - i) ≡ 0 ∷ numberAtPosition s (rowAt i) at ∷ i ∷ []
+module _ (s : List ℕ) (i u : ℕ) (l : i < u) where
+  left : u - i ≡ suc (u - (i + 1))
+  left = omega arith
+
+  -- a row that is free, or ticked up to its end, is passed
+  pub gap-next : Each true (tickedAt s (rowAt i)) (rowEnd s i) → gapFrom s i (u - i) ≡ gapFrom s (i + 1) (u - (i + 1))
   unfolding gapFrom
-  gap-here at l e = rw (left l, e)
+  gap-next = by (isUsed s i) refl
+    where
+      by : (b : Bool) → isUsed s i ≡ b → Each true (tickedAt s (rowAt i)) (rowEnd s i) → gapFrom s i (u - i) ≡ gapFrom s (i + 1) (u - (i + 1))
+      by true e h = rw (left, e, row-whole s (rowAt i) (rw e at h)) (ap (λ (k : ℕ). gapFrom s k (u - (i + 1))) (sym (add-one i)))
+      by false e h = rw (left, e) (ap (λ (k : ℕ). gapFrom s k (u - (i + 1))) (sym (add-one i)))
+
+  -- an unticked position below its end is the gap
+  pub gap-here : (at : ℕ) → at < rowEnd s i → Each true (tickedAt s (rowAt i)) at → tickedAt s (rowAt i) at ≡ false
+      → gapFrom s i (u - i) ≡ 0 ∷ numberAtPosition s (rowAt i) at ∷ i ∷ []
+  unfolding gapFrom
+  gap-here at = by (isUsed s i) refl
+    where
+      by : (b : Bool) → isUsed s i ≡ b → at < rowEnd s i → Each true (tickedAt s (rowAt i)) at → tickedAt s (rowAt i) at ≡ false
+          → gapFrom s i (u - i) ≡ 0 ∷ numberAtPosition s (rowAt i) at ∷ i ∷ []
+      by true e b h n = rw (left, e, row-gap s (rowAt i) at (rw e at b) h n)
+      by false e b h n = absurd (omega (arith, rw e at b))
 
 pub gap-none : (s : List ℕ) (i : ℕ) → gapFrom s i 0 ≡ 0 ∷ []
 unfolding gapFrom

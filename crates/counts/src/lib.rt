@@ -3,19 +3,20 @@ use changes::ticks::is_ticked;
 use sheet::BYTE_BITS;
 use sheet::GapAnswer;
 use sheet::ROW;
+use sheet::ROWS;
 use sheet::ROWS_AT;
 use sheet::ReportAnswer;
 use sheet::TICKS;
 use sheet::TICKS_AT;
 use sheet::right::first_at;
+use sheet::right::is_used;
 use sheet::right::key_at;
-use sheet::right::rows_used;
 ghost use mathlib.Core.Path.{_≡_};
-ghost use mathlib.Core.Bool.{not};
+ghost use mathlib.Core.Bool.{not, cond};
 ghost use Prim.Native.Nat.{_+_, _≤_, _<_};
 ghost use lib.ListN.{length};
 ghost use Rattle.model.specs.Positions.{rowLength, size};
-ghost use Rattle.sheet.specs.Sheet.{sheetSize, rowSize, rowCount, rowAt, used, Sized};
+ghost use Rattle.sheet.specs.Sheet.{sheetSize, rowSize, rowCount, rowAt, isUsed};
 ghost use Rattle.changes.specs.Rows.{tickedAt, ticksOf};
 ghost use Rattle.changes.specs.Bytes.{lowest, pastHighest, numberAtPosition, reportWords, gapFrom};
 ghost use Rattle.sheet.specs.Words.{reportAnswerWords, gapWords};
@@ -148,16 +149,26 @@ pub fn row_report(s: &[u8], row: usize) -> ReportAnswer
     }
 }
 
+// The end of the ticks of the row at place `row`, 0 where the place is free.
+fn row_end(s: &[u8], row: usize) -> usize
+    requires { ⌜ (length (now s) ≡ sheetSize) × (row < rowCount) ⌝ }
+    ensures { λ r. ⌜ r ≡ cond (isUsed (now (s .entry)) row) (pastHighest rowLength (tickedAt (now (s .entry)) (rowAt row))) 0 ⌝ }
+{
+    if !is_used(s, row) {
+        return 0;
+    }
+    ticks_end(s, ROWS_AT + ROW * row)
+}
+
 // The first missing number and its row: rows in order, positions in order.
 pub fn first_gap(s: &[u8]) -> GapAnswer
-    requires { ⌜ Sized (now s) ⌝ }
-    ensures { λ r. ⌜ gapWords r ≡ gapFrom (now (s .entry)) 0 (used (now (s .entry))) ⌝ }
+    requires { ⌜ length (now s) ≡ sheetSize ⌝ }
+    ensures { λ r. ⌜ gapWords r ≡ gapFrom (now (s .entry)) 0 rowCount ⌝ }
 {
-    let used = rows_used(s);
     let mut gap = GapAnswer::Nothing;
-    'rows: for row in 0..used {
+    'rows: for row in 0..ROWS {
         let a = ROWS_AT + ROW * row;
-        let end = ticks_end(s, a);
+        let end = row_end(s, row);
         for i in 0..end {
             if !is_ticked(s, a, i) {
                 gap = GapAnswer::Gap {

@@ -1,9 +1,10 @@
 -- Each call on the layout of a well-formed book is the model's call, laid out. Assumes nothing.
-use Prim.Native.Nat.{ℕ, _+_, _<_, _≤_}
-use native.Mathlib.Nat.{zero-add}
+use Prim.Native.Nat.{ℕ, zero, suc, _+_, _-_, _<_, suc-le-suc}
+use native.Mathlib.Nat.{zero-add, zero-lt-suc}
 use native.Mathlib.Numerals.{add-one}
 use native.Mathlib.Omega.{arith}
-use mathlib.Core.Bool.{Bool, true, false, cond, not, Bool·not-not, false≢true}
+use mathlib.Core.Bool.{Bool, true, false, cond, not, _&&_, _||_, Bool·not-not, false≢true}
+use mathlib.Core.Logic.{_≢_}
 use mathlib.Core.List.{List, [], _∷_}
 use mathlib.Core.Path.{_≡_, refl, sym, ap, _∙_}
 use lib.Dec.{eqb, ltb, lit<}
@@ -13,27 +14,28 @@ use borrow.Author.Tests.{ltb-true, eqb-true, eqb-false, not-false}
 use Rattle.refusals.specs.Judge.{Rule, _when_, verdict, judge}
 use Rattle.refusals.proofs.Judged.{NoneHolds, Numbered, verdict-none}
 use Rattle.model.specs.Positions.{Positions, noTicks, same, position}
-use Rattle.model.specs.Book.{Place, free, row, Desk, closed, working, Book, place, desk, putPlace, putDesk, isFree, ticksOf, withTicks, isDesk, isOpen, hasKey, placeWith, allUsed, positionAt}
-use Rattle.model.specs.Step.{Call, Enrol, Find, Open, Mark, Save, Drop, done, refused, answerWords, Reply, reply, refusals, effect, afterRefusal, step}
+use Rattle.model.specs.Book.{Place, free, row, Desk, closed, working, Book, place, desk, putPlace, putDesk, isFree, ticksOf, withTicks, isDesk, isOpen, hasKey, placeWith, allUsed, lowestFree, anyHasOpen, positionAt}
+use Rattle.model.specs.Step.{Find, RowReport, FirstGap, Call, Enrol, Ask, Open, Mark, Save, Drop, Strike, done, refused, answerWords, Reply, reply, refusals, asked, effect, afterRefusal, step}
 use Rattle.model.specs.WellFormed.{WellFormed, PlaceOk}
-use Rattle.model.specs.Counts.{rowReport, firstGap}
-use Rattle.model.proofs.Basics.{same-true, same-refl}
+use Rattle.model.proofs.Basics.{same-true, same-refl, row-in, has-row, not-open}
+use Rattle.model.proofs.Laws.{lowest-in}
 use Rattle.model.proofs.Basics as Basics
 use Rattle.model.proofs.Steps.{markVerdict, mark-step, save-step, mark-closed, save-closed, mark-no-desk, save-no-desk}
-use Rattle.octets.specs.Octets.{bytesOf, part, put, sameAt}
+use Rattle.octets.specs.Octets.{part, put, all, sameAt}
+use Rattle.octets.proofs.Laws.{and-true, and-assoc}
 use Rattle.octets.proofs.Parts.{same-part, part-same}
-use Rattle.sheet.specs.Sheet.{sheetSize, rowSize, rowCount, openedAt, workedAt, deskCount, headerNumberSize, usedAt, rowAt, deskAt, used, isClosed, right}
+use Rattle.sheet.specs.Sheet.{sheetSize, rowSize, rowCount, openedAt, workedAt, deskCount, rowAt, deskAt, used, isUsed, deskRow, isClosed, right}
 use Rattle.changes.specs.Rows.{rowBytes, blankTicks}
-use Rattle.changes.specs.Bytes.{Outcome, judged, rowWith, enrolAt, openDesk, openAt, clearDesk, markDesk, isCurrent, stored, saveAt}
-use Rattle.verdicts.specs.Calls.{enrolCall, findCall, openCall, dropCall, markCall, saveCall, reportCall, gapCall}
+use Rattle.changes.specs.Bytes.{Outcome, judged, isRowOf, rowWith, freeRow, counting, enrolAt, noneHasOpen, strikeAt, openDesk, openAt, clearDesk, markDesk, isCurrent, stored, saveAt}
+use Rattle.verdicts.specs.Calls.{enrolCall, findCall, openCall, dropCall, markCall, saveCall, reportCall, gapCall, strikeCall}
 use Rattle.changes.specs.Bytes as Bytes
 use Rattle.changes.proofs.Puts.{put-same}
 use Rattle.changes.proofs.Calls.{refuses}
-use Rattle.layout.specs.Layout.{bitsValue, tickBytes, placeBytes, deskBytes, countUsed, layout, call, report, laidOut}
+use Rattle.layout.specs.Layout.{bitsValue, tickBytes, placeBytes, deskBytes, countUsed, layout, call, laidOut}
 use Rattle.layout.proofs.Rows.{length-place, row-same, mark-law}
 use Rattle.layout.proofs.Places.{header-put, worked-put, Shape, shape, length-layout, row-part, desk-put, row-put, desk-put-in, closed-law}
-use Rattle.layout.proofs.Used.{lowest-free, all-used, count-same, count-next, has-law, find-law, report-law, gap-law}
-use Rattle.layout.proofs.Right.{n, in-order, few, used-is, row-used, row-read, OpenDesk, open-read, layout-right}
+use Rattle.layout.proofs.Used.{Of, lowest-free, lowest-is-free, all-used, count-same, count-more, count-less, has-law, find-law, report-law, gap-law}
+use Rattle.layout.proofs.Right.{n, used-is, row-used, words, row-is, row-read, OpenDesk, open-read, layout-right}
 
 -- ---- judging
 
@@ -45,12 +47,15 @@ not-right s rows outcome e = refuses rows outcome s 20 (ap not e) (lit< tt)
 numbered : (c : Call) (b : Book) → Numbered (refusals c b)
 unfolding refusals
 numbered (Enrol key first) b = (lit< tt, (lit< tt, (lit< tt, (lit< tt, tt))))
-numbered (Find key) b = (lit< tt, (lit< tt, tt))
+numbered (Ask (Find key)) b = (lit< tt, (lit< tt, tt))
+numbered (Ask (RowReport r)) b = (lit< tt, tt)
+numbered (Ask FirstGap) b = tt
 numbered (Open d r) b = (lit< tt, (lit< tt, (lit< tt, tt)))
 numbered (Mark true d n) b = (lit< tt, (lit< tt, (lit< tt, (lit< tt, tt))))
 numbered (Mark false d n) b = (lit< tt, (lit< tt, (lit< tt, (lit< tt, tt))))
 numbered (Save d) b = (lit< tt, (lit< tt, (lit< tt, tt)))
 numbered (Drop d) b = (lit< tt, (lit< tt, tt))
+numbered (Strike r) b = (lit< tt, (lit< tt, tt))
 
 both : (x y : Bool) → (x ≡ true → y ≡ true) → (y ≡ true → x ≡ true) → x ≡ y
 both true y f g = sym (f refl)
@@ -65,6 +70,29 @@ set-twice t u (row key first ticks) = refl
 own-ticks : (p : Place) → withTicks (ticksOf p) p ≡ p
 own-ticks free = refl
 own-ticks (row key first ticks) = refl
+
+-- whether no desk has row r open, desk by desk
+abbrev hasOpen : ℕ → Desk → Bool
+hasOpen r closed = false
+hasOpen r (working q opened worked) = eqb q r
+
+all-front : (n : ℕ) (p : ℕ → Bool) → all (suc n) p ≡ (p 0 && all n (λ i. p (suc i)))
+unfolding all
+all-front zero p = sym (and-true (p 0))
+all-front (suc n) p = rw (all-front n p) (sym (and-assoc (p 0) _ _))
+
+none-law : (r : ℕ) (ds : List Desk) (p : ℕ → Bool) → ((d : ℕ) → d < length ds → p d ≡ not (hasOpen r (getD ds d closed)))
+    → all (length ds) p ≡ not (anyHasOpen r ds)
+unfolding all anyHasOpen
+none-law r [] p h = refl
+none-law r (closed ∷ ds) p h =
+    all-front (length ds) p ∙ rw (h 0 (zero-lt-suc _)) (none-law r ds (λ d. p (suc d)) (λ d l. h (suc d) (suc-le-suc l)))
+none-law r (working q opened worked ∷ ds) p h =
+    all-front (length ds) p ∙ rw (h 0 (zero-lt-suc _), none-law r ds (λ d. p (suc d)) (λ d l. h (suc d) (suc-le-suc l))) (by (eqb q r))
+  where
+    by : (x : Bool) → (not x && not (anyHasOpen r ds)) ≡ not (x || anyHasOpen r ds)
+    by true = refl
+    by false = refl
 
 module _ (b : Book) (ok : WellFormed b) where
   abbrev s : List ℕ
@@ -101,21 +129,37 @@ module _ (b : Book) (ok : WellFormed b) where
 
   -- ---- enrol, find
 
+  -- what the rows say of a key
+  of-key : (key : ℕ) → Of key (isRowOf s key) (b .places)
+  unfolding isRowOf
+  of-key key =
+      let lr = ok .places-count in
+      record {
+        of-row = λ i k first ticks e.
+            let l = row-in (b .places) i e in
+            rw (row-used b ok i (omega arith), e, row-read b ok i k first ticks e .key-is);
+        of-free = λ i l e. rw (row-used b ok i (omega arith), e);
+      }
+
   has-key : (key : ℕ) → Bytes.hasKey s key ≡ hasKey key (b .places)
   unfolding rowWith
-  has-key key = rw (used-is b ok) (has-law (in-order b ok) key _ (λ i k first ticks e. rw (row-read b ok i k first ticks e .key-is)))
+  has-key key = rw (ok .places-count) at (has-law (b .places) key (isRowOf s key) (of-key key))
 
   row-with : (key : ℕ) → hasKey key (b .places) ≡ true → rowWith s key ≡ placeWith key (b .places)
   unfolding rowWith
-  row-with key h = rw (used-is b ok) (find-law (in-order b ok) key _ (λ i k first ticks e. rw (row-read b ok i k first ticks e .key-is)) h)
+  row-with key h = rw (ok .places-count) at (find-law (b .places) key (isRowOf s key) (of-key key) h)
 
-  full : eqb (used s) rowCount ≡ allUsed (b .places)
-  full = rw (used-is b ok, all-used (in-order b ok), ok .places-count)
+  free-row : freeRow s ≡ lowestFree (b .places)
+  unfolding freeRow
+  free-row = rw (ok .places-count) at (lowest-free (b .places) (isUsed s) (words b ok))
 
-  pub find-call : (key : ℕ) → findCall key s ≡ laidOut (call (Find key) b)
-  unfolding findCall refusals effect afterRefusal judge
+  full : eqb (freeRow s) rowCount ≡ allUsed (b .places)
+  full = rw (free-row, all-used (b .places), ok .places-count)
+
+  pub find-call : (key : ℕ) → findCall key s ≡ laidOut (call (Ask (Find key)) b)
+  unfolding findCall refusals effect asked afterRefusal judge
   find-call key =
-      by-rows (Find key) _ _ (rw (has-key key)) (λ _. refl) (λ v. rw (row-with key (not-false _ (v .1 .0))))
+      by-rows (Ask (Find key)) _ _ (rw (has-key key)) (λ _. refl) (λ v. rw (row-with key (not-false _ (v .1 .0))))
 
   -- a row with no ticks
   blank : (key first : ℕ) → rowBytes key first blankTicks ≡ placeBytes (row key first noTicks)
@@ -130,28 +174,67 @@ module _ (b : Book) (ok : WellFormed b) where
   desk-same ps qs closed h = refl
   desk-same ps qs (working r opened worked) h = rw (h r opened worked opened refl, h r opened worked worked refl)
 
-  enrol-at : (key first : ℕ) → n b ok < rowCount → enrolAt (n b ok) key first s ≡ layout (putPlace (n b ok) (row key first noTicks) b)
-  unfolding enrolAt layout
-  enrol-at key first l =
-      let r = n b ok in
-      let p = row key first noTicks in
-      let lr = ok .places-count in
+  -- a place filled, or freed, that no desk has open; the header counts m rows
+  place-put : (r m : ℕ) (p : Place) → r < rowCount → ((d q : ℕ) (opened worked : Positions) → desk b d ≡ working q opened worked → q ≢ r)
+      → m ≡ countUsed (set (b .places) r p) → counting m (put s (rowAt r) (placeBytes p)) ≡ layout (putPlace r p b)
+  unfolding layout
+  place-put r m p l apart e =
       let same-desks : (d : ℕ) → deskBytes (b .places) (desk b d) ≡ deskBytes (set (b .places) r p) (desk b d) = λ d.
-      desk-same (b .places) (set (b .places) r p) (desk b d) (λ q opened worked t e.
-      let m = open-read b ok d q opened worked e .row-there in
-      ap (withTicks t) (sym (getD-set-other (b .places) r q p free (λ z. omega arith)))) in
-      let count : r + 1 ≡ countUsed (set (b .places) r p) = add-one r ∙ sym (count-next (in-order b ok) key first noTicks (omega arith)) in
-      ap (λ (x : List ℕ). put (put s (rowAt r) x) usedAt (bytesOf headerNumberSize (r + 1))) (blank key first)
-      ∙ ap (λ (x : List ℕ). put x usedAt (bytesOf headerNumberSize (r + 1))) (row-put b (shape ok) r p l same-desks)
-      ∙ header-put r (r + 1) _ _
-      ∙ rw count
+      desk-same (b .places) (set (b .places) r p) (desk b d) (λ q opened worked t x.
+      ap (withTicks t) (sym (getD-set-other (b .places) r q p free (apart d q opened worked x)))) in
+      ap (counting m) (row-put b (shape ok) r p l same-desks) ∙ header-put (n b ok) m _ _ ∙ rw e
+
+  enrol-at : (key first : ℕ) → lowestFree (b .places) < rowCount
+      → enrolAt (lowestFree (b .places)) key first s ≡ layout (putPlace (lowestFree (b .places)) (row key first noTicks) b)
+  unfolding enrolAt
+  enrol-at key first l =
+      let r = lowestFree (b .places) in
+      let lr = ok .places-count in
+      let is-free = lowest-is-free (b .places) in
+      let more = count-more (b .places) r key first noTicks (omega arith) is-free in
+      ap (λ (x : List ℕ). counting (used s + 1) (put s (rowAt r) x)) (blank key first)
+      ∙ place-put r (used s + 1) (row key first noTicks) l
+      (λ d q opened worked x e.
+      let o = open-read b ok d q opened worked x in
+      false≢true (sym (ap isFree (o .place-is)) ∙ ap (λ z. isFree (place b z)) e ∙ is-free))
+      (rw (used-is b ok, add-one, more))
 
   pub enrol-call : (key first : ℕ) → enrolCall key first s ≡ laidOut (call (Enrol key first) b)
   unfolding enrolCall refusals effect afterRefusal judge
   enrol-call key first =
       by-rows (Enrol key first) _ _ (rw (has-key key, full)) (λ _. refl) (λ v.
-      let m : n b ok ≡ rowCount → ⊥ = eqb-false _ _ (rw (used-is b ok) at (full ∙ v .1 .1 .1 .0)) in
-      rw (used-is b ok, lowest-free (in-order b ok)) (ap (λ (x : List ℕ). (0 ∷ n b ok ∷ [], x)) (enrol-at key first (omega (arith, few b ok)))))
+      let lr = ok .places-count in
+      let m : lowestFree (b .places) ≡ rowCount → ⊥ = eqb-false _ _ (rw free-row at (full ∙ v .1 .1 .1 .0)) in
+      rw free-row (ap (λ (x : List ℕ). (0 ∷ lowestFree (b .places) ∷ [], x)) (enrol-at key first (omega (arith, lowest-in (b .places))))))
+
+  -- ---- strike
+
+  none-open : (r : ℕ) → noneHasOpen s r ≡ not (anyHasOpen r (b .desks))
+  unfolding noneHasOpen
+  none-open r =
+      rw (ok .desks-count) at (none-law r (b .desks) (λ d. isClosed s d || not (eqb (deskRow s d) r)) (λ d l. by d (desk b d) refl))
+    where
+      by : (d : ℕ) (x : Desk) → desk b d ≡ x → (isClosed s d || not (eqb (deskRow s d) r)) ≡ not (hasOpen r (desk b d))
+      by d closed q = rw (closed-law b (shape ok) d, q)
+      by d (working k opened worked) q = rw (closed-law b (shape ok) d, q, open-read b ok d k opened worked q .row-named)
+
+  strike-at : (r : ℕ) → isFree (place b r) ≡ false → anyHasOpen r (b .desks) ≡ false → strikeAt r s ≡ layout (putPlace r free b)
+  unfolding strikeAt placeBytes
+  strike-at r f h =
+      let lr = ok .places-count in
+      let there = has-row (place b r) f in
+      let less = count-less (b .places) r f in
+      place-put r (used s - 1) free (omega (arith, row-in (b .places) r (there .is)))
+      (λ d q opened worked x. not-open (b .desks) r d q opened worked h x)
+      (rw (used-is b ok) (omega (arith, less)))
+
+  pub strike-call : (r : ℕ) → strikeCall r s ≡ laidOut (call (Strike r) b)
+  unfolding strikeCall refusals effect afterRefusal judge
+  strike-call r =
+      by-rows (Strike r) _ _
+      (rw (row-is b ok r, Bool·not-not, none-open r, Bool·not-not))
+      (λ _. refl)
+      (λ v. ap (λ (x : List ℕ). (0 ∷ [], x)) (strike-at r (v .0) (v .1 .0)))
 
   -- ---- open, drop
 
@@ -167,11 +250,12 @@ module _ (b : Book) (ok : WellFormed b) where
   unfolding openCall refusals effect afterRefusal judge
   open-call d r =
       by-rows (Open d r) _ _
-      (rw (used-is b ok, row-used b ok r, Bool·not-not, closed-law b (shape ok) d, Bool·not-not))
+      (rw (row-is b ok r, Bool·not-not, closed-law b (shape ok) d, Bool·not-not))
       (λ _. refl)
       (λ v.
-      let below : r < n b ok = ltb-true _ _ (row-used b ok r ∙ ap not (v .1 .0)) in
-      ap (λ (x : List ℕ). (0 ∷ [], x)) (open-at d r (ltb-true _ _ (not-false _ (v .0))) (omega (arith, few b ok))))
+      let lr = ok .places-count in
+      let below = row-in (b .places) r (has-row (place b r) (v .1 .0) .is) in
+      ap (λ (x : List ℕ). (0 ∷ [], x)) (open-at d r (ltb-true _ _ (not-false _ (v .0))) (omega arith)))
 
   clear-law : (x : Book) → Shape x → (d : ℕ) → d < deskCount → clearDesk d (layout x) ≡ layout (putDesk d closed x)
   unfolding clearDesk deskBytes
@@ -222,8 +306,8 @@ module _ (b : Book) (ok : WellFormed b) where
 
     -- ---- save
 
-    row-is : part s (rowAt r) rowSize ≡ bytes (o .ticks)
-    row-is = row-part b (shape ok) r (omega (arith, o .row-there, few b ok)) ∙ ap placeBytes (o .place-is)
+    row-bytes : part s (rowAt r) rowSize ≡ bytes (o .ticks)
+    row-bytes = row-part b (shape ok) r (o .row-there) ∙ ap placeBytes (o .place-is)
 
     -- the bytes are compared, and so are the sets
     same-law : isCurrent d s ≡ same (ticksOf (place b r)) opened
@@ -231,19 +315,16 @@ module _ (b : Book) (ok : WellFormed b) where
         rw (o .row-named, o .place-is)
         (both (sameAt s (rowAt r) s (deskAt d + openedAt) rowSize) (same (o .ticks) opened)
         (λ e.
-        let same-bytes = same-part s (rowAt r) s (deskAt d + openedAt) rowSize (omega (arith, long, l, m)) (omega (arith, long, o .there)) e in
-        let sets = row-same (o .key) (o .first) (o .ticks) opened row-ok (o .row-ok opened (o .opened-set)) (sym row-is ∙ same-bytes ∙ o .opened-part) in
+        let same-bytes = same-part s (rowAt r) s (deskAt d + openedAt) rowSize (omega (arith, long, l)) (omega (arith, long, o .there)) e in
+        let sets = row-same (o .key) (o .first) (o .ticks) opened row-ok (o .row-ok opened (o .opened-set)) (sym row-bytes ∙ same-bytes ∙ o .opened-part) in
         ap (same (o .ticks)) (sym sets) ∙ same-refl (o .ticks))
-        (λ e. part-same s (rowAt r) s (deskAt d + openedAt) rowSize (row-is ∙ ap bytes (same-true (o .ticks) opened e) ∙ sym (o .opened-part))))
+        (λ e. part-same s (rowAt r) s (deskAt d + openedAt) rowSize (row-bytes ∙ ap bytes (same-true (o .ticks) opened e) ∙ sym (o .opened-part))))
       where
         long : length s ≡ sheetSize
         long = length-layout b (shape ok)
 
-        l : r < n b ok
+        l : r < rowCount
         l = o .row-there
-
-        m : n b ok ≤ rowCount
-        m = few b ok
 
         row-ok : PlaceOk (row (o .key) (o .first) (o .ticks))
         row-ok = rw (o .place-is) at (ok .place-ok r)
@@ -259,7 +340,7 @@ module _ (b : Book) (ok : WellFormed b) where
         desk-same (b .places) (set (b .places) r new) (desk b e) (λ j _ _ t _.
         sym (Basics.put-same free (withTicks t) (b .places) r new (set-twice t worked (place b r)) j)) in
         rw (o .row-named, o .worked-part, same-copy)
-        (row-put b (shape ok) r new (omega (arith, o .row-there, few b ok)) same-desks ∙ rw (count-same (b .places) r worked))
+        (row-put b (shape ok) r new (o .row-there) same-desks ∙ rw (count-same (b .places) r worked))
 
     stored-shape : Shape (putPlace r new b)
     stored-shape = record { rows-count = length-set (b .places) r new ∙ ok .places-count; desks-count = ok .desks-count }
@@ -287,15 +368,18 @@ module _ (b : Book) (ok : WellFormed b) where
 
   -- ---- row report, first gap
 
-  pub report-call : (r : ℕ) → reportCall r s ≡ laidOut (report (λ x. rowReport x r) b)
-  unfolding reportCall judged judge
-  report-call r = rw (layout-right b ok, used-is b ok, row-used b ok r) (by (place b r) refl)
-    where
-      by : (p : Place) → place b r ≡ p → judged ((20 when not true) ∷ (25 when not (not (isFree (place b r)))) ∷ []) (Bytes.reportWords s (rowAt r), s) s ≡ laidOut (report (λ x. rowReport x r) b)
-      by free e = rw e
-      by (row key first ticks) e = rw (e, report-law (row-read b ok r key first ticks e))
+  pub report-call : (r : ℕ) → reportCall r s ≡ laidOut (call (Ask (RowReport r)) b)
+  unfolding reportCall refusals effect asked afterRefusal judge
+  report-call r =
+      by-rows (Ask (RowReport r)) _ _ (rw (row-is b ok r, Bool·not-not)) (λ _. refl) (λ v.
+      let h = has-row (place b r) (v .0) in
+      ap (λ (x : List ℕ). (x, s)) (rw (h .is) (report-law (row-read b ok r (h .key) (h .first) (h .ticks) (h .is)))))
 
-  pub gap-call : gapCall s ≡ laidOut (report firstGap b)
-  unfolding gapCall judged judge
+  pub gap-call : gapCall s ≡ laidOut (call (Ask FirstGap) b)
+  unfolding gapCall refusals effect asked afterRefusal judge
   gap-call =
-      rw (layout-right b ok, used-is b ok, gap-law (in-order b ok) s 0 (λ i k first ticks e. rw zero-add (row-read b ok i k first ticks e)))
+      by-rows (Ask FirstGap) _ _ refl (λ _. refl) (λ v.
+      ap (λ (x : List ℕ). (x, s)) (rw (ok .places-count) at (gap-law (b .places) s 0 (record {
+        words-say = λ i l. rw zero-add (words b ok i l);
+        rows-say = λ i k first ticks e. rw zero-add (row-read b ok i k first ticks e);
+      }))))

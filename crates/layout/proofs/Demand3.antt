@@ -7,10 +7,9 @@ use mathlib.Core.Path.{_≡_, refl, sym, ap, _∙_}
 use Rattle.refusals.specs.Table.{numberOf}
 use Rattle.refusals.proofs.Laws.{number-positive}
 use Rattle.model.specs.Book.{Book, idle, fresh}
-use Rattle.model.specs.Step.{Call, Answer, done, atRow, refused, answerWords, step, Entry, callOf, run}
+use Rattle.model.specs.Step.{Call, Answer, gave, done, atRow, refused, answerWords, step, Entry, callOf, run, bookAfter}
 use Rattle.model.specs.WellFormed.{WellFormed}
 use Rattle.model.specs.Chain.{Chain, stop, next}
-use Rattle.model.specs.Claim.{bookAfter}
 use Rattle.model.proofs.Outcome.{outcome}
 use Rattle.model.proofs.WellFormed.{well-formed, fresh-well-formed, run-well-formed}
 use Rattle.model.proofs.Laws.{Proper, words-injective, step-proper}
@@ -21,16 +20,19 @@ use Rattle.sheet.specs.declared.Answer as sheet
 use Rattle.sheet.specs.declared.Answer.the-variants as A
 use Rattle.sheet.specs.declared.RowAnswer.{RowAnswer}
 use Rattle.sheet.specs.declared.RowAnswer.the-variants as R
+use Rattle.sheet.specs.declared.ReportAnswer.{ReportAnswer}
+use Rattle.sheet.specs.declared.ReportAnswer.the-variants as Report
+use Rattle.sheet.specs.declared.GapAnswer.{GapAnswer}
+use Rattle.sheet.specs.declared.GapAnswer.the-variants as G
 use Rattle.layout.specs.Layout.{layout, call, onSheet}
-use Rattle.layout.specs.Demand3.{answerOf, rowAnswerOf, Meets, headerAndRows, Demand3}
+use Rattle.layout.specs.Demand3.{answerOf, rowAnswerOf, reportAnswerOf, gapAnswerOf, Meets, headerAndRows, Demand3}
 use Rattle.layout.proofs.Places.{shape, front-part}
 use Rattle.layout.proofs.Sheets.{fresh-layout, on-layout}
 
 -- ---- one call
 
 proper : (a : Answer) → a ≢ refused 0 → Proper a
-proper done h = tt
-proper (atRow r) h = tt
+proper (gave words) h = tt
 proper (refused number) h = λ e. h (ap refused e)
 
 -- a call that keeps its promise on the layout of a well-formed book does what the model does
@@ -42,8 +44,7 @@ each c b a t ok m =
 
 -- and what the model does keeps the promise
 improper : (a : Answer) → Proper a → a ≢ refused 0
-improper done h e = let z : _≡_ {A = ℕ} 0 1 = cc in omega arith
-improper (atRow r) h e = let z : _≡_ {A = ℕ} 0 1 = cc in omega arith
+improper (gave words) h e = let z : _≡_ {A = ℕ} 0 1 = cc in omega arith
 improper (refused number) h e = h (cc)
 
 model-meets : (c : Call) (b : Book) → WellFormed b → Meets c (layout b) (step c b .answer) (layout (step c b .book))
@@ -57,6 +58,17 @@ answer-meets c s (A.Refused q) t e = (improper (refused (numberOf q)) (number-po
 pub row-answer-meets : (c : Call) (s : List ℕ) (r : RowAnswer) (t : List ℕ) → (Words.rowWords r, t) ≡ onSheet (call c) s → Meets c s (rowAnswerOf r) t
 row-answer-meets c s (R.Row row) t e = (improper (atRow row) tt, e)
 row-answer-meets c s (R.Refused q) t e = (improper (refused (numberOf q)) (number-positive q), e)
+
+pub report-answer-meets : (c : Call) (s : List ℕ) (r : ReportAnswer) (t : List ℕ) → (Words.reportAnswerWords r, t) ≡ onSheet (call c) s
+    → Meets c s (reportAnswerOf r) t
+report-answer-meets c s (Report.Whole ticked) t e = (improper (gave _) tt, e)
+report-answer-meets c s (Report.Gaps ticked missing lowest) t e = (improper (gave _) tt, e)
+report-answer-meets c s (Report.Refused q) t e = (improper (refused (numberOf q)) (number-positive q), e)
+
+pub gap-answer-meets : (c : Call) (s : List ℕ) (r : GapAnswer) (t : List ℕ) → (Words.gapWords r, t) ≡ onSheet (call c) s → Meets c s (gapAnswerOf r) t
+gap-answer-meets c s G.Nothing t e = (improper (gave _) tt, e)
+gap-answer-meets c s (G.Gap number row) t e = (improper (gave _) tt, e)
+gap-answer-meets c s (G.Refused q) t e = (improper (refused (numberOf q)) (number-positive q), e)
 
 -- ---- a list of calls
 

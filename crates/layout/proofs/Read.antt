@@ -2,7 +2,7 @@
 use Prim.Native.Nat.{ℕ, zero, _+_, _*_, _<_, _≤_}
 use native.Mathlib.Nat.{add-zero}
 use native.Mathlib.Omega.{arith}
-use mathlib.Core.Bool.{Bool, true, false, cond, not, _&&_, Bool·not-not}
+use mathlib.Core.Bool.{Bool, true, false, cond, not, _&&_, _||_}
 use mathlib.Core.Option.{some}
 use mathlib.Core.List.{List, [], _∷_, _++_}
 use mathlib.Core.Path.{_≡_, refl, sym, ap, _∙_}
@@ -10,21 +10,23 @@ use lib.Dec.{ltb, eqb, leb}
 use lib.ListN.{length, getD, List·getD-eq-default}
 use lib.Seq.{drop-cons}
 use borrow.Author.Tests.{ltb-true, ltb-false, lt-ltb, le-ltb, leb-true, eqb-true, eqb-false, not-true}
+use Rattle.keys.specs.Key.{validKey}
+use Rattle.keys.specs.Numbers.{isNumber}
 use Rattle.model.specs.Positions.{rowLength}
 use Rattle.model.specs.Book.{Place, free, row, closed, Book, place, desk, isFree, withTicks}
 use Rattle.model.specs.WellFormed.{IsSet, PlaceOk, DeskOk, keyOf, WellFormed}
-use Rattle.octets.specs.Octets.{numberAt, bytesOf, part, zeroAt}
+use Rattle.octets.specs.Octets.{numberAt, bytesOf, part, all, zeroAt}
 use Rattle.octets.proofs.Laws.{Bytes, and-split, all-at}
 use Rattle.octets.proofs.Parts.{bytes-number, part-join, part-whole, zero-part, same-part}
-use Rattle.sheet.specs.Sheet.{sheetSize, keySize, firstAt, firstSize, ticksAt, rowSize, rowCount, rowsStart, deskRowAt, deskZerosAt, deskZerosSize, openedAt, workedAt, deskSize, deskCount, desksStart, headerNumberSize, lengthAt, usedAt, rowCountAt, rowsStartAt, deskCountAt, desksStartAt, rowAt, deskAt, headerNumber, used, keyAt, firstNumberAt, deskByte, deskRow, isClosed, carries, headerRight, validKeys, differentKeys, firstNumbers, unusedZero, closedZero, deskMarked, openNames, deskRight, right}
+use Rattle.sheet.specs.Sheet.{sheetSize, usedWordSize, keyStart, keySize, firstAt, firstSize, ticksAt, rowSize, rowCount, rowsStart, deskRowAt, deskZerosAt, deskZerosSize, openedAt, workedAt, deskSize, deskCount, desksStart, headerNumberSize, lengthAt, usedAt, rowCountAt, rowsStartAt, deskCountAt, desksStartAt, rowAt, deskAt, headerNumber, used, isUsed, isRow, keyAt, firstNumberAt, deskByte, deskRow, isClosed, carries, headerRight, validKeys, isNew, differentKeys, firstNumbers, freeZero, closedZero, deskMarked, openNames, deskRight, right}
 use Rattle.changes.specs.Rows.{table, ticksOf}
 use Rattle.changes.specs.Bytes.{headerBytes, openDesk}
-use Rattle.sheet.proofs.Clauses.{Right, right-parts, header-few}
+use Rattle.sheet.proofs.Clauses.{Right, right-parts, row-parts}
 use Rattle.layout.specs.Layout.{placeBytes, deskBytes, countUsed, layout, placeIn, deskIn, bookOf}
 use Rattle.layout.proofs.Parts.{number-within}
 use Rattle.layout.proofs.Chunks.{length-table, getD-table, laid-table}
 use Rattle.layout.proofs.Rows.{row-there}
-use Rattle.layout.proofs.Used.{ordered, used-below}
+use Rattle.layout.proofs.Used.{count-law}
 
 -- ---- parts of a list, joined
 
@@ -41,13 +43,6 @@ module _ (s : List ℕ) where
   number-same a c m j n x y e p q l =
       sym (number-within s a m j n x p l) ∙ ap (λ (t : List ℕ). numberAt t j n) e ∙ number-within s c m j n y q l
 
--- numbers are known by what is below them
-same-count : (m n : ℕ) → ((i : ℕ) → ltb i m ≡ ltb i n) → m ≡ n
-same-count m n h =
-    let up : n ≤ m = ltb-false m n (sym (h m) ∙ le-ltb m m (omega arith)) in
-    let down : m ≤ n = ltb-false n m (h n ∙ le-ltb n n (omega arith)) in
-    omega arith
-
 -- ---- what the clauses of `right` say
 
 record Header (s : List ℕ) : Type 0 where
@@ -61,16 +56,15 @@ header-parts : (s : List ℕ) → headerRight s ≡ true → Header s
 unfolding headerRight
 header-parts s h =
     let size = eqb (headerNumber s lengthAt) sheetSize in
-    let few = leb (used s) rowCount in
     let rows = eqb (headerNumber s rowCountAt) rowCount in
     let start = eqb (headerNumber s rowsStartAt) rowsStart in
     let desks = eqb (headerNumber s deskCountAt) deskCount in
-    let h4 = and-split (size && few && rows && start && desks) (eqb (headerNumber s desksStartAt) desksStart) h in
-    let h3 = and-split (size && few && rows && start) desks (h4 .0) in
-    let h2 = and-split (size && few && rows) start (h3 .0) in
-    let h1 = and-split (size && few) rows (h2 .0) in
+    let h4 = and-split (size && rows && start && desks) (eqb (headerNumber s desksStartAt) desksStart) h in
+    let h3 = and-split (size && rows && start) desks (h4 .0) in
+    let h2 = and-split (size && rows) start (h3 .0) in
+    let h1 = and-split size rows (h2 .0) in
     record {
-      size = eqb-true _ _ (and-split size few (h1 .0) .0);
+      size = eqb-true _ _ (h1 .0);
       rows = eqb-true _ _ (h1 .1);
       rows-start = eqb-true _ _ (h2 .1);
       desks = eqb-true _ _ (h3 .1);
@@ -80,7 +74,7 @@ header-parts s h =
 record Opened (s : List ℕ) (d : ℕ) : Type 0 where
   is-one : deskByte s d ≡ 1
   zeros : zeroAt s (deskAt d + deskZerosAt) deskZerosSize ≡ true
-  names : deskRow s d < used s
+  names : isRow s (deskRow s d) ≡ true
   opened-carries : carries s (deskAt d + openedAt) (deskRow s d) ≡ true
   worked-carries : carries s (deskAt d + workedAt) (deskRow s d) ≡ true
 
@@ -89,7 +83,7 @@ unfolding deskRight deskMarked openNames
 desk-parts s d h o =
     let h1 = and-split (closedZero s d && deskMarked s d) (openNames s d) h in
     let marked = and-split (leb (deskByte s d) 1) _ (and-split (closedZero s d) (deskMarked s d) (h1 .0) .1) in
-    let row = ltb (deskRow s d) (used s) in
+    let row = isRow s (deskRow s d) in
     let opened = carries s (deskAt d + openedAt) (deskRow s d) in
     let h2 = and-split (row && opened) (carries s (deskAt d + workedAt) (deskRow s d)) (rw o at (h1 .1)) in
     let h3 = and-split row opened (h2 .0) in
@@ -98,7 +92,7 @@ desk-parts s d h o =
     record {
       is-one = omega arith;
       zeros = marked .1;
-      names = ltb-true _ _ (h3 .0);
+      names = h3 .0;
       opened-carries = h3 .1;
       worked-carries = h2 .1;
     }
@@ -106,9 +100,6 @@ desk-parts s d h o =
 module _ (s : List ℕ) (bytes : Bytes s) (r : right s ≡ true) where
   abbrev clauses : Right s
   clauses = right-parts s r
-
-  few : used s ≤ rowCount
-  few = header-few s (clauses .header)
 
   long : length s ≡ sheetSize
   long = clauses .long
@@ -136,36 +127,42 @@ module _ (s : List ℕ) (bytes : Bytes s) (r : right s ≡ true) where
   -- ---- the rows
 
   place-there : (i : ℕ) → i < rowCount → placeBytes (placeIn s i) ≡ part s (rowAt i) rowSize
-  unfolding placeBytes placeIn unusedZero
-  place-there i l = by (ltb i (used s)) refl
+  unfolding placeBytes placeIn freeZero
+  place-there i l = by (isUsed s i) refl
     where
-      by : (t : Bool) → ltb i (used s) ≡ t → placeBytes (placeIn s i) ≡ part s (rowAt i) rowSize
-      by true e = rw e (row-there s (rowAt i) bytes (omega (arith, long)))
-      by false e = rw e (sym (zero-part s (rowAt i) rowSize (omega (arith, long)) (rw e at (all-at rowCount i _ (clauses .unused) l))))
+      by : (t : Bool) → isUsed s i ≡ t → placeBytes (placeIn s i) ≡ part s (rowAt i) rowSize
+      by true e = rw e (row-there s (rowAt i) bytes (omega (arith, long)) (eqb-true _ _ e))
+      by false e = rw e (sym (zero-part s (rowAt i) rowSize (omega (arith, long)) (rw e at (all-at rowCount i _ (clauses .free) l))))
 
   abbrev b : Book
   b = bookOf s
 
-  -- the places, also those that are not there
-  place-at : (i : ℕ) → place b i ≡ placeIn s i
-  unfolding bookOf placeIn
-  place-at i = by (ltb i rowCount) refl
+  place-at : (i : ℕ) → i < rowCount → place b i ≡ placeIn s i
+  unfolding bookOf
+  place-at i l = getD-table rowCount (placeIn s) i free l
+
+  row-at : (i : ℕ) → isRow s i ≡ true → place b i ≡ row (keyAt s (rowAt i)) (firstNumberAt s (rowAt i)) (ticksOf s (rowAt i))
+  unfolding placeIn
+  row-at i h = let p = row-parts s i h in place-at i (p .0) ∙ rw (p .1)
+
+  -- a place is one of the rows that there are, or free
+  by-place : (P : Place → Type 0) (i : ℕ) → (isRow s i ≡ true → P (row (keyAt s (rowAt i)) (firstNumberAt s (rowAt i)) (ticksOf s (rowAt i)))) → P free
+      → P (place b i)
+  unfolding placeIn bookOf
+  by-place P i f g = by (ltb i rowCount) refl (isUsed s i) refl
     where
-      by : (t : Bool) → ltb i rowCount ≡ t → place b i ≡ placeIn s i
-      by true e = getD-table rowCount (placeIn s) i free (ltb-true _ _ e)
-      by false e =
+      by : (t : Bool) → ltb i rowCount ≡ t → (u : Bool) → isUsed s i ≡ u → P (place b i)
+      by true e true o = let h : isRow s i ≡ true = rw (e, o) in rw (row-at i h) (f h)
+      by true e false o = rw (place-at i (ltb-true _ _ e), o) g
+      by false e u o =
           let past : rowCount ≤ i = ltb-false _ _ e in
-          rw (le-ltb i (used s) (omega (arith, few))) (List·getD-eq-default (table rowCount (placeIn s)) free {n = i} (rw length-table past))
+          rw (List·getD-eq-default (table rowCount (placeIn s)) free {n = i} (rw length-table past)) g
 
-  row-at : (i : ℕ) → i < used s → place b i ≡ row (keyAt s (rowAt i)) (firstNumberAt s (rowAt i)) (ticksOf s (rowAt i))
+  used-at : (i : ℕ) → i < rowCount → isUsed s i ≡ not (isFree (place b i))
   unfolding placeIn
-  row-at i l = place-at i ∙ rw (lt-ltb i (used s) l)
-
-  free-at : (i : ℕ) → isFree (place b i) ≡ not (ltb i (used s))
-  unfolding placeIn
-  free-at i = rw (place-at i) (by (ltb i (used s)))
+  used-at i l = rw (place-at i l) (by (isUsed s i))
     where
-      by : (t : Bool) → isFree (cond t (row (keyAt s (rowAt i)) (firstNumberAt s (rowAt i)) (ticksOf s (rowAt i))) free) ≡ not t
+      by : (t : Bool) → t ≡ not (isFree (cond t (row (keyAt s (rowAt i)) (firstNumberAt s (rowAt i)) (ticksOf s (rowAt i))) free))
       by true = refl
       by false = refl
 
@@ -174,14 +171,16 @@ module _ (s : List ℕ) (bytes : Bytes s) (r : right s ≡ true) where
   opened : (d : ℕ) → d < deskCount → isClosed s d ≡ false → Opened s d
   opened d l o = desk-parts s d (all-at deskCount d (deskRight s) (clauses .desks) l) o
 
-  -- a copy at c that carries the key and the first number of row i
-  copy-there : (i c : ℕ) → i < used s → c + rowSize ≤ sheetSize → carries s c i ≡ true
+  -- a copy at c that carries the word, the key and the first number of row i
+  copy-there : (i c : ℕ) → isRow s i ≡ true → c + rowSize ≤ sheetSize → carries s c i ≡ true
       → placeBytes (withTicks (ticksOf s c) (place b i)) ≡ part s c rowSize
   copy-there i c l h e =
-      let same = same-part s (rowAt i) s c ticksAt (omega (arith, long, few)) (omega (arith, long)) e in
-      let key : keyAt s (rowAt i) ≡ keyAt s c = number-same s (rowAt i) c ticksAt 0 keySize (rowAt i) c same (add-zero (rowAt i)) (add-zero c) (omega arith) in
+      let there = row-parts s i l in
+      let same = same-part s (rowAt i) s c ticksAt (omega (arith, long)) (omega (arith, long)) e in
+      let word : numberAt s (rowAt i) usedWordSize ≡ numberAt s c usedWordSize = number-same s (rowAt i) c ticksAt 0 usedWordSize (rowAt i) c same (add-zero (rowAt i)) (add-zero c) (omega arith) in
+      let key : keyAt s (rowAt i) ≡ keyAt s c = number-same s (rowAt i) c ticksAt keyStart keySize (rowAt i + keyStart) (c + keyStart) same refl refl (omega arith) in
       let first : firstNumberAt s (rowAt i) ≡ firstNumberAt s c = number-same s (rowAt i) c ticksAt firstAt firstSize (rowAt i + firstAt) (c + firstAt) same refl refl (omega arith) in
-      rw (row-at i l, key, first) (row-there s c bytes (omega (arith, long)))
+      rw (row-at i l, key, first) (row-there s c bytes (omega (arith, long)) (sym word ∙ eqb-true _ _ (there .1)))
 
   desk-there : (d : ℕ) → d < deskCount → deskBytes (b .places) (deskIn s d) ≡ part s (deskAt d) deskSize
   unfolding deskBytes deskIn deskRight closedZero openDesk
@@ -211,15 +210,11 @@ module _ (s : List ℕ) (bytes : Bytes s) (r : right s ≡ true) where
 
   -- ---- the sheet
 
-  first-used : (i q : ℕ) → isFree (place b i) ≡ true → i ≤ q → isFree (place b q) ≡ true
-  first-used i q e l =
-      let past = ltb-false i (used s) (not-true _ (sym (free-at i) ∙ e)) in
-      free-at q ∙ ap not (le-ltb q (used s) (omega arith))
-
   count-there : countUsed (b .places) ≡ used s
+  unfolding bookOf
   count-there =
-      same-count (countUsed (b .places)) (used s) (λ i.
-      used-below (ordered (b .places) first-used) i ∙ ap not (free-at i) ∙ Bool·not-not (ltb i (used s)))
+      let n = length-table rowCount (placeIn s) in
+      sym (count-law (b .places) (isUsed s) (λ i l. used-at i (omega arith))) ∙ rw n (clauses .counted)
 
   pub read-law : layout b ≡ s
   unfolding layout bookOf
@@ -232,24 +227,22 @@ module _ (s : List ℕ) (bytes : Bytes s) (r : right s ≡ true) where
 
   -- ---- the book is well-formed
 
-  -- a place is one of the used rows, or free
-  by-place : (P : Place → Type 0) (i : ℕ) → (i < used s → P (row (keyAt s (rowAt i)) (firstNumberAt s (rowAt i)) (ticksOf s (rowAt i)))) → P free → P (place b i)
-  unfolding placeIn
-  by-place P i f g = by (ltb i (used s)) refl
-    where
-      by : (t : Bool) → ltb i (used s) ≡ t → P (place b i)
-      by true e = rw (row-at i (ltb-true _ _ e)) (f (ltb-true _ _ e))
-      by false e = rw (place-at i, e) g
-
   set-there : (a : ℕ) → IsSet (ticksOf s a)
   unfolding ticksOf
   set-there a = length-table rowLength _
+
+  -- what is asked of a row that there is
+  asked : (P : ℕ → Bool) (i : ℕ) → all rowCount (λ k. not (isUsed s k) || P k) ≡ true → isRow s i ≡ true → P i ≡ true
+  asked P i h r = let p = row-parts s i r in rw (p .1) at (all-at rowCount i (λ k. not (isUsed s k) || P k) h (p .0))
 
   place-fine : (i : ℕ) → PlaceOk (place b i)
   unfolding validKeys firstNumbers
   place-fine i =
       by-place PlaceOk i
-      (λ l. (all-at (used s) i _ (clauses .valid) l, ltb-true _ _ (all-at (used s) i _ (clauses .firsts) l), set-there (rowAt i)))
+      (λ r.
+      (asked (λ k. validKey (keyAt s (rowAt k))) i (clauses .valid) r,
+      ltb-true _ _ (asked (λ k. isNumber (keyAt s (rowAt k)) (firstNumberAt s (rowAt k))) i (clauses .firsts) r),
+      set-there (rowAt i)))
       tt
 
   desk-fine : (d : ℕ) → DeskOk (b .places) (desk b d)
@@ -263,24 +256,27 @@ module _ (s : List ℕ) (bytes : Bytes s) (r : right s ≡ true) where
       by true e false o =
           let l = ltb-true _ _ e in
           rw (getD-table deskCount (deskIn s) d closed l, o)
-          (free-at (deskRow s d) ∙ ap not (lt-ltb _ _ (opened d l o .names)), set-there (deskAt d + openedAt), set-there (deskAt d + workedAt))
+          (ap isFree (row-at (deskRow s d) (opened d l o .names)), set-there (deskAt d + openedAt), set-there (deskAt d + workedAt))
 
-  keys-apart : (i j : ℕ) → i < used s → j < i → keyAt s (rowAt j) ≡ keyAt s (rowAt i) → ⊥
-  unfolding differentKeys
-  keys-apart i j l m = eqb-false _ _ (not-true _ (all-at i j _ (all-at (used s) i _ (clauses .different) l) m))
+  keys-apart : (i j : ℕ) → isRow s i ≡ true → isRow s j ≡ true → j < i → keyAt s (rowAt j) ≡ keyAt s (rowAt i) → ⊥
+  unfolding differentKeys isNew
+  keys-apart i j ri rj m e =
+      let new = asked (λ k. isNew s k (keyAt s (rowAt k))) i (clauses .different) ri in
+      let other = all-at i j (λ q. not (isUsed s q) || not (eqb (keyAt s (rowAt q)) (keyAt s (rowAt i)))) new m in
+      eqb-false _ _ (not-true _ (rw (row-parts s j rj .1) at other)) e
 
   keys-fine : (i j key : ℕ) → keyOf (place b i) ≡ some key → keyOf (place b j) ≡ some key → i ≡ j
   keys-fine i j key =
       by-place (λ p. keyOf p ≡ some key → keyOf (place b j) ≡ some key → i ≡ j) i
-      (λ li ei. by-place (λ p. keyOf p ≡ some key → i ≡ j) j (λ lj ej. same li lj (cc)) (λ ej. cc))
+      (λ ri ei. by-place (λ p. keyOf p ≡ some key → i ≡ j) j (λ rj ej. same ri rj (cc)) (λ ej. cc))
       (λ ei ej. cc)
     where
-      same : i < used s → j < used s → keyAt s (rowAt i) ≡ keyAt s (rowAt j) → i ≡ j
-      same li lj e = by (ltb i j) refl (ltb j i) refl
+      same : isRow s i ≡ true → isRow s j ≡ true → keyAt s (rowAt i) ≡ keyAt s (rowAt j) → i ≡ j
+      same ri rj e = by (ltb i j) refl (ltb j i) refl
         where
           by : (t : Bool) → ltb i j ≡ t → (u : Bool) → ltb j i ≡ u → i ≡ j
-          by true p u q = absurd (keys-apart j i lj (ltb-true _ _ p) e)
-          by false p true q = absurd (keys-apart i j li (ltb-true _ _ q) (sym e))
+          by true p u q = absurd (keys-apart j i rj ri (ltb-true _ _ p) e)
+          by false p true q = absurd (keys-apart i j ri rj (ltb-true _ _ q) (sym e))
           by false p false q = let x = ltb-false i j p in let y = ltb-false j i q in omega arith
 
   pub book-fine : WellFormed b
@@ -292,5 +288,4 @@ module _ (s : List ℕ) (bytes : Bytes s) (r : right s ≡ true) where
         place-ok = place-fine;
         desk-ok = desk-fine;
         keys-differ = keys-fine;
-        used-first = first-used;
       }

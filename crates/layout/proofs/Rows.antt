@@ -19,10 +19,10 @@ use Rattle.model.proofs.Laws.{Changes, changes}
 use Rattle.octets.specs.Octets.{numberAt, bytesOf, part}
 use Rattle.octets.proofs.Laws.{Bytes, length-bytesOf, getD-past}
 use Rattle.octets.proofs.Parts.{bytes-number, part-join, part-first, part-whole}
-use Rattle.sheet.specs.Sheet.{keySize, firstAt, firstSize, ticksAt, ticksSize, rowSize, byteBits, keyAt, firstNumberAt}
+use Rattle.sheet.specs.Sheet.{usedWordSize, usedWord, keyStart, keySize, firstAt, firstSize, ticksAt, ticksSize, rowSize, byteBits, keyAt, firstNumberAt}
 use Rattle.changes.specs.Rows.{tickedAt, setTick, clearTick, ticksOf, rowBytes}
 use Rattle.changes.specs.Bytes.{judged, marked, markRows, markPosition, markRow}
-use Rattle.changes.proofs.ReadBack.{length-row, row-key, row-first, row-ticks}
+use Rattle.changes.proofs.ReadBack.{length-row, row-word, row-key, row-first, row-ticks}
 use Rattle.layout.specs.Layout.{tickBytes, placeBytes}
 use Rattle.layout.proofs.Parts.{number-within, part-within}
 use Rattle.layout.proofs.Ticks.{test-bit, length-ticks, tick-at, tick-set, tick-clear, ticks-bytes, ticks-read}
@@ -39,12 +39,12 @@ accepted = 0 ∷ []
 
 module _ (key first : ℕ) (ts : List ℕ) where
   abbrev head : List ℕ
-  head = bytesOf keySize key ++ bytesOf firstSize first
+  head = bytesOf usedWordSize usedWord ++ bytesOf keySize key ++ bytesOf firstSize first
 
   length-head : length head ≡ ticksAt
   length-head = simp (length-append, length-bytesOf)
 
-  -- the key and the first number
+  -- the word, the key and the first number
   row-head : part (rowBytes key first ts) 0 ticksAt ≡ head
   unfolding rowBytes
   row-head =
@@ -75,6 +75,7 @@ length-place (row key first ticks) = length-row key first (tickBytes ticksSize t
 
 -- what the row at offset a says
 pub record Says (s : List ℕ) (a : ℕ) (key first : ℕ) (ticks : Positions) : Type 0 where
+  pub word-is : numberAt s a usedWordSize ≡ usedWord
   pub key-is : keyAt s a ≡ key
   pub first-is : firstNumberAt s a ≡ first
   pub ticks-are : ticksOf s a ≡ ticks
@@ -86,7 +87,8 @@ unfolding placeBytes
 row-says s a key first ticks ok e =
     let ts = tickBytes ticksSize ticks in
     record {
-      key-is = sym (number-within s a rowSize 0 keySize a (add-zero a) (omega arith)) ∙ ap (λ (t : List ℕ). numberAt t 0 keySize) e ∙ row-key key first ts (lt-trans (below-valid key (ok .0)) (lit< tt));
+      word-is = sym (number-within s a rowSize 0 usedWordSize a (add-zero a) (omega arith)) ∙ ap (λ (t : List ℕ). numberAt t 0 usedWordSize) e ∙ row-word key first ts;
+      key-is = sym (number-within s a rowSize keyStart keySize (a + keyStart) refl (omega arith)) ∙ ap (λ (t : List ℕ). numberAt t keyStart keySize) e ∙ row-key key first ts (lt-trans (below-valid key (ok .0)) (lit< tt));
       first-is = sym (number-within s a rowSize firstAt firstSize (a + firstAt) refl (omega arith)) ∙ ap (λ (t : List ℕ). numberAt t firstAt firstSize) e ∙ row-first key first ts (omega (arith, ok .1, modulus-fits key));
       ticks-are = ticks-read s a ticks (ok .2)
           (sym (part-within s a rowSize ticksAt ticksSize (a + ticksAt) refl (omega arith)) ∙ ap (λ (t : List ℕ). part t ticksAt ticksSize) e ∙ row-ticks key first ts (length-ticks ticksSize ticks));
@@ -100,21 +102,24 @@ row-same key first t u p q e =
     let whole = part-whole s rowSize (length-place (row key first t)) in
     sym (row-says s 0 key first t p whole .ticks-are) ∙ row-says s 0 key first u q (whole ∙ e) .ticks-are
 
--- a copy carries the row's key and first number, whatever its set
+-- a copy carries the row's word, key and first number, whatever its set
 pub row-carries : (key first : ℕ) (t u : Positions) → part (placeBytes (row key first t)) 0 ticksAt ≡ part (placeBytes (row key first u)) 0 ticksAt
 unfolding placeBytes
 row-carries key first t u = row-head key first (tickBytes ticksSize t) ∙ sym (row-head key first (tickBytes ticksSize u))
 
 -- the bytes of a row that is read are the bytes that are there
-pub row-there : (s : List ℕ) (a : ℕ) → Bytes s → a + rowSize ≤ length s
+pub row-there : (s : List ℕ) (a : ℕ) → Bytes s → a + rowSize ≤ length s → numberAt s a usedWordSize ≡ usedWord
     → placeBytes (row (keyAt s a) (firstNumberAt s a) (ticksOf s a)) ≡ part s a rowSize
 unfolding placeBytes rowBytes
-row-there s a bytes h =
+row-there s a bytes h one =
+    let word : bytesOf usedWordSize usedWord ≡ part s a usedWordSize = ap (bytesOf usedWordSize) (sym one) ∙ bytes-number s a usedWordSize bytes (omega arith) in
     rw (
-      bytes-number s a keySize bytes (omega arith),
+      word,
+      bytes-number s (a + keyStart) keySize bytes (omega arith),
       bytes-number s (a + firstAt) firstSize bytes (omega arith),
       ticks-bytes s a bytes h,
-      part-join s a keySize (a + firstAt) firstSize ticksAt refl refl,
+      part-join s a usedWordSize (a + keyStart) keySize firstAt refl refl,
+      part-join s a firstAt (a + firstAt) firstSize ticksAt refl refl,
     )
     (part-join s a ticksAt (a + ticksAt) ticksSize rowSize refl refl)
 

@@ -1,5 +1,5 @@
 -- A call on any slice of bytes is the model's call on the book that it holds, laid out again, where it is a right sheet, and else
--- 20: one law for all calls, one for each report, one for a fresh sheet. Assumes nothing.
+-- 20: one law for all calls, and one for a fresh sheet. Assumes nothing.
 use Prim.Native.Nat.{ℕ, _+_, _*_}
 use mathlib.Core.Bool.{Bool, true, false, cond}
 use mathlib.Core.List.{List, [], _∷_, _++_, append-assoc}
@@ -8,20 +8,20 @@ use lib.Dec.{eqb}
 use lib.ListN.{length, replicate, replicate-append-replicate}
 use Rattle.refusals.specs.Judge.{judge}
 use Rattle.model.specs.Book.{free, closed, Book, fresh}
-use Rattle.model.specs.Step.{Call, Enrol, Find, Open, Mark, Save, Drop, step}
+use Rattle.model.specs.Step.{Question, Find, RowReport, FirstGap, Call, Enrol, Ask, Open, Mark, Save, Drop, Strike, Reply, step}
 use Rattle.model.specs.WellFormed.{WellFormed}
-use Rattle.model.specs.Counts.{rowReport, firstGap}
-use Rattle.model.proofs.Outcome.{outcome}
+use Rattle.model.proofs.Outcome.{refusal, asking, outcome}
+use Rattle.model.proofs.Outcome as Model
 use Rattle.model.proofs.WellFormed.{well-formed}
 use Rattle.octets.proofs.Laws.{Bytes}
 use Rattle.sheet.specs.Sheet.{sheetSize, rowSize, rowCount, deskSize, deskCount, right}
 use Rattle.changes.specs.Bytes.{Outcome, judged, headerBytes, freshSheet}
-use Rattle.verdicts.specs.Calls.{freshCall, enrolCall, findCall, openCall, dropCall, markCall, saveCall, reportCall, gapCall}
-use Rattle.layout.specs.Layout.{placeBytes, deskBytes, countUsed, laid, layout, bookOf, call, report, laidOut, onSheet, freshOn}
+use Rattle.verdicts.specs.Calls.{freshCall, enrolCall, findCall, openCall, dropCall, markCall, saveCall, reportCall, gapCall, strikeCall}
+use Rattle.layout.specs.Layout.{placeBytes, deskBytes, countUsed, laid, layout, bookOf, call, laidOut, onSheet, freshOn}
 use Rattle.layout.proofs.Chunks.{laid-zeros}
 use Rattle.layout.proofs.Right.{reads-back, layout-right}
 use Rattle.layout.proofs.Read.{read-law, book-fine}
-use Rattle.layout.proofs.Calls.{not-right, enrol-call, find-call, open-call, mark-call, save-call, drop-call, report-call, gap-call}
+use Rattle.layout.proofs.Calls.{not-right, enrol-call, find-call, open-call, mark-call, save-call, drop-call, report-call, gap-call, strike-call}
 
 -- from a call on the layouts of well-formed books to one on any slice
 on-sheet : (s : List ℕ) → Bytes s → (f : List ℕ → Outcome) (g : Book → List ℕ × Book)
@@ -38,49 +38,55 @@ on-sheet s bytes f g h k = by (right s) refl
 -- What each call does to the bytes.
 abbrev pub sheetCall : Call → List ℕ → Outcome
 sheetCall (Enrol key first) s = enrolCall key first s
-sheetCall (Find key) s = findCall key s
+sheetCall (Ask (Find key)) s = findCall key s
+sheetCall (Ask (RowReport r)) s = reportCall r s
+sheetCall (Ask FirstGap) s = gapCall s
 sheetCall (Open d r) s = openCall d r s
 sheetCall (Mark flag d n) s = markCall flag d n s
 sheetCall (Save d) s = saveCall d s
 sheetCall (Drop d) s = dropCall d s
+sheetCall (Strike r) s = strikeCall r s
 
 pub layout-law : (c : Call) (b : Book) → WellFormed b → sheetCall c (layout b) ≡ laidOut (call c b)
 layout-law (Enrol key first) b ok = enrol-call b ok key first
-layout-law (Find key) b ok = find-call b ok key
+layout-law (Ask (Find key)) b ok = find-call b ok key
+layout-law (Ask (RowReport r)) b ok = report-call b ok r
+layout-law (Ask FirstGap) b ok = gap-call b ok
 layout-law (Open d r) b ok = open-call b ok d r
 layout-law (Mark flag d n) b ok = mark-call b ok flag d n
 layout-law (Save d) b ok = save-call b ok d
 layout-law (Drop d) b ok = drop-call b ok d
+layout-law (Strike r) b ok = strike-call b ok r
 
 refused-law : (c : Call) (s : List ℕ) → right s ≡ false → sheetCall c s ≡ (20 ∷ [], s)
-unfolding enrolCall findCall openCall markCall saveCall dropCall
+unfolding enrolCall findCall reportCall gapCall openCall markCall saveCall dropCall strikeCall
 refused-law (Enrol key first) s e = not-right s _ _ e
-refused-law (Find key) s e = not-right s _ _ e
+refused-law (Ask (Find key)) s e = not-right s _ _ e
+refused-law (Ask (RowReport r)) s e = not-right s _ _ e
+refused-law (Ask FirstGap) s e = not-right s _ _ e
 refused-law (Open d r) s e = not-right s _ _ e
 refused-law (Mark flag d n) s e = not-right s _ _ e
 refused-law (Save d) s e = not-right s _ _ e
 refused-law (Drop d) s e = not-right s _ _ e
+refused-law (Strike r) s e = not-right s _ _ e
 
 pub call-law : (c : Call) (s : List ℕ) → Bytes s → sheetCall c s ≡ onSheet (call c) s
 call-law c s bytes = on-sheet s bytes (sheetCall c) (call c) (layout-law c) (refused-law c s)
 
--- ---- the reports
-
-pub report-law : (r : ℕ) (s : List ℕ) → Bytes s → reportCall r s ≡ onSheet (report (λ b. rowReport b r)) s
-unfolding reportCall
-report-law r s bytes = on-sheet s bytes (reportCall r) _ (λ b ok. report-call b ok r) (not-right s _ _)
-
-pub gap-law : (s : List ℕ) → Bytes s → gapCall s ≡ onSheet (report firstGap) s
-unfolding gapCall
-gap-law s bytes = on-sheet s bytes gapCall (report firstGap) (λ b ok. gap-call b ok) (not-right s _ _)
-
--- a report leaves the sheet as it was
-pub report-stays : (words : Book → List ℕ) (s : List ℕ) → Bytes s → onSheet (report words) s ≡ (cond (right s) (words (bookOf s)) (20 ∷ []), s)
-unfolding onSheet
-report-stays words s bytes = by (right s) refl
+-- a question leaves the book, and so the sheet, as it was
+asking-stays : (q : Question) (b : Book) → step (Ask q) b .book ≡ b
+asking-stays q b = at (outcome (Ask q) b)
   where
-    by : (t : Bool) → right s ≡ t → onSheet (report words) s ≡ (cond (right s) (words (bookOf s)) (20 ∷ []), s)
-    by true e = rw (e, read-law s bytes e)
+    at : {t : Reply} → Model.Outcome b (Ask q) t → t .book ≡ b
+    at (refusal number m) = refl
+    at (asking words) = refl
+
+pub question-stays : (q : Question) (s : List ℕ) → Bytes s → onSheet (call (Ask q)) s .1 ≡ s
+unfolding onSheet
+question-stays q s bytes = by (right s) refl
+  where
+    by : (t : Bool) → right s ≡ t → onSheet (call (Ask q)) s .1 ≡ s
+    by true e = rw (e, asking-stays q (bookOf s)) (read-law s bytes e)
     by false e = rw e
 
 -- ---- a fresh sheet

@@ -3,11 +3,11 @@
 use Prim.Native.Nat.{ℕ}
 use mathlib.Core.Path.{_≡_}
 use mathlib.Core.Logic.{_≢_}
-use mathlib.Core.List.{List, map}
+use mathlib.Core.List.{List, [], _∷_, map}
 use Rattle.octets.specs.Octets.{part}
 use Rattle.refusals.specs.Table.{numberOf}
 use Rattle.model.specs.Book.{fresh}
-use Rattle.model.specs.Step.{Call, Answer, done, atRow, refused, answerWords, Entry, callOf}
+use Rattle.model.specs.Step.{Call, Answer, gave, done, atRow, refused, answerWords, Entry, callOf}
 use Rattle.model.specs.History.{serial}
 use Rattle.model.specs.Chain.{Chain}
 use Rattle.model.specs.Claim.{Claim}
@@ -16,6 +16,10 @@ use Rattle.sheet.specs.declared.Answer as sheet
 use Rattle.sheet.specs.declared.Answer.the-variants as A
 use Rattle.sheet.specs.declared.RowAnswer.{RowAnswer}
 use Rattle.sheet.specs.declared.RowAnswer.the-variants as R
+use Rattle.sheet.specs.declared.ReportAnswer.{ReportAnswer}
+use Rattle.sheet.specs.declared.ReportAnswer.the-variants as Report
+use Rattle.sheet.specs.declared.GapAnswer.{GapAnswer}
+use Rattle.sheet.specs.declared.GapAnswer.the-variants as G
 use Rattle.layout.specs.Layout.{layout, call, onSheet}
 
 -- The cases of a call's answer, as the model's.
@@ -26,6 +30,16 @@ answerOf (A.Refused r) = refused (numberOf r)
 abbrev pub rowAnswerOf : RowAnswer → Answer
 rowAnswerOf (R.Row row) = atRow row
 rowAnswerOf (R.Refused r) = refused (numberOf r)
+
+abbrev pub reportAnswerOf : ReportAnswer → Answer
+reportAnswerOf (Report.Whole ticked) = gave (ticked ∷ 0 ∷ [])
+reportAnswerOf (Report.Gaps ticked missing lowest) = gave (ticked ∷ missing ∷ lowest ∷ [])
+reportAnswerOf (Report.Refused r) = refused (numberOf r)
+
+abbrev pub gapAnswerOf : GapAnswer → Answer
+gapAnswerOf G.Nothing = gave []
+gapAnswerOf (G.Gap number row) = gave (number ∷ row ∷ [])
+gapAnswerOf (G.Refused r) = refused (numberOf r)
 
 -- What a contract promises of call c on the sheet s that answered a and left t: the answer's words and t are the model's call on
 -- the book that s holds, laid out again. (No refusal has the number 0, which is the word of an accepted call.)

@@ -4,12 +4,12 @@
 use Prim.Native.Nat.{ℕ, zero, suc, _+_, _*_}
 use mathlib.Core.Bool.{Bool, true, false, cond}
 use mathlib.Core.List.{List, [], _∷_, _++_}
-use lib.Dec.{eqb, ltb}
+use lib.Dec.{eqb}
 use lib.ListN.{length, getD, take, drop, replicate}
 use Rattle.model.specs.Positions.{Positions}
 use Rattle.model.specs.Book.{Place, free, row, Desk, closed, working, Book, fresh, withTicks}
 use Rattle.model.specs.Step.{Call, answerWords, step}
-use Rattle.sheet.specs.Sheet.{sheetSize, rowSize, rowCount, ticksSize, byteBits, openedAt, workedAt, deskSize, deskCount, rowAt, deskAt, used, keyAt, firstNumberAt, deskRow, isClosed, right}
+use Rattle.sheet.specs.Sheet.{sheetSize, rowSize, rowCount, ticksSize, byteBits, openedAt, workedAt, deskSize, deskCount, rowAt, deskAt, isUsed, keyAt, firstNumberAt, deskRow, isClosed, right}
 use Rattle.changes.specs.Rows.{table, ticksOf, rowBytes}
 use Rattle.changes.specs.Bytes.{Outcome, headerBytes, openDesk}
 
@@ -29,19 +29,19 @@ unfoldable pub tickBytes : (n : ℕ) → Positions → List ℕ
 tickBytes zero t = []
 tickBytes (suc n) t = bitsValue (take byteBits t) ∷ tickBytes n (drop byteBits t)
 
--- "A row is 140 bytes: key (8), first number (4), ticks (128)." "unused rows .. are all zero"
+-- A row is 144 bytes: the used word, 1 (4), key (8), first number (4), ticks (128). "a free row is all zero"
 unfoldable pub placeBytes : Place → List ℕ
 placeBytes free = replicate rowSize 0
 placeBytes (row key first ticks) = rowBytes key first (tickBytes ticksSize ticks)
 
--- "A desk is 284 bytes: 1 if open, row, two zeros, the row as opened (140), the row as worked on (140)." Its copies are the row
--- of its place, with sets of their own. "closed desks are all zero"
+-- A desk is 292 bytes: "1 if open, row, two zeros, the row as opened, the row as worked on". Its copies are the row of its place, with
+-- sets of their own, so that they carry the 1. "closed desks are all zero"
 unfoldable pub deskBytes : List Place → Desk → List ℕ
 deskBytes places closed = replicate deskSize 0
 deskBytes places (working r opened worked) =
     openDesk r (placeBytes (withTicks opened (getD places r free))) (placeBytes (withTicks worked (getD places r free)))
 
--- "rows used"
+-- "the header counts them": how many rows are used.
 unfoldable pub countUsed : List Place → ℕ
 countUsed [] = 0
 countUsed (free ∷ ps) = countUsed ps
@@ -59,7 +59,7 @@ layout b = headerBytes (countUsed (b .places)) ++ laid placeBytes (b .places) ++
 -- ---- the book that a right sheet holds
 
 unfoldable pub placeIn : List ℕ → ℕ → Place
-placeIn s i = cond (ltb i (used s)) (row (keyAt s (rowAt i)) (firstNumberAt s (rowAt i)) (ticksOf s (rowAt i))) free
+placeIn s i = cond (isUsed s i) (row (keyAt s (rowAt i)) (firstNumberAt s (rowAt i)) (ticksOf s (rowAt i))) free
 
 unfoldable pub deskIn : List ℕ → ℕ → Desk
 deskIn s d =
@@ -70,12 +70,9 @@ bookOf s = record { places = table rowCount (placeIn s); desks = table deskCount
 
 -- ---- a call of the model as a call on a sheet
 
--- A call's answer, in the paper's numbers, and the book as it is left; a report leaves it as it was.
+-- A call's answer, in the paper's numbers, and the book as it is left.
 abbrev pub call : Call → Book → List ℕ × Book
 call c b = (answerWords (step c b .answer), step c b .book)
-
-abbrev pub report : (Book → List ℕ) → Book → List ℕ × Book
-report words b = (words b, b)
 
 abbrev pub laidOut : List ℕ × Book → Outcome
 laidOut r = (r .0, layout (r .1))

@@ -6,10 +6,10 @@ use mathlib.Core.Path.{_≡_}
 use contract.Lifetimes.{Lfts}
 use denote.Triple.Clauses.{AtExit}
 use borrow.Fn.Kinds.{PK, RK, Out, Dens, GoodsP, resT, endedOf}
-use Rattle.model.specs.Step.{Enrol, Find, Open, Tick, Untick, Save, Drop}
+use Rattle.model.specs.Step.{Enrol, Ask, Find, RowReport, FirstGap, Open, Tick, Untick, Save, Drop, Strike}
 use Rattle.sheet.specs.declared.Answer.the-variants as A
-use Rattle.layout.specs.Demand3.{answerOf, rowAnswerOf}
-use Rattle.ledger.specs.Demand3.{MadeFresh, Promised, enrolled, found, opened, ticked, unticked, saved, dropped}
+use Rattle.layout.specs.Demand3.{answerOf, rowAnswerOf, reportAnswerOf, gapAnswerOf}
+use Rattle.ledger.specs.Demand3.{MadeFresh, Promised, enrolled, found, reported, gapped, opened, ticked, unticked, saved, dropped, struck}
 use Rattle.ledger.proofs.fresh.Reads as fresh
 use Rattle.ledger.proofs.fresh.Kinds as fresh-kinds
 use Rattle.ledger.proofs.enrol.Reads as enrol
@@ -26,6 +26,12 @@ use Rattle.ledger.proofs.drop.Reads as drop
 use Rattle.ledger.proofs.drop.Kinds as drop-kinds
 use Rattle.ledger.proofs.save.Reads as save
 use Rattle.ledger.proofs.save.Kinds as save-kinds
+use Rattle.ledger.proofs.strike.Reads as strike
+use Rattle.ledger.proofs.strike.Kinds as strike-kinds
+use Rattle.ledger.proofs.row_report.Reads as report
+use Rattle.ledger.proofs.row_report.Kinds as report-kinds
+use Rattle.ledger.proofs.first_gap.Reads as gap
+use Rattle.ledger.proofs.first_gap.Kinds as gap-kinds
 
 -- From what is learnt of a call on arguments of their types, P.
 abbrev Gives : (ps : List (PK 1)) (r : RK 1) → (learnt P : Out 1 ps r) → Type 0
@@ -38,7 +44,7 @@ fresh-promises κs a r e fits h done = rw done at h
 pub enrol-promises : Gives enrol-kinds.ps enrol-kinds.r enrol.Learnt (λ κs a r e. Promised (Enrol (a .1 .0) (a .1 .1 .0)) (a .0 .now) (rowAnswerOf r) (e .0 .now))
 enrol-promises κs a r e fits h = enrolled r h
 
-pub find-promises : Gives find-kinds.ps find-kinds.r find.Learnt (λ κs a r e. Promised (Find (a .1 .0)) (a .0 .now) (rowAnswerOf r) (a .0 .now))
+pub find-promises : Gives find-kinds.ps find-kinds.r find.Learnt (λ κs a r e. Promised (Ask (Find (a .1 .0))) (a .0 .now) (rowAnswerOf r) (a .0 .now))
 find-promises κs a r e fits h = found r h
 
 pub open-row-promises : Gives open-row-kinds.ps open-row-kinds.r open-row.Learnt (λ κs a r e. Promised (Open (a .1 .0) (a .1 .1 .0)) (a .0 .now) (answerOf r) (e .0 .now))
@@ -55,3 +61,13 @@ drop-promises κs a r e fits h = dropped r h
 
 pub save-promises : Gives save-kinds.ps save-kinds.r save.Learnt (λ κs a r e. Promised (Save (a .1 .0)) (a .0 .now) (answerOf r) (e .0 .now))
 save-promises κs a r e fits h = saved r h
+
+pub strike-promises : Gives strike-kinds.ps strike-kinds.r strike.Learnt (λ κs a r e. Promised (Strike (a .1 .0)) (a .0 .now) (answerOf r) (e .0 .now))
+strike-promises κs a r e fits h = struck r h
+
+pub report-promises : Gives report-kinds.ps report-kinds.r report.Learnt
+    (λ κs a r e. Promised (Ask (RowReport (a .1 .0))) (a .0 .now) (reportAnswerOf r) (a .0 .now))
+report-promises κs a r e fits h = reported r h
+
+pub gap-promises : Gives gap-kinds.ps gap-kinds.r gap.Learnt (λ κs a r e. Promised (Ask FirstGap) (a .0 .now) (gapAnswerOf r) (a .0 .now))
+gap-promises κs a r e fits h = gapped r h

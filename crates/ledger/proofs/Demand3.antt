@@ -1,32 +1,33 @@
 -- Demand 3 of every list of the ledger's calls on a fresh sheet. Assumes nothing.
 use Prim.Native.Nat.{ℕ}
 use mathlib.Core.Bool.{Bool, true, false}
-use mathlib.Core.List.{List, [], _∷_, map}
+use mathlib.Core.List.{List, [], _∷_}
 use mathlib.Core.Path.{_≡_, refl, sym, ap, _∙_}
 use lib.Dec.{eqb}
 use lib.ListN.{length}
 use Rattle.model.specs.Book.{fresh}
-use Rattle.model.specs.Step.{Call, Answer, Entry, callOf}
+use Rattle.model.specs.Step.{Call, Answer, Entry}
 use Rattle.model.specs.Chain.{Chain, stop, next}
-use Rattle.model.specs.Claim.{bookAfter}
-use Rattle.model.proofs.WellFormed.{run-well-formed}
 use Rattle.sheet.specs.Sheet.{sheetSize}
 use Rattle.changes.specs.Bytes.{Outcome, freshSheet}
-use Rattle.layout.specs.Layout.{layout, report, freshOn}
+use Rattle.layout.specs.Layout.{layout, freshOn}
 use Rattle.layout.specs.Demand3 as Layout
-use Rattle.layout.proofs.Demand3.{answer-meets, row-answer-meets, demand3}
-use Rattle.layout.proofs.Sheets.{fresh-layout, on-layout}
-use Rattle.ledger.specs.Demand3.{MadeFresh, Promised, enrolled, found, opened, ticked, unticked, saved, dropped, Demand3}
+use Rattle.layout.proofs.Demand3.{answer-meets, row-answer-meets, report-answer-meets, gap-answer-meets, demand3}
+use Rattle.layout.proofs.Sheets.{fresh-layout}
+use Rattle.ledger.specs.Demand3.{MadeFresh, Promised, enrolled, found, reported, gapped, opened, ticked, unticked, saved, dropped, struck, Demand3}
 
 -- each contract's equation is the promise that the claim asks for
 pub meets : {c : Call} {s t : List ℕ} {a : Answer} → Promised c s a t → Layout.Meets c s a t
 meets (enrolled r e) = row-answer-meets _ _ r _ e
 meets (found r e) = row-answer-meets _ _ r _ e
+meets (reported r e) = report-answer-meets _ _ r _ e
+meets (gapped r e) = gap-answer-meets _ _ r _ e
 meets (opened r e) = answer-meets _ _ r _ e
 meets (ticked r e) = answer-meets _ _ r _ e
 meets (unticked r e) = answer-meets _ _ r _ e
 meets (saved r e) = answer-meets _ _ r _ e
 meets (dropped r e) = answer-meets _ _ r _ e
+meets (struck r e) = answer-meets _ _ r _ e
 
 chain-meets : {s t : List ℕ} {log : List Entry} → Chain Promised s log t → Chain Layout.Meets s log t
 chain-meets stop = stop
@@ -58,14 +59,14 @@ demand-3 s {start} {last} {log} made chain =
         model-store = model .model-store;
         serial-entries = model .serial-entries;
         serial-order = model .serial-order;
+        serial-saves = model .serial-saves;
         serial-run = model .serial-run;
         serial-store = λ again end other e. model .serial-store again end (chain-meets other) e;
+        as-opened = model .as-opened;
         stale-exactly = model .stale-exactly;
         stale-cause = model .stale-cause;
       };
       serial-rows = λ again end other e.
           let repeated = chain-meets other in
           whole .serial-rows again end (rw (ready, fresh-layout) at repeated) e;
-      reports = λ words.
-          rw (model .model-store) (on-layout (report words) (bookAfter log) (run-well-formed (map callOf log)));
     }

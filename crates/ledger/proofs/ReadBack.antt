@@ -9,9 +9,9 @@ use borrow.Author.Tests.{eqb-true}
 use Rattle.refusals.specs.Judge.{Rule, verdict}
 use Rattle.model.specs.Step.{Enrol}
 use Rattle.octets.proofs.Laws.{Bytes}
-use Rattle.sheet.specs.Sheet.{keySize, firstSize, rowAt, used}
+use Rattle.sheet.specs.Sheet.{keySize, firstSize, rowAt}
 use Rattle.changes.specs.Rows.{rowValueAt, blankRow}
-use Rattle.changes.specs.Bytes.{Outcome, judged, enrolAt}
+use Rattle.changes.specs.Bytes.{Outcome, judged, freeRow, enrolAt}
 use Rattle.sheet.specs.Words.{rowWords}
 use Rattle.sheet.specs.declared.Answer.the-variants as A
 use Rattle.sheet.specs.declared.RowAnswer.the-variants as R
@@ -29,16 +29,16 @@ enrol-reads-back s t key first row bytes k f e = by (eqb (verdict rows) 0) refl
     rows : List (Rule ℕ)
     rows = enrolRows key first s
 
-    done : _≡_ {A = Outcome} (0 ∷ row ∷ [], t) (judged rows (0 ∷ used s ∷ [], enrolAt (used s) key first s) s)
+    done : _≡_ {A = Outcome} (0 ∷ row ∷ [], t) (judged rows (0 ∷ freeRow s ∷ [], enrolAt (freeRow s) key first s) s)
     done = e ∙ sym (by-rows (Enrol key first) s bytes .same)
 
     by : (b : Bool) → eqb (verdict rows) 0 ≡ b → rowValueAt t (rowAt row) ≡ blankRow key first
     by true z =
-        let both : _≡_ {A = Outcome} (0 ∷ row ∷ [], t) (0 ∷ used s ∷ [], enrolAt (used s) key first s) = rw z at done in
-        let words : _≡_ {A = List ℕ} (0 ∷ row ∷ []) (0 ∷ used s ∷ []) = ap (λ o. o .0) both in
-        let same : row ≡ used s = cc in
+        let both : _≡_ {A = Outcome} (0 ∷ row ∷ [], t) (0 ∷ freeRow s ∷ [], enrolAt (freeRow s) key first s) = rw z at done in
+        let words : _≡_ {A = List ℕ} (0 ∷ row ∷ []) (0 ∷ freeRow s ∷ []) = ap (λ o. o .0) both in
+        let same : row ≡ freeRow s = cc in
         let fine = enrol-fine s {v = A.Done} key first (ap (λ n. n ∷ []) (sym (eqb-true (verdict rows) 0 z))) refl in
-        rw (same, ap (λ o. o .1) both) (enrolled-blank s (used s) key first (fine .0) (fine .1) k f)
+        rw (same, ap (λ o. o .1) both) (enrolled-blank s (freeRow s) key first (fine .0) (fine .1) k f)
     by false z =
         let both : _≡_ {A = Outcome} (0 ∷ row ∷ [], t) (verdict rows ∷ [], s) = rw z at done in
         let words : _≡_ {A = List ℕ} (0 ∷ row ∷ []) (verdict rows ∷ []) = ap (λ o. o .0) both in

@@ -4,17 +4,18 @@
 use Prim.Native.Nat.{ℕ}
 use mathlib.Core.Path.{_≡_}
 use mathlib.Core.List.{List, map}
-use Rattle.model.specs.Book as Model
-use Rattle.model.specs.Step.{Call, Enrol, Find, Open, Tick, Untick, Save, Drop, Answer, Entry, callOf}
+use Rattle.model.specs.Step.{Find, RowReport, FirstGap, Call, Enrol, Ask, Open, Tick, Untick, Save, Drop, Strike, Answer, Entry, callOf}
 use Rattle.model.specs.History.{serial}
 use Rattle.model.specs.Chain.{Chain}
-use Rattle.model.specs.Claim.{bookAfter, Claim}
-use Rattle.sheet.specs.Words.{answerWords, rowWords}
+use Rattle.model.specs.Claim.{Claim}
+use Rattle.sheet.specs.Words.{answerWords, rowWords, reportAnswerWords, gapWords}
 use Rattle.sheet.specs.declared.Answer as Sheet
 use Rattle.sheet.specs.declared.Answer.the-variants as A
 use Rattle.sheet.specs.declared.RowAnswer.{RowAnswer}
-use Rattle.layout.specs.Layout.{layout, call, report, onSheet, freshOn}
-use Rattle.layout.specs.Demand3.{answerOf, rowAnswerOf, headerAndRows}
+use Rattle.sheet.specs.declared.ReportAnswer.{ReportAnswer}
+use Rattle.sheet.specs.declared.GapAnswer.{GapAnswer}
+use Rattle.layout.specs.Layout.{layout, call, onSheet, freshOn}
+use Rattle.layout.specs.Demand3.{answerOf, rowAnswerOf, reportAnswerOf, gapAnswerOf, headerAndRows}
 
 -- What `fresh` promises where it answers done: called on the slice s it left the sheet `start`.
 abbrev pub MadeFresh : (s start : List ℕ) → Type 0
@@ -25,7 +26,11 @@ MadeFresh s start = (answerWords A.Done, start) ≡ freshOn s
 pub data Promised : Call → List ℕ → Answer → List ℕ → Type 0 where
   enrolled : {s t : List ℕ} {key first : ℕ} (r : RowAnswer) → (rowWords r, t) ≡ onSheet (call (Enrol key first)) s
       → Promised (Enrol key first) s (rowAnswerOf r) t
-  found : {s : List ℕ} {key : ℕ} (r : RowAnswer) → (rowWords r, s) ≡ onSheet (call (Find key)) s → Promised (Find key) s (rowAnswerOf r) s
+  found : {s : List ℕ} {key : ℕ} (r : RowAnswer) → (rowWords r, s) ≡ onSheet (call (Ask (Find key))) s
+      → Promised (Ask (Find key)) s (rowAnswerOf r) s
+  reported : {s : List ℕ} {row : ℕ} (r : ReportAnswer) → (reportAnswerWords r, s) ≡ onSheet (call (Ask (RowReport row))) s
+      → Promised (Ask (RowReport row)) s (reportAnswerOf r) s
+  gapped : {s : List ℕ} (r : GapAnswer) → (gapWords r, s) ≡ onSheet (call (Ask FirstGap)) s → Promised (Ask FirstGap) s (gapAnswerOf r) s
   opened : {s t : List ℕ} {desk row : ℕ} (r : Sheet.Answer) → (answerWords r, t) ≡ onSheet (call (Open desk row)) s
       → Promised (Open desk row) s (answerOf r) t
   ticked : {s t : List ℕ} {desk number : ℕ} (r : Sheet.Answer) → (answerWords r, t) ≡ onSheet (call (Tick desk number)) s
@@ -34,15 +39,17 @@ pub data Promised : Call → List ℕ → Answer → List ℕ → Type 0 where
       → Promised (Untick desk number) s (answerOf r) t
   saved : {s t : List ℕ} {desk : ℕ} (r : Sheet.Answer) → (answerWords r, t) ≡ onSheet (call (Save desk)) s → Promised (Save desk) s (answerOf r) t
   dropped : {s t : List ℕ} {desk : ℕ} (r : Sheet.Answer) → (answerWords r, t) ≡ onSheet (call (Drop desk)) s → Promised (Drop desk) s (answerOf r) t
+  struck : {s t : List ℕ} {row : ℕ} (r : Sheet.Answer) → (answerWords r, t) ≡ onSheet (call (Strike row)) s → Promised (Strike row) s (answerOf r) t
 
--- `log` is the calls with what they answered, from the sheet `start` that `fresh` made to the sheet `last`.
+-- `log` is the calls with what they answered, from the sheet `start` that `fresh` made to the sheet `last`. Strikes, reports and first
+-- gaps are calls of the list like any other.
 pub record Demand3 (start : List ℕ) (log : List Entry) (last : List ℕ) : Type 0 where
   -- All answers are the model's, and the sheet at the end is the model's book laid out, byte for byte. The serial history is made of
-  -- entries of the log; its calls, made on a fresh sheet, get the answers that they had in the log. A save by a desk with a row
-  -- open is 31 exactly when the row's set is not the opened one, and then another desk's accepted save of that row stands between.
+  -- entries of the log, with its accepted enrolments, strikes and saves in their order; its calls, made on a fresh sheet, get the answers
+  -- that they had in the log. A save by a desk with a row open is 31 exactly when the row's set is not the opened one, and then
+  -- another desk's accepted save of that row stands between. (A row that a desk has open is not struck, so its place holds the stream
+  -- that the desk opened until the desk saves or drops it.)
   pub claim : Claim Promised layout log last
   -- The rows, and their count, are those of the serial history made on a fresh sheet, byte for byte.
   pub serial-rows : (again : List Entry) (end : List ℕ) → Chain Promised start again end → map callOf again ≡ map callOf (serial log)
       → headerAndRows end ≡ headerAndRows last
-  -- The row report and the first gap on the sheet at the end are the model's on its book.
-  pub reports : (words : Model.Book → List ℕ) → onSheet (report words) last ≡ (words (bookAfter log), last)

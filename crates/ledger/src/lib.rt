@@ -1,4 +1,4 @@
-// The receipt ledger: the public calls on a lent sheet (document 01, "The ledger sheet"). Each contract has one shape: the words
+// The receipt ledger: the public calls on a lent sheet (document 01, "The ledger sheet"; document 02, requests 03 and 10). Each contract has one shape: the words
 // of the answer, and the sheet as it is left, are the model's call on the book that the sheet holds, laid out again. What is
 // not a right sheet is refused with 20 and left as it was.
 use changes::desks::clear_desk;
@@ -7,6 +7,7 @@ use changes::desks::open_desk;
 use changes::desks::save_desk;
 use changes::rows::enrol_row;
 use changes::rows::find_row;
+use changes::rows::strike_row;
 use changes::ticks::mark_desk;
 use refusals::Refusal;
 use sheet::Answer;
@@ -20,12 +21,12 @@ use verdicts::enrol_verdict;
 use verdicts::find_verdict;
 use verdicts::open_verdict;
 use verdicts::report_verdict;
+use verdicts::strike_verdict;
 ghost use mathlib.Core.Path.{_≡_};
 ghost use mathlib.Core.Bool.{true, false};
-ghost use Rattle.model.specs.Step.{Enrol, Find, Open, Mark, Tick, Untick, Save, Drop};
-ghost use Rattle.model.specs.Counts.{rowReport, firstGap};
+ghost use Rattle.model.specs.Step.{Enrol, Ask, Find, RowReport, FirstGap, Open, Mark, Tick, Untick, Save, Drop, Strike};
 ghost use Rattle.sheet.specs.Words.{answerWords, rowWords, reportAnswerWords, gapWords};
-ghost use Rattle.layout.specs.Layout.{call, report, onSheet, freshOn};
+ghost use Rattle.layout.specs.Layout.{call, onSheet, freshOn};
 
 // Makes the slice a fresh sheet. Only its length is judged.
 pub fn fresh(s: &mut [u8]) -> Answer
@@ -38,7 +39,7 @@ pub fn fresh(s: &mut [u8]) -> Answer
     Answer::Done
 }
 
-// Enrols a stream in the next row, with no ticks; answers the row.
+// Enrols a stream in the lowest free row, with no ticks; answers the row.
 pub fn enrol(s: &mut [u8], key: u64, first: u32) -> RowAnswer
     ensures { λ r. ⌜ (rowWords r, now (s .exit)) ≡ onSheet (call (Enrol key first)) (now (s .entry)) ⌝ }
 {
@@ -51,7 +52,7 @@ pub fn enrol(s: &mut [u8], key: u64, first: u32) -> RowAnswer
 
 // Finds a stream; answers its row.
 pub fn find(s: &[u8], key: u64) -> RowAnswer
-    ensures { λ r. ⌜ (rowWords r, now (s .entry)) ≡ onSheet (call (Find key)) (now (s .entry)) ⌝ }
+    ensures { λ r. ⌜ (rowWords r, now (s .entry)) ≡ onSheet (call (Ask (Find key))) (now (s .entry)) ⌝ }
 {
     let verdict = find_verdict(s, key);
     if let Answer::Refused(why) = verdict {
@@ -120,9 +121,21 @@ pub fn save(s: &mut [u8], desk: u32) -> Answer
     save_desk(s, desk as usize)
 }
 
+// Strikes a row that no desk has open: its place is free again.
+pub fn strike(s: &mut [u8], row: u32) -> Answer
+    ensures { λ r. ⌜ (answerWords r, now (s .exit)) ≡ onSheet (call (Strike row)) (now (s .entry)) ⌝ }
+{
+    let verdict = strike_verdict(s, row);
+    if let Answer::Refused(why) = verdict {
+        return Answer::Refused(why);
+    }
+    strike_row(s, row as usize);
+    Answer::Done
+}
+
 // Reports on a row: how many numbers are ticked, how many are missing, and the lowest missing one.
 pub fn row_report(s: &[u8], row: u32) -> ReportAnswer
-    ensures { λ r. ⌜ (reportAnswerWords r, now (s .entry)) ≡ onSheet (report (λ b. rowReport b row)) (now (s .entry)) ⌝ }
+    ensures { λ r. ⌜ (reportAnswerWords r, now (s .entry)) ≡ onSheet (call (Ask (RowReport row))) (now (s .entry)) ⌝ }
 {
     let verdict = report_verdict(s, row);
     if let Answer::Refused(why) = verdict {
@@ -133,7 +146,7 @@ pub fn row_report(s: &[u8], row: u32) -> ReportAnswer
 
 // Finds the first missing number and its row.
 pub fn first_gap(s: &[u8]) -> GapAnswer
-    ensures { λ r. ⌜ (gapWords r, now (s .entry)) ≡ onSheet (report firstGap) (now (s .entry)) ⌝ }
+    ensures { λ r. ⌜ (gapWords r, now (s .entry)) ≡ onSheet (call (Ask FirstGap)) (now (s .entry)) ⌝ }
 {
     if !is_sheet(s) {
         return GapAnswer::Refused(Refusal::NotSheet);

@@ -7,11 +7,12 @@ use mathlib.Core.Path.{_≡_, refl, sym, ap, _∙_}
 use mathlib.Core.Logic.{_≢_}
 use mathlib.Core.Bool.{Bool, true, false, cond, Bool·beq, _&&_, _||_, true≢false, false≢true}
 use mathlib.Core.List.{List, [], _∷_}
+use lib.Dec.{eqb}
 use lib.ListN.{getD, set, length, replicate}
 use lib.Seq.{getD-set-same, getD-set-other, set-getD}
-use borrow.Author.Tests.{ltb-true}
+use borrow.Author.Tests.{ltb-true, eqb-false, eq-eqb}
 use Rattle.model.specs.Positions.{Positions, same}
-use Rattle.model.specs.Book.{Place, free, row, Desk, closed, isFree, isDesk, allUsed, lowestFree}
+use Rattle.model.specs.Book.{Place, free, row, Desk, closed, working, isFree, isDesk, allUsed, lowestFree, anyHasOpen}
 
 -- ---- tests
 
@@ -95,6 +96,27 @@ pub record HasRow (p : Place) : Type 0 where
 pub has-row : (p : Place) → isFree p ≡ false → HasRow p
 has-row free e = absurd (true≢false e)
 has-row (row key first ticks) e = record { key = key; first = first; ticks = ticks; is = refl }
+
+-- Where no desk has place r open, a desk with a place open has another.
+pub not-open : (xs : List Desk) (r d q : ℕ) (opened worked : Positions) → anyHasOpen r xs ≡ false → getD xs d closed ≡ working q opened worked → q ≢ r
+unfolding anyHasOpen
+not-open [] r d q opened worked n e p = let z : _≡_ {A = ℕ} 0 1 = cc in omega arith
+not-open (closed ∷ xs) r zero q opened worked n e p = let z : _≡_ {A = ℕ} 0 1 = cc in omega arith
+not-open (closed ∷ xs) r (suc d) q opened worked n e p = not-open xs r d q opened worked n e p
+not-open (working q′ o′ w′ ∷ xs) r zero q opened worked n e p = let s : q′ ≡ r = cc in eqb-false q′ r (or-false _ _ n .0) s
+not-open (working q′ o′ w′ ∷ xs) r (suc d) q opened worked n e p = not-open xs r d q opened worked (or-false (eqb q′ r) _ n .1) e p
+
+pub has-open : (xs : List Desk) (d r : ℕ) (opened worked : Positions) → getD xs d closed ≡ working r opened worked → anyHasOpen r xs ≡ true
+unfolding anyHasOpen
+has-open [] d r opened worked e = cc
+has-open (closed ∷ xs) zero r opened worked e = cc
+has-open (closed ∷ xs) (suc d) r opened worked e = has-open xs d r opened worked e
+has-open (working q o w ∷ xs) zero r opened worked e = let p : q ≡ r = cc in rw (eq-eqb q r p)
+has-open (working q o w ∷ xs) (suc d) r opened worked e = rw (has-open xs d r opened worked e) (or-true (eqb q r))
+  where
+    or-true : (x : Bool) → (x || true) ≡ true
+    or-true true = refl
+    or-true false = refl
 
 -- ---- lists with one element put
 

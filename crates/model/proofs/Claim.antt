@@ -3,34 +3,39 @@
 -- Assumes nothing.
 use Prim.Native.Nat.{ℕ}
 use mathlib.Core.Path.{_≡_, refl, sym, ap, _∙_, subst}
+use mathlib.Core.Bool.{true}
 use mathlib.Core.List.{List, [], _∷_, _++_, map}
 use Rattle.model.specs.Book.{Book, idle, fresh}
-use Rattle.model.specs.Step.{Call, Save, Answer, step, Entry, _⇒_, callOf, run}
+use Rattle.model.specs.Step.{Call, Save, Answer, accepted, step, Entry, _⇒_, callOf, run, bookAfter}
 use Rattle.model.specs.History.{serial}
 use Rattle.model.specs.WellFormed.{WellFormed}
 use Rattle.model.specs.Chain.{Chain, stop, next, Steps}
-use Rattle.model.specs.Claim.{bookAfter, Claim}
+use Rattle.model.specs.Stale.{LastOpen}
+use Rattle.model.specs.Claim.{Saved, Claim}
 use Rattle.model.proofs.Outcome.{outcome}
 use Rattle.model.proofs.WellFormed.{well-formed, fresh-well-formed}
 use Rattle.model.proofs.Replay.{replays-run, serial-run}
-use Rattle.model.proofs.Stale.{watching, stale-exactly, stale-cause}
-use Rattle.model.proofs.History.{serial-entries, serial-order}
+use Rattle.model.proofs.Stale.{watching, OpenDesk, save-open, stale-exactly, stale-cause}
+use Rattle.model.proofs.History.{serial-entries, serial-order, save-stands}
 
 -- ---- a log cut in two
 
--- A log that is the model's, up to one of its entries: so is what stands before, and the entry's answer.
-record Cut (b : Book) (past : List Entry) (c : Call) (a : Answer) : Type 0 where
-  past-log : run b (map callOf past) .log ≡ past
-  answer-is : a ≡ step c (run b (map callOf past) .book) .answer
-
-cut : (b : Book) (past : List Entry) (c : Call) (a : Answer) (future : List Entry)
-    → run b (map callOf (past ++ (c ⇒ a) ∷ future)) .log ≡ past ++ (c ⇒ a) ∷ future → Cut b past c a
+-- Of a log that is the model's, so is each part from the start,
+past-log : (b : Book) (past future : List Entry) → run b (map callOf (past ++ future)) .log ≡ past ++ future → run b (map callOf past) .log ≡ past
 unfolding run
-cut b [] c a future e = record { past-log = refl; answer-is = cc }
-cut b ((x ⇒ y) ∷ past) c a future e =
+past-log b [] future e = refl
+past-log b ((x ⇒ y) ∷ past) future e =
+    let rest : run (step x b .book) (map callOf (past ++ future)) .log ≡ past ++ future = cc in
+    cc (past-log (step x b .book) past future rest)
+
+-- and each entry's answer.
+answer-is : (b : Book) (past : List Entry) (c : Call) (a : Answer) (future : List Entry)
+    → run b (map callOf (past ++ (c ⇒ a) ∷ future)) .log ≡ past ++ (c ⇒ a) ∷ future → a ≡ step c (run b (map callOf past) .book) .answer
+unfolding run
+answer-is b [] c a future e = cc
+answer-is b ((x ⇒ y) ∷ past) c a future e =
     let rest : run (step x b .book) (map callOf (past ++ (c ⇒ a) ∷ future)) .log ≡ past ++ (c ⇒ a) ∷ future = cc in
-    let k = cut (step x b .book) past c a future rest in
-    record { past-log = cc (k .past-log); answer-is = k .answer-is }
+    answer-is (step x b .book) past c a future rest
 
 -- ---- from the model's answers to the claim
 
@@ -39,8 +44,25 @@ module _ {S : Type 0} (Meets : Call → S → Answer → S → Type 0) (layout :
   again : run fresh (map callOf (serial log)) ≡ record { log = serial log; book = idle (bookAfter log .places) }
   again = rw answers at (serial-run (map callOf log))
 
-  cut-at : (past future : List Entry) (d : ℕ) (a : Answer) → log ≡ past ++ (Save d ⇒ a) ∷ future → Cut fresh past (Save d) a
-  cut-at past future d a split = cut fresh past (Save d) a future (sym (ap (λ l. run fresh (map callOf l) .log) split) ∙ answers ∙ split)
+  parted : (xs : List Entry) → log ≡ xs → run fresh (map callOf xs) .log ≡ xs
+  parted xs split = sym (ap (λ l. run fresh (map callOf l) .log) split) ∙ answers ∙ split
+
+  past-is : (past future : List Entry) → log ≡ past ++ future → run fresh (map callOf past) .log ≡ past
+  past-is past future split = past-log fresh past future (parted _ split)
+
+  save-is : (past future : List Entry) (d : ℕ) (a : Answer) → log ≡ past ++ (Save d ⇒ a) ∷ future → a ≡ step (Save d) (bookAfter past) .answer
+  save-is past future d a split = answer-is fresh past (Save d) a future (parted _ split)
+
+  saved : (past future : List Entry) (d : ℕ) (a : Answer) → log ≡ past ++ (Save d ⇒ a) ∷ future → accepted a ≡ true → Saved log past d a
+  saved past future d a split t = at (save-open (bookAfter past) d (sym (ap accepted (save-is past future d a split)) ∙ t))
+    where
+      with-open : (r : ℕ) → LastOpen past d r → Saved log past d a
+      with-open r k = record { row = r; opening = k; further = _; stands = ap serial split ∙ save-stands past future d r a k t }
+
+      at : OpenDesk (bookAfter past) d → Saved log past d a
+      at o =
+          with-open (o .row)
+          (rw (past-is past _ split) at (watching (map callOf past) d (o .row) (o .opened) (o .worked) (o .is) .as-opened .opening))
 
   -- `meets`: the answers and the store are the model's in every chain of the serial history's calls.
   claim-from : (last : S) → last ≡ layout (bookAfter log)
@@ -53,17 +75,18 @@ module _ {S : Type 0} (Meets : Call → S → Answer → S → Type 0) (layout :
         model-store = laid;
         serial-entries = serial-entries log;
         serial-order = serial-order log;
+        serial-saves = saved;
         serial-run = again;
         serial-store = λ other end chain e.
             let k = meets other end chain e in
             let same-run = ap (run fresh) e ∙ again in
             (sym (k .0) ∙ ap (λ x. x .log) same-run, k .1 ∙ ap (λ x. layout (x .book)) same-run);
+        as-opened = λ past future d r opened worked split x. rw (past-is past future split) at (watching (map callOf past) d r opened worked x .as-opened);
         stale-exactly = λ past future d r opened worked a split x.
             let w = watching (map callOf past) d r opened worked x in
-            rw (cut-at past future d a split .answer-is) (stale-exactly (bookAfter past) d r opened worked (w .is-desk) x);
+            rw (save-is past future d a split) (stale-exactly (bookAfter past) d r opened worked (w .is-desk) x);
         stale-cause = λ past future d r opened worked a split x y.
-            let k = cut-at past future d a split in
-            rw (k .past-log) at (stale-cause (map callOf past) d r opened worked x (sym (k .answer-is) ∙ y));
+            rw (past-is past _ split) at (stale-cause (map callOf past) d r opened worked x (sym (save-is past future d a split) ∙ y));
       }
 
 -- ---- any store whose calls keep their promise

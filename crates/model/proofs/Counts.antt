@@ -164,9 +164,9 @@ NoGap (row key first ticks) = least (missing ticks) ≡ none
 
 -- The first gap of places counted from r on: none in any place; or the lowest missing number of place i, and none before.
 pub data Gap (r : ℕ) (ps : List Place) : List ℕ → Type 0 where
-  no-gap : ((j : ℕ) → NoGap (getD ps j free)) → Gap r ps (0 ∷ [])
+  no-gap : ((j : ℕ) → NoGap (getD ps j free)) → Gap r ps []
   gap-at : (i key first : ℕ) (ticks : Positions) (p : ℕ) → getD ps i free ≡ row key first ticks → least (missing ticks) ≡ some p
-      → ((j : ℕ) → j < i → NoGap (getD ps j free)) → (q : ℕ) → q ≡ r + i → Gap r ps (0 ∷ numberAt key first p ∷ q ∷ [])
+      → ((j : ℕ) → j < i → NoGap (getD ps j free)) → (q : ℕ) → q ≡ r + i → Gap r ps (numberAt key first p ∷ q ∷ [])
 
 -- A place without a gap, before the others.
 gap-after : (r : ℕ) (p : Place) (ps : List Place) → NoGap p → {words : List ℕ} → Gap (suc r) ps words → Gap r (p ∷ ps) words

@@ -7,10 +7,12 @@ use mathlib.Core.Bool.{Bool, true, false, cond, _&&_}
 use mathlib.Core.Option.{Option, none, some}
 use mathlib.Core.List.{List, [], _∷_, _++_, append-assoc, append-nil, List·Memᴰ, List·Memᴰ·head, List·Memᴰ·tail, List·Memᴰ·not-nil}
 use lib.Dec.{eqb}
+use lib.Seq.{append-snoc}
 use borrow.Author.Tests.{eq-eqb}
-use Rattle.model.specs.Step.{Enrol, Find, Open, Mark, Save, Drop, Answer, done, atRow, refused, accepted, Entry, _⇒_}
-use Rattle.model.specs.History.{noted, transactionFrom, transaction, kept, serialFrom, serial, isResult, results}
-use Rattle.model.specs.Stale.{openedBy, later, lastOpened}
+use Rattle.model.specs.Lists.{only}
+use Rattle.model.specs.Step.{Enrol, Ask, Open, Mark, Save, Drop, Strike, Answer, gave, refused, accepted, Entry, _⇒_, callOf}
+use Rattle.model.specs.History.{noted, transactionFrom, transaction, marks, marksOf, kept, serialFrom, serial, isResult, results}
+use Rattle.model.specs.Stale.{openedBy, later, lastOpened, LastOpen}
 use Rattle.model.proofs.Basics.{by-test}
 
 -- ---- the entries
@@ -33,11 +35,12 @@ module _ (P : Entry → Type 0) where
   noted-all : (d : ℕ) (t : List Entry) (e : Entry) → All P t → P e → All P (noted d t e)
   unfolding noted
   noted-all d t (Enrol key first ⇒ a) f p = f
-  noted-all d t (Find key ⇒ a) f p = f
+  noted-all d t (Ask q ⇒ a) f p = f
   noted-all d t (Open e r ⇒ a) f p = by-test (All P) (accepted a && eqb e d) (λ _. all-one _ p) (λ _. f)
   noted-all d t (Mark flag e n ⇒ a) f p = by-test (All P) (eqb e d) (λ _. all-append t _ f (all-one _ p)) (λ _. f)
   noted-all d t (Save e ⇒ a) f p = f
   noted-all d t (Drop e ⇒ a) f p = f
+  noted-all d t (Strike r ⇒ a) f p = f
 
   transaction-all : (d : ℕ) (t log : List Entry) → All P t → All P log → All P (transactionFrom d t log)
   unfolding transactionFrom All
@@ -47,12 +50,13 @@ module _ (P : Entry → Type 0) where
   kept-all : (past : List Entry) (e : Entry) → All P past → P e → All P (kept past e)
   unfolding kept All
   kept-all past (Enrol key first ⇒ a) f p = by-test (All P) (accepted a) (λ _. all-one _ p) (λ _. tt)
-  kept-all past (Find key ⇒ a) f p = tt
+  kept-all past (Ask q ⇒ a) f p = tt
   kept-all past (Open d r ⇒ a) f p = tt
   kept-all past (Mark flag d n ⇒ a) f p = tt
   kept-all past (Save d ⇒ a) f p =
       by-test (All P) (accepted a) (λ _. all-append (transaction d past) _ (transaction-all d [] past tt f) (all-one _ p)) (λ _. tt)
   kept-all past (Drop d ⇒ a) f p = tt
+  kept-all past (Strike r ⇒ a) f p = by-test (All P) (accepted a) (λ _. all-one _ p) (λ _. tt)
 
   serialFrom-all : (past log : List Entry) → All P past → All P log → All P (serialFrom past log)
   unfolding serialFrom All
@@ -82,25 +86,29 @@ serial-entries log =
 
 -- ---- the results
 
-results-append : (xs ys : List Entry) → results (xs ++ ys) ≡ results xs ++ results ys
-unfolding results
-results-append [] ys = refl
-results-append (x ∷ xs) ys = at (isResult x) (results-append xs ys)
+only-append : {A : Type 0} (f : A → Bool) (xs ys : List A) → only f (xs ++ ys) ≡ only f xs ++ only f ys
+unfolding only
+only-append f [] ys = refl
+only-append f (x ∷ xs) ys = at (f x) (only-append f xs ys)
   where
-    at : (t : Bool) → results (xs ++ ys) ≡ results xs ++ results ys
-        → cond t (x ∷ results (xs ++ ys)) (results (xs ++ ys)) ≡ cond t (x ∷ results xs) (results xs) ++ results ys
+    at : (t : Bool) → only f (xs ++ ys) ≡ only f xs ++ only f ys
+        → cond t (x ∷ only f (xs ++ ys)) (only f (xs ++ ys)) ≡ cond t (x ∷ only f xs) (only f xs) ++ only f ys
     at true e = rw e
     at false e = e
 
+results-append : (xs ys : List Entry) → results (xs ++ ys) ≡ results xs ++ results ys
+results-append = only-append isResult
+
 -- A transaction holds no results.
 noted-none : (d : ℕ) (t : List Entry) (e : Entry) → results t ≡ [] → results (noted d t e) ≡ []
-unfolding noted results isResult
+unfolding noted only isResult
 noted-none d t (Enrol key first ⇒ a) h = h
-noted-none d t (Find key ⇒ a) h = h
+noted-none d t (Ask q ⇒ a) h = h
 noted-none d t (Open e r ⇒ a) h = by-test (λ es. results es ≡ []) (accepted a && eqb e d) (λ _. refl) (λ _. h)
 noted-none d t (Mark flag e n ⇒ a) h = by-test (λ es. results es ≡ []) (eqb e d) (λ _. rw (results-append t _, h)) (λ _. h)
 noted-none d t (Save e ⇒ a) h = h
 noted-none d t (Drop e ⇒ a) h = h
+noted-none d t (Strike r ⇒ a) h = h
 
 transaction-none : (d : ℕ) (t log : List Entry) → results t ≡ [] → results (transactionFrom d t log) ≡ []
 unfolding transactionFrom
@@ -108,48 +116,34 @@ transaction-none d t [] h = h
 transaction-none d t (e ∷ log) h = transaction-none d (noted d t e) log (noted-none d t e h)
 
 kept-results : (past : List Entry) (e : Entry) → results (kept past e) ≡ results (e ∷ [])
-unfolding kept results isResult
-kept-results past (Enrol key first ⇒ done) = refl
-kept-results past (Enrol key first ⇒ atRow r) = refl
+unfolding kept only isResult
+kept-results past (Enrol key first ⇒ gave words) = refl
 kept-results past (Enrol key first ⇒ refused number) = refl
-kept-results past (Find key ⇒ a) = refl
+kept-results past (Ask q ⇒ a) = refl
 kept-results past (Open d r ⇒ a) = refl
 kept-results past (Mark flag d n ⇒ a) = refl
-kept-results past (Save d ⇒ done) = rw (results-append (transaction d past) _, transaction-none d [] past refl)
-kept-results past (Save d ⇒ atRow r) = rw (results-append (transaction d past) _, transaction-none d [] past refl)
+kept-results past (Save d ⇒ gave words) = rw (results-append (transaction d past) _, transaction-none d [] past refl)
 kept-results past (Save d ⇒ refused number) = refl
 kept-results past (Drop d ⇒ a) = refl
+kept-results past (Strike r ⇒ gave words) = refl
+kept-results past (Strike r ⇒ refused number) = refl
 
 serialFrom-results : (past log : List Entry) → results (serialFrom past log) ≡ results log
-unfolding serialFrom results
+unfolding serialFrom only
 serialFrom-results past [] = refl
 serialFrom-results past (e ∷ log) =
     rw (results-append (kept past e) _, kept-results past e, serialFrom-results (past ++ e ∷ []) log) (sym (results-append (e ∷ []) log))
 
 pub serial-order : (log : List Entry) → results (serial log) ≡ results log
-unfolding results
+unfolding only
 serial-order log = serialFrom-results [] log
 
 -- ---- a transaction
 
--- The entry alone if it is a tick or untick of desk d, a refused one too.
-unfoldable pub markOf : ℕ → Entry → List Entry
-markOf d (Enrol key first ⇒ a) = []
-markOf d (Find key ⇒ a) = []
-markOf d (Open e r ⇒ a) = []
-markOf d (Mark flag e n ⇒ a) = cond (eqb e d) ((Mark flag e n ⇒ a) ∷ []) []
-markOf d (Save e ⇒ a) = []
-markOf d (Drop e ⇒ a) = []
-
--- Desk d's ticks and unticks in a log.
-unfoldable pub marksOf : ℕ → List Entry → List Entry
-marksOf d [] = []
-marksOf d (e ∷ log) = markOf d e ++ marksOf d log
-
-noted-mark : (d : ℕ) (t : List Entry) (e : Entry) → openedBy d e ≡ none → noted d t e ≡ t ++ markOf d e
-unfolding noted openedBy markOf
+noted-mark : (d : ℕ) (t : List Entry) (e : Entry) → openedBy d e ≡ none → noted d t e ≡ t ++ marksOf d (e ∷ [])
+unfolding noted openedBy marks only
 noted-mark d t (Enrol key first ⇒ a) o = sym (append-nil t)
-noted-mark d t (Find key ⇒ a) o = sym (append-nil t)
+noted-mark d t (Ask q ⇒ a) o = sym (append-nil t)
 noted-mark d t (Open e r ⇒ a) o = at (accepted a && eqb e d) o
   where
     at : (u : Bool) → cond u (some r) none ≡ none → cond u ((Open e r ⇒ a) ∷ []) t ≡ t ++ []
@@ -162,6 +156,7 @@ noted-mark d t (Mark flag e n ⇒ a) o = at (eqb e d)
     at false = sym (append-nil t)
 noted-mark d t (Save e ⇒ a) o = sym (append-nil t)
 noted-mark d t (Drop e ⇒ a) o = sym (append-nil t)
+noted-mark d t (Strike r ⇒ a) o = sym (append-nil t)
 
 later-is-none : (o p : Option ℕ) → later o p ≡ none → (o ≡ none) × (p ≡ none)
 later-is-none o none e = (e, refl)
@@ -169,11 +164,11 @@ later-is-none o (some r) e = (cc, cc)
 
 -- Where the desk opens nothing, its transaction goes on by its ticks and unticks.
 goes-on : (d : ℕ) (t log : List Entry) → lastOpened d log ≡ none → transactionFrom d t log ≡ t ++ marksOf d log
-unfolding transactionFrom lastOpened marksOf
+unfolding transactionFrom lastOpened only
 goes-on d t [] n = sym (append-nil t)
 goes-on d t (e ∷ log) n =
     let m = later-is-none (openedBy d e) (lastOpened d log) n in
-    goes-on d (noted d t e) log (m .1) ∙ rw (noted-mark d t e (m .0)) (append-assoc t _ _)
+    goes-on d (noted d t e) log (m .1) ∙ rw (noted-mark d t e (m .0)) (append-assoc t _ _ ∙ ap (λ u. t ++ u) (sym (only-append (λ x. marks d (callOf x)) (e ∷ []) log)))
 
 transaction-append : (d : ℕ) (t xs ys : List Entry) → transactionFrom d t (xs ++ ys) ≡ transactionFrom d (transactionFrom d t xs) ys
 unfolding transactionFrom
@@ -189,3 +184,21 @@ transaction-is d r a before since t n =
   where
     begun : noted d (transaction d before) (Open d r ⇒ a) ≡ (Open d r ⇒ a) ∷ []
     begun = rw (t, eq-eqb d d refl)
+
+-- ---- where an accepted save stands
+
+serial-append : (past xs ys : List Entry) → serialFrom past (xs ++ ys) ≡ serialFrom past xs ++ serialFrom (past ++ xs) ys
+unfolding serialFrom
+serial-append past [] ys = rw append-nil
+serial-append past (x ∷ xs) ys =
+    rw (serial-append (past ++ x ∷ []) xs ys, append-snoc past x xs) (sym (append-assoc (kept past x) _ _))
+
+pub save-stands : (past future : List Entry) (d r : ℕ) (a : Answer) (k : LastOpen past d r) → accepted a ≡ true
+    → serial (past ++ (Save d ⇒ a) ∷ future)
+    ≡ serial past ++ ((Open d r ⇒ k .answer) ∷ marksOf d (k .since)) ++ (Save d ⇒ a) ∷ serialFrom (past ++ (Save d ⇒ a) ∷ []) future
+unfolding serialFrom kept
+save-stands past future d r a k t =
+    serial-append [] past _ ∙ rw (t, append-assoc (transaction d past), whole) (sym (append-assoc (serial past) _ _))
+  where
+    whole : transaction d past ≡ (Open d r ⇒ k .answer) ∷ marksOf d (k .since)
+    whole = ap (transaction d) (k .split) ∙ transaction-is d r (k .answer) (k .before) (k .since) (k .was-accepted) (k .not-since)

@@ -1,5 +1,5 @@
--- Laws of the model that what stands on it needs: an enrolment's refusals, find, the places that are used, what a tick or untick
--- does to the count, and answers as numbers. Assumes nothing.
+-- Laws of the model that what stands on it needs: an enrolment's refusals, find, reports, strikes, the places that are used, what a
+-- tick or untick does to the count, and answers as numbers. Assumes nothing.
 use Prim.Native.Nat.{ℕ, zero, suc, _+_, _≤_, _<_, zero-le, suc-le-suc}
 use native.Mathlib.Nat.{zero-lt-suc}
 use native.Mathlib.Omega.{arith}
@@ -10,19 +10,20 @@ use mathlib.Core.Option.{some}
 use mathlib.Core.List.{List, [], _∷_, _++_}
 use lib.Dec.{eqb}
 use lib.ListN.{length, getD, set}
-use lib.Seq.{getD-set-same}
+use lib.Seq.{getD-set-same, getD-set-other}
 use borrow.Author.Tests.{eqb-true, eqb-false, ltb-true, not-false}
 use Rattle.refusals.specs.Judge.{verdict, judge}
 use Rattle.keys.specs.Key.{validKey}
 use Rattle.keys.specs.Numbers.{isNumber}
 use Rattle.model.specs.Positions.{rowLength, Positions, has, same, size, missing, inRow}
 use Rattle.model.specs.Book.{Place, free, row, closed, working, Book, place, desk, isFree, ticksOf, withTicks, workedOf, hasKey, placeWith, lowestFree}
-use Rattle.model.specs.Step.{Call, Enrol, Find, Open, Mark, Save, Drop, Answer, done, atRow, refused, answerWords, Reply, alreadySo, refusals, effect, step, run}
+use Rattle.model.specs.Step.{Find, RowReport, FirstGap, Call, Enrol, Ask, Open, Mark, Save, Drop, Strike, Answer, gave, done, atRow, refused, answerWords, Reply, alreadySo, refusals, asked, effect, step, run}
+use Rattle.model.specs.Counts.{placeReport}
 use Rattle.model.specs.WellFormed.{WellFormed, PlaceOk, IsSet, keyOf}
-use Rattle.model.proofs.Basics.{by-test, row-in, HasRow, has-row, put-back}
+use Rattle.model.proofs.Basics.{by-test, row-in, has-open, HasRow, has-row, put-back}
 use Rattle.model.proofs.Steps.{markVerdict, save-step}
-use Rattle.model.proofs.Outcome.{Has, Outcome, refusal, unopened, unmarked, marking, outcome}
-use Rattle.model.proofs.Counts.{size-missing, size-tick, size-untick}
+use Rattle.model.proofs.Outcome.{Has, Outcome, refusal, unopened, unmarked, marking, striking, outcome}
+use Rattle.model.proofs.Counts.{size-missing, size-tick, size-untick, Gap, first-gap}
 
 -- ---- an enrolment
 
@@ -54,6 +55,47 @@ found key (row k first ticks ∷ ps) e = at (eqb k key) refl e (found key ps)
     at true q h ih = record { in-list = zero-lt-suc _; has-key = ap some (eqb-true k key q) }
     at false q h ih = let l = ih h in record { in-list = suc-le-suc (l .in-list); has-key = l .has-key }
 
+-- ---- questions and strikes
+
+pub find-answers : (b : Book) (key : ℕ) → validKey key ≡ true → hasKey key (b .places) ≡ true
+    → (r : ℕ) × (step (Ask (Find key)) b .answer ≡ atRow r) × Found key (b .places) r
+unfolding step refusals judge effect asked
+find-answers b key v h = (placeWith key (b .places), rw (v, h), found key (b .places) h)
+
+pub gap-answers : (b : Book) → (words : List ℕ) × (step (Ask FirstGap) b .answer ≡ gave words) × Gap 0 (b .places) words
+unfolding step refusals judge effect asked
+gap-answers b = (_, refl, first-gap 0 (b .places))
+
+module _ (b : Book) (r : ℕ) where
+  pub report-free : isFree (place b r) ≡ true → step (Ask (RowReport r)) b .answer ≡ refused 25
+  unfolding step refusals judge
+  report-free f = rw f
+
+  pub report-row : isFree (place b r) ≡ false → step (Ask (RowReport r)) b .answer ≡ gave (placeReport (place b r))
+  unfolding step refusals judge effect asked
+  report-row f = rw f
+
+  pub strike-free : isFree (place b r) ≡ true → step (Strike r) b .answer ≡ refused 25
+  unfolding step refusals judge
+  strike-free f = rw f
+
+  -- A row that a desk has open is not struck,
+  pub strike-open : WellFormed b → (d : ℕ) (opened worked : Positions) → desk b d ≡ working r opened worked → step (Strike r) b .answer ≡ refused 36
+  unfolding step refusals judge
+  strike-open w d opened worked x = let k = rw x at (w .desk-ok d) in rw (k .0, has-open (b .desks) d r opened worked x)
+
+  -- and an accepted strike frees the place, and changes no other and no desk.
+  pub strike-frees : step (Strike r) b .answer ≡ done
+      → (place (step (Strike r) b .book) r ≡ free)
+      × ((q : ℕ) → q ≢ r → place (step (Strike r) b .book) q ≡ place b q)
+      × (step (Strike r) b .book .desks ≡ b .desks)
+  strike-frees = at (outcome (Strike r) b)
+    where
+      at : {s : Reply} → Outcome b (Strike r) s → s .answer ≡ done
+          → (place (s .book) r ≡ free) × ((q : ℕ) → q ≢ r → place (s .book) q ≡ place b q) × (s .book .desks ≡ b .desks)
+      at (refusal number m) a = absurd (let z : _≡_ {A = ℕ} 0 1 = cc in omega arith)
+      at (striking f n) a = (put-back free (λ p. p ≡ free) (b .places) r free refl refl, λ q m. getD-set-other (b .places) r q free free m, refl)
+
 -- ---- used places
 
 pub used-below : (ps : List Place) (r : ℕ) → r < lowestFree ps → isFree (getD ps r free) ≡ false
@@ -63,21 +105,11 @@ used-below (free ∷ ps) r h = absurd (omega arith)
 used-below (row key first ticks ∷ ps) zero h = refl
 used-below (row key first ticks ∷ ps) (suc r) h = used-below ps r (omega arith)
 
-lowest-free : (ps : List Place) → isFree (getD ps (lowestFree ps) free) ≡ true
-unfolding lowestFree
-lowest-free [] = refl
-lowest-free (free ∷ ps) = refl
-lowest-free (row key first ticks ∷ ps) = lowest-free ps
-
 pub lowest-in : (ps : List Place) → lowestFree ps ≤ length ps
 unfolding lowestFree
 lowest-in [] = zero-le
 lowest-in (free ∷ ps) = zero-le
 lowest-in (row key first ticks ∷ ps) = suc-le-suc (lowest-in ps)
-
--- In a well-formed book the used places are those below the lowest free one.
-pub free-from : (b : Book) → WellFormed b → (r : ℕ) → lowestFree (b .places) ≤ r → isFree (place b r) ≡ true
-free-from b w r h = w .used-first (lowestFree (b .places)) r (lowest-free (b .places)) h
 
 -- ---- ticks and counts
 
@@ -172,20 +204,14 @@ module _ (b : Book) (d r : ℕ) (opened worked : Positions) (h : Has b d r opene
 
 -- An answer whose refusal, if it is one, has a number of the table.
 abbrev pub Proper : Answer → Type 0
-Proper done = Unit {0}
-Proper (atRow r) = Unit {0}
+Proper (gave words) = Unit {0}
 Proper (refused number) = number ≢ 0
 
 -- Different answers have different words.
 pub words-injective : (x y : Answer) → Proper x → Proper y → answerWords x ≡ answerWords y → x ≡ y
-words-injective done done p q e = refl
-words-injective done (atRow r) p q e = cc
-words-injective done (refused n) p q e = absurd (q (cc))
-words-injective (atRow r) done p q e = cc
-words-injective (atRow r) (atRow s) p q e = cc
-words-injective (atRow r) (refused n) p q e = cc
-words-injective (refused n) done p q e = absurd (p (cc))
-words-injective (refused n) (atRow r) p q e = cc
+words-injective (gave v) (gave w) p q e = cc
+words-injective (gave v) (refused n) p q e = absurd (q (cc))
+words-injective (refused n) (gave w) p q e = absurd (p (cc))
 words-injective (refused n) (refused m) p q e = cc
 
 pub step-proper : (c : Call) (b : Book) → Proper (step c b .answer)
@@ -195,11 +221,12 @@ step-proper c b =
   where
     effect-proper : (c : Call) → Proper (effect c b .answer)
     effect-proper (Enrol key first) = tt
-    effect-proper (Find key) = tt
+    effect-proper (Ask q) = tt
     effect-proper (Open d r) = tt
     effect-proper (Mark flag d n) = tt
     effect-proper (Save d) = tt
     effect-proper (Drop d) = tt
+    effect-proper (Strike r) = tt
 
 -- ---- a list of calls, one after another
 

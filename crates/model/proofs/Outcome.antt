@@ -2,25 +2,27 @@
 use Prim.Native.Nat.{ℕ}
 use mathlib.Core.Path.{_≡_, refl, sym, _∙_}
 use mathlib.Core.Bool.{Bool, true, false, cond, not, false≢true}
+use mathlib.Core.List.{List}
 use lib.Dec.{eqb}
 use lib.ListN.{set}
 use borrow.Author.Tests.{eqb-true, not-false}
-use Rattle.refusals.specs.Judge.{judge}
+use Rattle.refusals.specs.Judge.{judge, verdict}
 use Rattle.keys.specs.Key.{validKey}
 use Rattle.keys.specs.Numbers.{isNumber}
 use Rattle.model.specs.Positions.{Positions, noTicks, same}
-use Rattle.model.specs.Book.{row, Desk, closed, working, Book, place, desk, putPlace, putDesk, isFree, ticksOf, withTicks, isDesk, isOpen, hasKey, placeWith, allUsed, lowestFree, positionAt}
-use Rattle.model.specs.Step.{Call, Enrol, Find, Open, Mark, Save, Drop, done, atRow, refused, Reply, reply, refusals, effect, afterRefusal, judged, step}
+use Rattle.model.specs.Book.{free, row, Desk, closed, working, Book, place, desk, putPlace, putDesk, isFree, ticksOf, withTicks, isDesk, isOpen, hasKey, allUsed, lowestFree, anyHasOpen, positionAt}
+use Rattle.model.specs.Step.{Question, Call, Enrol, Ask, Open, Mark, Save, Drop, Strike, gave, done, atRow, refused, Reply, reply, refusals, effect, afterRefusal, judged, step}
 use Rattle.model.proofs.Basics.{by-test, by-bool, Lowest, lowest, HasRow, has-row}
 use Rattle.model.proofs.Steps.{markVerdict, mark-step, save-step, mark-closed, save-closed, mark-no-desk, save-no-desk}
 
 abbrev pub isMark : Call → Bool
 isMark (Enrol key first) = false
-isMark (Find key) = false
+isMark (Ask q) = false
 isMark (Open d r) = false
 isMark (Mark flag d n) = true
 isMark (Save d) = false
 isMark (Drop d) = false
+isMark (Strike r) = false
 
 -- An accepted enrolment: the key is valid and new, the first number one of the stream, and the place the lowest free one.
 pub record Admitted (key first : ℕ) (b : Book) : Type 0 where
@@ -39,7 +41,7 @@ pub data Outcome (b : Book) : Call → Reply → Type 0 where
   refusal : {c : Call} (number : ℕ) → isMark c ≡ false → Outcome b c (reply (refused number) b)
   enrolment : {key first : ℕ} → Admitted key first b
       → Outcome b (Enrol key first) (reply (atRow (lowestFree (b .places))) (putPlace (lowestFree (b .places)) (row key first noTicks) b))
-  finding : {key : ℕ} → hasKey key (b .places) ≡ true → Outcome b (Find key) (reply (atRow (placeWith key (b .places))) b)
+  asking : {q : Question} (words : List ℕ) → Outcome b (Ask q) (reply (gave words) b)
   opening : {d r : ℕ} (key first : ℕ) (s : Positions) → isDesk d ≡ true → place b r ≡ row key first s → desk b d ≡ closed
       → Outcome b (Open d r) (reply done (putDesk d (working r s s) b))
   -- A mark by a desk with no row open,
@@ -58,6 +60,7 @@ pub data Outcome (b : Book) : Call → Reply → Type 0 where
   stale : {d : ℕ} (r : ℕ) (opened worked : Positions) → Has b d r opened worked → same (ticksOf (place b r)) opened ≡ false
       → Outcome b (Save d) (reply (refused 31) (putDesk d closed b))
   dropping : {d : ℕ} → isDesk d ≡ true → isOpen (desk b d) ≡ true → Outcome b (Drop d) (reply done (putDesk d closed b))
+  striking : {r : ℕ} → isFree (place b r) ≡ false → anyHasOpen r (b .desks) ≡ false → Outcome b (Strike r) (reply done (putPlace r free b))
 
 -- A desk is closed, or has a row open.
 by-desk {κ} : {P : Type κ} (x : Desk) → (x ≡ closed → P) → ((r : ℕ) (opened worked : Positions) → x ≡ working r opened worked → P) → P
@@ -79,13 +82,7 @@ outcome (Enrol key first) b =
   where
     P : ℕ → Type 0
     P number = Outcome b (Enrol key first) (judged number (Enrol key first) b)
-outcome (Find key) b =
-    by-test P (not (validKey key)) (λ _. refusal 22 refl) λ v.
-    by-test P (not (hasKey key (b .places))) (λ _. refusal 25 refl) λ k.
-    finding (not-false _ k)
-  where
-    P : ℕ → Type 0
-    P number = Outcome b (Find key) (judged number (Find key) b)
+outcome (Ask q) b = by-test (Outcome b (Ask q)) (eqb (verdict (refusals (Ask q) b)) 0) (λ _. asking _) (λ _. refusal _ refl)
 outcome (Open d r) b =
     by-test P (not (isDesk d)) (λ _. refusal 21 refl) λ t.
     by-test P (isFree (place b r)) (λ _. refusal 25 refl) λ f.
@@ -128,3 +125,10 @@ outcome (Drop d) b =
   where
     P : ℕ → Type 0
     P number = Outcome b (Drop d) (judged number (Drop d) b)
+outcome (Strike r) b =
+    by-test P (isFree (place b r)) (λ _. refusal 25 refl) λ f.
+    by-test P (anyHasOpen r (b .desks)) (λ _. refusal 36 refl) λ o.
+    striking f o
+  where
+    P : ℕ → Type 0
+    P number = Outcome b (Strike r) (judged number (Strike r) b)

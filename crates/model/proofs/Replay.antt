@@ -12,13 +12,13 @@ use lib.Seq.{getD-set-same, getD-set-other, set-set, set-getD}
 use borrow.Author.Tests.{eq-eqb, ne-eqb}
 use Rattle.refusals.specs.Judge.{judge}
 use Rattle.model.specs.Positions.{Positions, same}
-use Rattle.model.specs.Book.{Place, free, row, Desk, closed, working, Book, idle, fresh, place, desk, putPlace, putDesk, ticksOf, withTicks, isDesk, positionAt}
-use Rattle.model.specs.Step.{Call, Enrol, Find, Open, Mark, Save, Drop, Answer, done, refused, Reply, reply, refusals, effect, step, Entry, _⇒_, callOf, run}
+use Rattle.model.specs.Book.{Place, free, row, Desk, closed, working, Book, idle, fresh, place, desk, putPlace, putDesk, ticksOf, withTicks, isDesk, anyHasOpen, positionAt}
+use Rattle.model.specs.Step.{Call, Enrol, Ask, Open, Mark, Save, Drop, Strike, Answer, done, refused, Reply, reply, refusals, effect, step, Entry, _⇒_, callOf, run}
 use Rattle.model.specs.History.{noted, transactionFrom, transaction, kept, serialFrom, serial}
 use Rattle.model.specs.Chain.{Chain, stop, next, Steps}
-use Rattle.model.proofs.Basics.{same-true, row-not-free, row-in, put-all, idle-desk, idle-close, at-desk}
+use Rattle.model.proofs.Basics.{same-true, row-not-free, row-in, not-open, put-all, idle-desk, idle-close, at-desk}
 use Rattle.model.proofs.Steps.{markVerdict, open-step, mark-step, save-step}
-use Rattle.model.proofs.Outcome.{isMark, Outcome, refusal, enrolment, finding, opening, unopened, unmarked, marking, saving, stale, dropping, outcome}
+use Rattle.model.proofs.Outcome.{isMark, Outcome, refusal, enrolment, asking, opening, unopened, unmarked, marking, saving, stale, dropping, striking, outcome}
 
 -- ---- transactions
 
@@ -122,11 +122,12 @@ module _ (b : Book) (past : List Entry) (h : Inv b (inLog past)) where
   refusal-good : (c : Call) (number : ℕ) → isMark c ≡ false → Good b past c (reply (refused number) b)
   unfolding kept noted
   refusal-good (Enrol key first) number m = record { replays = stop; inv = h }
-  refusal-good (Find key) number m = record { replays = stop; inv = h }
+  refusal-good (Ask q) number m = record { replays = stop; inv = h }
   refusal-good (Open d r) number m = record { replays = stop; inv = h }
   refusal-good (Mark flag d n) number m = absurd (false≢true (sym m))
   refusal-good (Save d) number m = record { replays = stop; inv = h }
   refusal-good (Drop d) number m = record { replays = stop; inv = h }
+  refusal-good (Strike r) number m = record { replays = stop; inv = h }
 
   open-good : (d r key first : ℕ) (s : Positions) → isDesk d ≡ true → place b r ≡ row key first s
       → Good b past (Open d r) (reply done (putDesk d (working r s s) b))
@@ -226,14 +227,14 @@ module _ (b : Book) (past : List Entry) (h : Inv b (inLog past)) where
       fits = k .has-row ∙ ap (row (k .key) (k .first)) (sym (ap ticksOf (k .has-row)) ∙ same-true _ _ t)
 
   pub good : {c : Call} {s : Reply} → Outcome b c s → Good b past c s
-  unfolding step refusals judge effect kept noted
+  unfolding step refusals judge effect anyHasOpen kept noted
   good (refusal {c = c} number m) = refusal-good c number m
   good (enrolment a) =
       record {
         replays = one (rw (a .is-valid, a .is-number, a .is-new, a .not-full));
         inv = inv-places b (inLog past) _ (keeps-other b _ _ (free-not-open _ (a .is-lowest .is-free))) h;
       }
-  good (finding e) = record { replays = stop; inv = h }
+  good (asking words) = record { replays = stop; inv = h }
   good (opening key first s t e x) = open-good _ _ key first s t e
   good (unopened number f) = unopened-good _ _ _ number f
   good (unmarked {flag = flag} {d = d} {n = n} r opened worked i number e p q z) =
@@ -248,6 +249,8 @@ module _ (b : Book) (past : List Entry) (h : Inv b (inLog past)) where
   good (saving r opened worked e t) = save-good _ r opened worked (underway _ r opened worked (e .1)) t
   good (stale {d = d} r opened worked e t) = record { replays = stop; inv = inv-desk b d closed (inLog past) _ (λ e n. refl) tt h }
   good (dropping {d = d} t x) = record { replays = stop; inv = inv-desk b d closed (inLog past) _ (λ e n. refl) tt h }
+  good (striking {r = r} f n) =
+      record { replays = one (rw f); inv = inv-places b (inLog past) _ (keeps-other b r free (λ d q opened worked. not-open (b .desks) r d q opened worked n)) h }
 
 -- ---- the whole list
 

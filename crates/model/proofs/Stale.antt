@@ -4,19 +4,20 @@ use native.Mathlib.Decide.{ℕ-discrete}
 use native.Mathlib.Omega.{arith}
 use mathlib.Core.Path.{_≡_, refl, sym, ap, _∙_}
 use mathlib.Core.Logic.{_≢_, _↔_, _⊎_, inl, inr, ⊎-elim}
-use mathlib.Core.Bool.{true, true≢false}
+use mathlib.Core.Bool.{true, true≢false, false≢true}
 use mathlib.Core.Option.{Option, none, some}
-use mathlib.Core.List.{List, [], _∷_, _++_, append-assoc, append-nil}
+use mathlib.Core.List.{List, [], _∷_, _++_, append-assoc, append-nil, map}
 use lib.ListN.{getD, set}
 use lib.Seq.{getD-set-other, append-snoc}
 use borrow.Author.Tests.{ne-eqb, eq-eqb}
 use Rattle.model.specs.Positions.{Positions, same}
 use Rattle.model.specs.Book.{Place, free, Desk, closed, working, Book, fresh, place, desk, ticksOf, isDesk}
-use Rattle.model.specs.Step.{Call, Enrol, Find, Open, Mark, Save, Drop, done, refused, Reply, step, Entry, _⇒_, run}
-use Rattle.model.specs.Stale.{openedBy, later, lastOpened, Overtaken}
-use Rattle.model.proofs.Basics.{by-test, same-true, same-refl, put-all, idle-desk}
+use Rattle.model.specs.Step.{Call, Enrol, Ask, Open, Mark, Save, Drop, Strike, Answer, done, refused, accepted, Reply, step, Entry, _⇒_, callOf, run, bookAfter}
+use Rattle.model.specs.Stale.{openedBy, later, lastOpened, LastOpen, Overtaken}
+use Rattle.model.specs.Claim.{AsOpened}
+use Rattle.model.proofs.Basics.{by-test, same-true, same-refl, not-open, put-all, idle-desk}
 use Rattle.model.proofs.Steps.{save-step}
-use Rattle.model.proofs.Outcome.{Outcome, refusal, enrolment, finding, opening, unopened, unmarked, marking, saving, stale, dropping, outcome}
+use Rattle.model.proofs.Outcome.{Outcome, refusal, enrolment, asking, opening, unopened, unmarked, marking, saving, stale, dropping, striking, outcome}
 use Rattle.model.proofs.Replay.{inLog, Inv, NotOpen, free-not-open, transaction-snoc, good, fresh-inv}
 
 -- ---- one more entry in a log
@@ -29,10 +30,36 @@ later-assoc : (o p q : Option ℕ) → later o (later p q) ≡ later (later o p)
 later-assoc o p none = refl
 later-assoc o p (some r) = refl
 
-lastOpened-snoc : (d : ℕ) (log : List Entry) (e : Entry) → lastOpened d (log ++ e ∷ []) ≡ later (lastOpened d log) (openedBy d e)
+lastOpened-append : (d : ℕ) (xs ys : List Entry) → lastOpened d (xs ++ ys) ≡ later (lastOpened d xs) (lastOpened d ys)
 unfolding lastOpened
-lastOpened-snoc d [] e = later-none (openedBy d e)
-lastOpened-snoc d (x ∷ log) e = rw (lastOpened-snoc d log e) (later-assoc (openedBy d x) (lastOpened d log) (openedBy d e))
+lastOpened-append d [] ys = later-none (lastOpened d ys)
+lastOpened-append d (x ∷ xs) ys = rw (lastOpened-append d xs ys) (later-assoc (openedBy d x) (lastOpened d xs) (lastOpened d ys))
+
+-- The row of the last accepted open, and that open as the log grows.
+last-opened : (log : List Entry) (d r : ℕ) → LastOpen log d r → lastOpened d log ≡ some r
+unfolding lastOpened openedBy
+last-opened log d r k =
+    ap (lastOpened d) (k .split) ∙ lastOpened-append d (k .before) _ ∙ rw (k .not-since, k .was-accepted, eq-eqb d d refl)
+
+not-since-snoc : (d : ℕ) (since : List Entry) (e : Entry) → openedBy d e ≡ none → lastOpened d since ≡ none → lastOpened d (since ++ e ∷ []) ≡ none
+unfolding lastOpened
+not-since-snoc d since e n h = lastOpened-append d since (e ∷ []) ∙ rw (h, n)
+
+opened-snoc : (log : List Entry) (e : Entry) (d r : ℕ) (opened : Positions) → openedBy d e ≡ none → AsOpened log d r opened
+    → AsOpened (log ++ e ∷ []) d r opened
+opened-snoc log e d r opened n k =
+    let o = k .opening in
+    record {
+      opening = record {
+        before = o .before;
+        since = o .since ++ e ∷ [];
+        answer = o .answer;
+        split = ap (λ l. l ++ e ∷ []) (o .split) ∙ append-assoc (o .before) _ _;
+        was-accepted = o .was-accepted;
+        not-since = not-since-snoc d (o .since) e n (o .not-since);
+      };
+      was-set = k .was-set;
+    }
 
 overtaken-snoc : (log : List Entry) (e : Entry) (d r : ℕ) → openedBy d e ≡ none → Overtaken log d r → Overtaken (log ++ e ∷ []) d r
 overtaken-snoc log e d r n o =
@@ -44,16 +71,16 @@ overtaken-snoc log e d r n o =
       is-other = o .is-other;
       saved-row = o .saved-row;
       had-opened = o .had-opened;
-      not-since = rw (lastOpened-snoc d (o .since) e, n) (o .not-since);
+      not-since = not-since-snoc d (o .since) e n (o .not-since);
     }
 
 -- ---- the invariant
 
--- Desk d has row r open: it is the row of the desk's last accepted open, and if the row's set is not the opened one,
--- another desk saved the row since.
+-- Desk d has row r open: it is the row of the desk's last accepted open, whose set it had as opened, and if the row's set is not
+-- the opened one, another desk saved the row since.
 pub record Watching (log : List Entry) (ps : List Place) (d r : ℕ) (opened : Positions) : Type 0 where
   pub is-desk : isDesk d ≡ true
-  pub last : lastOpened d log ≡ some r
+  pub as-opened : AsOpened log d r opened
   pub cause : (ticksOf (getD ps r free) ≡ opened) ⊎ Overtaken log d r
 
 abbrev pub Watched : List Entry → List Place → ℕ → Desk → Type 0
@@ -70,7 +97,7 @@ watched-snoc log e ps d closed n w = tt
 watched-snoc log e ps d (working r opened worked) n w =
     record {
       is-desk = w .is-desk;
-      last = rw (lastOpened-snoc d log e, n) (w .last);
+      as-opened = opened-snoc log e d r opened n (w .as-opened);
       cause = ⊎-elim inl (λ o. inr (overtaken-snoc log e d r n o)) (w .cause);
     }
 
@@ -81,20 +108,21 @@ watched-places : (log : List Entry) (ps qs : List Place) (d : ℕ) (x : Desk)
     → Watched log ps d x → Watched log qs d x
 watched-places log ps qs d closed f w = tt
 watched-places log ps qs d (working r opened worked) f w =
-    record { is-desk = w .is-desk; last = w .last; cause = ⊎-elim (λ p. ⊎-elim (λ q. inl (q ∙ p)) inr (f r opened worked refl)) inr (w .cause) }
+    record { is-desk = w .is-desk; as-opened = w .as-opened; cause = ⊎-elim (λ p. ⊎-elim (λ q. inl (q ∙ p)) inr (f r opened worked refl)) inr (w .cause) }
 
 -- ---- what one call does
 
 refused-opens : (d : ℕ) (c : Call) (number : ℕ) → openedBy d (c ⇒ refused number) ≡ none
 unfolding openedBy
 refused-opens d (Enrol key first) number = refl
-refused-opens d (Find key) number = refl
+refused-opens d (Ask q) number = refl
 refused-opens d (Open e r) number = refl
 refused-opens d (Mark flag e n) number = refl
 refused-opens d (Save e) number = refl
 refused-opens d (Drop e) number = refl
+refused-opens d (Strike r) number = refl
 
-module _ (log : List Entry) (b : Book) (h : Inv b (inLog log)) (w : Watch log b) where
+module _ (log : List Entry) (b : Book) (is : b ≡ bookAfter log) (h : Inv b (inLog log)) (w : Watch log b) where
   grown : (e : Entry) (d : ℕ) → openedBy d e ≡ none → Watched (log ++ e ∷ []) (b .places) d (desk b d)
   grown e d n = watched-snoc log e (b .places) d (desk b d) n (w d)
 
@@ -131,20 +159,27 @@ module _ (log : List Entry) (b : Book) (h : Inv b (inLog log)) (w : Watch log b)
             other = d;
             split = refl;
             is-other = λ q′. n (sym q′);
-            saved-row = rw q (saver .last);
-            had-opened = k .last;
+            saved-row = rw q (last-opened log d r (saver .as-opened .opening));
+            had-opened = last-opened log e r′ (k .as-opened .opening);
             not-since = refl;
           }
       at r′ (no m) k = inl (ap ticksOf (getD-set-other (b .places) r r′ p free m))
 
   watch : {c : Call} {s : Reply} → Outcome b c s → Watch (log ++ (c ⇒ s .answer) ∷ []) (s .book)
-  unfolding openedBy
+  unfolding openedBy lastOpened
   watch (refusal {c = c} number m) = λ d. grown _ d (refused-opens d c number)
   watch (enrolment a) = place-watch _ _ _ (λ d. refl) (free-not-open b log h _ (a .is-lowest .is-free))
-  watch (finding e) = λ d. grown _ d refl
+  watch (asking words) = λ d. grown _ d refl
   watch (opening {d = d} {r = r} key first s t e x) =
       put-all closed (Watched _ (b .places)) (b .desks) d _ tt
-      record { is-desk = t; last = rw (lastOpened-snoc d log, eq-eqb d d refl); cause = inl (ap ticksOf e) }
+      record {
+        is-desk = t;
+        as-opened = record {
+          opening = record { before = log; since = []; answer = done; split = refl; was-accepted = refl; not-since = refl };
+          was-set = sym (ap (λ x. ticksOf (place x r)) is) ∙ ap ticksOf e;
+        };
+        cause = inl (ap ticksOf e);
+      }
       (λ d′ n. grown _ d′ (rw (ne-eqb d d′ (λ q. n (sym q)))))
   watch (unopened number f) = λ d. grown _ d refl
   watch (unmarked r opened worked i number e p q z) = λ d. grown _ d refl
@@ -153,22 +188,48 @@ module _ (log : List Entry) (b : Book) (h : Inv b (inLog log)) (w : Watch log b)
   watch (saving {d = d} r opened worked e t) = put-all closed (Watched _ _) (b .desks) d closed tt tt (save-watch d r opened worked _ (e .1))
   watch (stale {d = d} r opened worked e t) = desk-watch _ d closed (λ d′. refl) tt
   watch (dropping {d = d} t x) = desk-watch _ d closed (λ d′. refl) tt
+  watch (striking {r = r} f n) = place-watch _ r free (λ d. refl) (λ d q opened worked. not-open (b .desks) r d q opened worked n)
 
 -- ---- the whole list
 
-watch-run : (calls : List Call) (past : List Entry) (b : Book) → Inv b (inLog past) → Watch past b
+book-snoc : (past : List Entry) (b : Book) (c : Call) (a : Answer)
+    → run b (map callOf (past ++ (c ⇒ a) ∷ [])) .book ≡ step c (run b (map callOf past) .book) .book
+unfolding run
+book-snoc [] b c a = refl
+book-snoc ((x ⇒ y) ∷ past) b c a = book-snoc past (step x b .book) c a
+
+watch-run : (calls : List Call) (past : List Entry) (b : Book) → b ≡ bookAfter past → Inv b (inLog past) → Watch past b
     → Watch (past ++ run b calls .log) (run b calls .book)
 unfolding run
-watch-run [] past b h w = rw append-nil w
-watch-run (c ∷ calls) past b h w =
+watch-run [] past b is h w = rw append-nil w
+watch-run (c ∷ calls) past b is h w =
     rw
     (← append-snoc past (c ⇒ step c b .answer) (run (step c b .book) calls .log))
-    (watch-run calls _ _ (λ d. rw (transaction-snoc d [] past) (good b past h (outcome c b) .inv d)) (watch past b h w (outcome c b)))
+    (watch-run calls _ _ (ap (λ x. step c x .book) is ∙ sym (book-snoc past fresh c _)) (λ d. rw (transaction-snoc d [] past) (good b past h (outcome c b) .inv d)) (watch past b is h w (outcome c b)))
+
+fresh-is : fresh ≡ bookAfter []
+unfolding run
+fresh-is = refl
 
 -- Of a desk with a row open after any list of calls.
 pub watching : (calls : List Call) (d r : ℕ) (opened worked : Positions) → desk (run fresh calls .book) d ≡ working r opened worked
     → Watching (run fresh calls .log) (run fresh calls .book .places) d r opened
-watching calls d r opened worked e = rw e at (watch-run calls [] fresh fresh-inv (λ d′. rw (idle-desk 8 d′) tt) d)
+watching calls d r opened worked e = rw e at (watch-run calls [] fresh fresh-is fresh-inv (λ d′. rw (idle-desk 8 d′) tt) d)
+
+-- An accepted save is by a desk with a row open.
+pub record OpenDesk (b : Book) (d : ℕ) : Type 0 where
+  pub row : ℕ
+  pub opened : Positions
+  pub worked : Positions
+  pub is : desk b d ≡ working row opened worked
+
+pub save-open : (b : Book) (d : ℕ) → accepted (step (Save d) b .answer) ≡ true → OpenDesk b d
+save-open b d = at (outcome (Save d) b)
+  where
+    at : {s : Reply} → Outcome b (Save d) s → accepted (s .answer) ≡ true → OpenDesk b d
+    at (refusal number m) a = absurd (false≢true a)
+    at (saving r opened worked h t) a = record { row = r; opened = opened; worked = worked; is = h .1 }
+    at (stale r opened worked h t) a = absurd (false≢true a)
 
 -- On any book, a save by a desk with a row open is stale exactly when the row's set is not the opened one.
 pub stale-exactly : (b : Book) (d r : ℕ) (opened worked : Positions) → isDesk d ≡ true → desk b d ≡ working r opened worked

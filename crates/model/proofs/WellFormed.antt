@@ -1,5 +1,5 @@
 -- Every book that calls can reach is well-formed. Assumes nothing.
-use Prim.Native.Nat.{ℕ, zero, suc, _≤_, _<_}
+use Prim.Native.Nat.{ℕ, zero, suc}
 use native.Mathlib.Decide.{ℕ-discrete}
 use native.Mathlib.Omega.{arith}
 use mathlib.Core.Path.{_≡_, refl, sym, ap, _∙_}
@@ -13,11 +13,11 @@ use lib.Seq.{getD-set-same, getD-set-other}
 use borrow.Author.Tests.{eqb-false, ltb-true}
 use Rattle.keys.specs.Numbers.{modulus}
 use Rattle.model.specs.Positions.{rowLength, Positions, noTicks}
-use Rattle.model.specs.Book.{Place, free, row, Desk, closed, working, Book, fresh, place, desk, putPlace, putDesk, isFree, withTicks, hasKey, lowestFree}
+use Rattle.model.specs.Book.{Place, free, row, Desk, closed, working, Book, fresh, place, desk, putPlace, putDesk, isFree, withTicks, hasKey, lowestFree, anyHasOpen}
 use Rattle.model.specs.Step.{Call, Reply, step, run}
 use Rattle.model.specs.WellFormed.{IsSet, PlaceOk, DeskOk, keyOf, WellFormed}
-use Rattle.model.proofs.Basics.{or-false, put-all, put-same, read-replicate}
-use Rattle.model.proofs.Outcome.{Admitted, Outcome, refusal, enrolment, finding, opening, unopened, unmarked, marking, saving, stale, dropping, outcome}
+use Rattle.model.proofs.Basics.{or-false, not-open, put-all, put-same, read-replicate}
+use Rattle.model.proofs.Outcome.{Admitted, Outcome, refusal, enrolment, asking, opening, unopened, unmarked, marking, saving, stale, dropping, striking, outcome}
 
 -- A key that is new is the key of no place.
 absent : (ps : List Place) (key r : ℕ) → hasKey key ps ≡ false → keyOf (getD ps r free) ≢ some key
@@ -58,7 +58,6 @@ module _ (b : Book) (s : WellFormed b) where
         place-ok = s .place-ok;
         desk-ok = put-all closed (λ e. DeskOk (b .places)) (b .desks) d x tt k (λ e n. s .desk-ok e);
         keys-differ = s .keys-differ;
-        used-first = s .used-first;
       }
 
   enrolled : (key first : ℕ) → Admitted key first b → WellFormed (putPlace (lowestFree (b .places)) (row key first noTicks) b)
@@ -69,7 +68,6 @@ module _ (b : Book) (s : WellFormed b) where
         place-ok = put-all free (λ q. PlaceOk) (b .places) r new tt (a .is-valid, ltb-true first (modulus key) (a .is-number), noTicks-length) (λ q n. s .place-ok q);
         desk-ok = λ d. desks-keep (b .places) _ (desk b d) (λ q opened worked x. row-stays (b .places) r q new refl) (s .desk-ok d);
         keys-differ = λ q₁ q₂ k e₁ e₂. differ q₁ q₂ k (read q₁ k e₁) (read q₂ k e₂);
-        used-first = λ q₁ q₂ e h. used q₁ q₂ e h (λ q. true≢false (sym (rw q at e) ∙ ap isFree here));
       }
     where
       r : ℕ
@@ -99,13 +97,6 @@ module _ (b : Book) (s : WellFormed b) where
       differ q₁ q₂ k (inr x) (inl y) = absurd (absent (b .places) key q₁ (a .is-new) (x ∙ ap some (y .1)))
       differ q₁ q₂ k (inr x) (inr y) = s .keys-differ q₁ q₂ k x y
 
-      used : (q₁ q₂ : ℕ) → isFree (getD (set (b .places) r new) q₁ free) ≡ true → q₁ ≤ q₂ → q₁ ≢ r
-          → isFree (getD (set (b .places) r new) q₂ free) ≡ true
-      used q₁ q₂ e h n =
-          let e′ : isFree (place b q₁) ≡ true = rw (other q₁ n) at e in
-          let l : r ≤ q₁ = a .is-lowest .least q₁ e′ in
-          rw (other q₂ (omega arith)) (s .used-first q₁ q₂ e′ h)
-
   saved : (r : ℕ) (w : Positions) → IsSet w → WellFormed (putPlace r (withTicks w (place b r)) b)
   saved r w l =
       record {
@@ -114,7 +105,6 @@ module _ (b : Book) (s : WellFormed b) where
         place-ok = put-all free (λ q. PlaceOk) (b .places) r _ tt (stored (place b r) (s .place-ok r)) (λ q n. s .place-ok q);
         desk-ok = λ d. desks-keep (b .places) _ (desk b d) (λ q opened worked x h. rows q ∙ h) (s .desk-ok d);
         keys-differ = λ q₁ q₂ key e₁ e₂. s .keys-differ q₁ q₂ key (sym (keys q₁) ∙ e₁) (sym (keys q₂) ∙ e₂);
-        used-first = λ q₁ q₂ e h. rows q₂ ∙ s .used-first q₁ q₂ (sym (rows q₁) ∙ e) h;
       }
     where
       stored : (p : Place) → PlaceOk p → PlaceOk (withTicks w p)
@@ -135,10 +125,25 @@ module _ (b : Book) (s : WellFormed b) where
       keys : (q : ℕ) → keyOf (getD (set (b .places) r (withTicks w (place b r))) q free) ≡ keyOf (place b q)
       keys = put-same free keyOf (b .places) r _ (key-of (place b r))
 
+  struck : (r : ℕ) → anyHasOpen r (b .desks) ≡ false → WellFormed (putPlace r free b)
+  struck r n =
+      record {
+        places-count = rw length-set (s .places-count);
+        desks-count = s .desks-count;
+        place-ok = put-all free (λ q. PlaceOk) (b .places) r free tt tt (λ q m. s .place-ok q);
+        desk-ok = λ d. desks-keep (b .places) _ (desk b d)
+            (λ q opened worked x h. rw (getD-set-other (b .places) r q free free (not-open (b .desks) r d q opened worked n x)) h)
+            (s .desk-ok d);
+        keys-differ = λ q₁ q₂ key e₁ e₂. s .keys-differ q₁ q₂ key (had q₁ key e₁) (had q₂ key e₂);
+      }
+    where
+      had : (q key : ℕ) → keyOf (getD (set (b .places) r free) q free) ≡ some key → keyOf (place b q) ≡ some key
+      had q key = put-all free (λ j p. keyOf p ≡ some key → keyOf (place b j) ≡ some key) (b .places) r free (λ e. cc) (λ e. cc) (λ j m e. e) q
+
 pub well-formed : (b : Book) → WellFormed b → {c : Call} {t : Reply} → Outcome b c t → WellFormed (t .book)
 well-formed b s (refusal number m) = s
 well-formed b s (enrolment {key = key} {first = first} a) = enrolled b s key first a
-well-formed b s (finding h) = s
+well-formed b s (asking words) = s
 well-formed b s (opening {d = d} {r = r} key first t u e x) =
     let p = rw e at (s .place-ok r) in desk-put b s d (working r t t) (ap isFree e, p .2, p .2)
 well-formed b s (unopened number e) = s
@@ -150,6 +155,7 @@ well-formed b s (saving {d = d} r opened worked h t) =
     let k = rw (h .1) at (s .desk-ok d) in desk-put (putPlace r (withTicks worked (place b r)) b) (saved b s r worked (k .2)) d closed tt
 well-formed b s (stale {d = d} r opened worked h t) = desk-put b s d closed tt
 well-formed b s (dropping {d = d} t x) = desk-put b s d closed tt
+well-formed b s (striking {r = r} f n) = struck b s r n
 
 -- ---- the whole list
 
@@ -166,7 +172,6 @@ fresh-well-formed =
       place-ok = λ r. rw (read-replicate free 32 r) tt;
       desk-ok = λ d. rw (read-replicate closed 8 d) tt;
       keys-differ = λ r q key e _. let z : keyOf free ≡ some key = sym (ap keyOf (read-replicate free 32 r)) ∙ e in cc;
-      used-first = λ r q e h. ap isFree (read-replicate free 32 q);
     }
 
 -- Every book that calls can reach from a fresh one is well-formed.

@@ -113,6 +113,12 @@ lowestFree [] = zero
 lowestFree (free ∷ ps) = zero
 lowestFree (row key first ticks ∷ ps) = suc (lowestFree ps)
 
+-- Whether a desk has place r open.
+unfoldable pub anyHasOpen : (r : ℕ) → List Desk → Bool
+anyHasOpen r [] = false
+anyHasOpen r (closed ∷ ds) = anyHasOpen r ds
+anyHasOpen r (working q opened worked ∷ ds) = eqb q r || anyHasOpen r ds
+
 -- The position of number n at a place. In a free place no number has one in the row.
 abbrev pub positionAt : Place → ℕ → ℕ
 positionAt free n = rowLength

@@ -1,9 +1,10 @@
+pub mod Lists
 pub mod Positions
 pub mod Book
+pub mod Counts
 pub mod Step
 pub mod History
 pub mod Stale
 pub mod WellFormed
-pub mod Counts
 pub mod Chain
 pub mod Claim

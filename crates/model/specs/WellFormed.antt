@@ -1,5 +1,5 @@
 -- What holds of every book that calls can reach, whatever the calls: what a ledger sheet needs of it. Assumes nothing.
-use Prim.Native.Nat.{ℕ, _≤_, _<_}
+use Prim.Native.Nat.{ℕ, _<_}
 use mathlib.Core.Path.{_≡_}
 use mathlib.Core.Bool.{true, false}
 use mathlib.Core.Option.{Option, none, some}
@@ -32,5 +32,3 @@ pub record WellFormed (b : Book) : Type 0 where
   -- An open desk's place is used.
   pub desk-ok : (d : ℕ) → DeskOk (b .places) (desk b d)
   pub keys-differ : (r q key : ℕ) → keyOf (place b r) ≡ some key → keyOf (place b q) ≡ some key → r ≡ q
-  -- Used places come first.
-  pub used-first : (r q : ℕ) → isFree (place b r) ≡ true → r ≤ q → isFree (place b q) ≡ true

@@ -37,6 +37,7 @@ use Rattle.refusals.specs.declared.Refusal.the-variants.{
   NotTicked,
   Stale,
   FirstNumber,
+  RowOpen,
   TapeLengths,
   TapeLengthWord,
   TapeTime,
@@ -51,7 +52,7 @@ back =
     TooShort ∷ TooShort ∷ Authority ∷ LabelControl ∷ UnknownKind ∷ LabelLength ∷ Truncated ∷ AggregationLabel ∷ PrimaryLabel
     ∷ SecondaryLabel ∷ DataType ∷ DataLength ∷ FieldRange ∷ WriterSpace ∷ WriterInput ∷ WrongKind ∷ ListFull ∷ BufferSize
     ∷ TooShort ∷ TooShort ∷ NotSheet ∷ NoDesk ∷ BadKey ∷ AlreadyEnrolled ∷ LedgerFull ∷ NoRow ∷ DeskOpen ∷ DeskClosed ∷ OutsideRow
-    ∷ AlreadyTicked ∷ NotTicked ∷ Stale ∷ FirstNumber ∷ TooShort ∷ TooShort ∷ TooShort ∷ TooShort ∷ TooShort ∷ TooShort ∷ TooShort
+    ∷ AlreadyTicked ∷ NotTicked ∷ Stale ∷ FirstNumber ∷ TooShort ∷ TooShort ∷ TooShort ∷ RowOpen ∷ TooShort ∷ TooShort ∷ TooShort
     ∷ TooShort ∷ TooShort ∷ TooShort ∷ TooShort ∷ TooShort ∷ TooShort ∷ TooShort ∷ TooShort ∷ TooShort ∷ TooShort ∷ TapeLengths
     ∷ TapeLengthWord ∷ TapeTime ∷ TapeRate ∷ TapeBlock ∷ []
 
@@ -90,6 +91,7 @@ found AlreadyTicked = refl
 found NotTicked = refl
 found Stale = refl
 found FirstNumber = refl
+found RowOpen = refl
 found TapeLengths = refl
 found TapeLengthWord = refl
 found TapeTime = refl

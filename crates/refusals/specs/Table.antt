@@ -32,6 +32,7 @@ use Rattle.refusals.specs.declared.Refusal.the-variants.{
   NotTicked,
   Stale,
   FirstNumber,
+  RowOpen,
   TapeLengths,
   TapeLengthWord,
   TapeTime,
@@ -70,6 +71,7 @@ numberOf AlreadyTicked = 29
 numberOf NotTicked = 30
 numberOf Stale = 31
 numberOf FirstNumber = 32
+numberOf RowOpen = 36
 numberOf TapeLengths = 50
 numberOf TapeLengthWord = 51
 numberOf TapeTime = 52

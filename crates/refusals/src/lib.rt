@@ -35,8 +35,9 @@ pub enum Refusal {
     AlreadyTicked,
     NotTicked,
     Stale,
-    // Document 02: an enrolment whose first number is none of the stream's.
+    // Document 02, ledger: an enrolment whose first number is none of the stream's; a strike of a row that a desk has open.
     FirstNumber,
+    RowOpen,
     // Medium band tapes (document 02, Req 04).
     TapeLengths,
     TapeLengthWord,
@@ -80,6 +81,7 @@ pub fn number(r: Refusal) -> u32
         Refusal::NotTicked => 30,
         Refusal::Stale => 31,
         Refusal::FirstNumber => 32,
+        Refusal::RowOpen => 36,
         Refusal::TapeLengths => 50,
         Refusal::TapeLengthWord => 51,
         Refusal::TapeTime => 52,

@@ -1,16 +1,20 @@
 -- The clauses of `right`: of a desk whose first byte is known, and what a right sheet tells. Assumes nothing.
-use Prim.Native.Nat.{ℕ, _+_, _*_, _-_, _≤_, _<_}
+use Prim.Native.Nat.{ℕ, zero, suc, _+_, _*_, _-_, _≤_, _<_}
+use native.Mathlib.Nat.{eq-or-lt-of-le}
+use native.Mathlib.Numerals.{add-one}
 use native.Mathlib.Omega.{arith}
-use mathlib.Core.Bool.{Bool, true, false, _&&_}
+use mathlib.Core.Bool.{Bool, true, false, cond, _&&_, _||_}
 use mathlib.Core.List.{List}
-use mathlib.Core.Path.{_≡_, refl, sym, _∙_}
+use mathlib.Core.Logic.{⊎-elim}
+use mathlib.Core.Path.{_≡_, refl, sym, ap, _∙_}
 use lib.Dec.{eqb, ltb, leb}
 use lib.ListN.{length}
-use borrow.Author.Tests.{eq-eqb, ne-eqb, lt-leb, le-leb, eqb-true, eqb-false, leb-true, ltb-true}
+use borrow.Author.Tests.{eq-eqb, ne-eqb, lt-leb, le-leb, eqb-true, eqb-false, ltb-true}
 use Rattle.octets.specs.Octets.{all, zeroAt}
 use Rattle.octets.proofs.Laws.{and-split, and-true, and-assoc, all-at, all-next, zero-join}
-use Rattle.sheet.specs.Sheet.{sheetSize, rowSize, rowCount, rowsStart, deskSize, deskCount, deskZerosAt, deskZerosSize, openedAt, workedAt, desksStart, lengthAt, rowCountAt, rowsStartAt, deskCountAt, desksStartAt, rowAt, deskAt, headerNumber, used, deskByte, deskRow, isClosed, carries, headerRight, validKeys, differentKeys, firstNumbers, unusedZero, closedZero, deskMarked, openNames, deskRight, right, Sized}
-use Rattle.sheet.proofs.Ranges.{zero-within, zero-rows}
+use Rattle.sheet.specs.Sheet.{sheetSize, rowSize, rowCount, rowsStart, deskSize, deskCount, deskZerosAt, deskZerosSize, openedAt, workedAt, desksStart, rowAt, deskAt, used, isUsed, isRow, deskByte, deskRow, isClosed, carries, count, headerRight, countRight, validKeys, differentKeys, firstNumbers, freeZero, closedZero, deskMarked, openNames, deskRight, right}
+use Rattle.sheet.specs.Judging.{Zeros}
+use Rattle.sheet.proofs.Ranges.{zero-within}
 
 module _ (s : List ℕ) (d : ℕ) where
   -- a closed desk is right exactly when it is zero
@@ -22,7 +26,7 @@ module _ (s : List ℕ) (d : ℕ) where
       by true z = rw (z, eq-eqb _ _ e, zero-within s (deskAt d) deskSize (deskAt d + deskZerosAt) deskZerosSize z (omega arith) (omega arith), le-leb (deskByte s d) 1 (omega arith))
       by false z = rw (z, eq-eqb _ _ e)
 
-  -- any other, when it is marked open and has its zeros, names a used row, and its copies carry that row's key and first number
+  -- any other, when it is marked open and has its zeros, names a used row, and its copies carry that row's word, key and first number
   marked : (deskByte s d ≡ 0 → ⊥) → leb (deskByte s d) 1 ≡ eqb (deskByte s d) 1
   marked n = by (eqb (deskByte s d) 1) refl
     where
@@ -31,23 +35,49 @@ module _ (s : List ℕ) (d : ℕ) where
       by false e = let other = eqb-false (deskByte s d) 1 e in rw (e, lt-leb (deskByte s d) 1 (omega arith))
 
   pub open-desk : (deskByte s d ≡ 0 → ⊥)
-      → (eqb (deskByte s d) 1 && zeroAt s (deskAt d + deskZerosAt) deskZerosSize && (ltb (deskRow s d) (used s) && carries s (deskAt d + openedAt) (deskRow s d) && carries s (deskAt d + workedAt) (deskRow s d)))
+      → (eqb (deskByte s d) 1 && zeroAt s (deskAt d + deskZerosAt) deskZerosSize && (isRow s (deskRow s d) && carries s (deskAt d + openedAt) (deskRow s d) && carries s (deskAt d + workedAt) (deskRow s d)))
       ≡ deskRight s d
   unfolding deskRight closedZero deskMarked openNames
   open-desk n = rw (ne-eqb (deskByte s d) 0 n, marked n)
 
--- ---- the unused rows and the first desks, of which those from index z on are to be zero
+-- ---- the first rows, of which the free ones are to be zero
+
+-- what is left to say of the bytes from index z up to row i, and what has been said of those before
+abbrev pub RowsJudged : List ℕ → (before : Bool) (z i : ℕ) → Type 0
+RowsJudged s before z i = (before && zeroAt s z (rowAt i - z)) ≡ all i (λ k. isUsed s k || zeroAt s (rowAt k) rowSize)
+
+pub no-row-judged : (s : List ℕ) → RowsJudged s true rowsStart 0
+unfolding zeroAt all
+no-row-judged s = refl
+
+module _ (s : List ℕ) (before : Bool) (z i : ℕ) (h : RowsJudged s before z i) (l : z ≤ rowAt i) where
+  -- a free row makes the range longer
+  pub free-judged : isUsed s i ≡ false → RowsJudged s before z (i + 1)
+  free-judged e =
+      let n : rowAt (i + 1) - z ≡ rowAt i - z + rowSize = omega arith in
+      let m : z + (rowAt i - z) ≡ rowAt i = omega arith in
+      rw (n, zero-join s z (rowAt i - z) rowSize, m, and-assoc, h, all-next, e)
+
+  -- the range ends at any other
+  pub used-judged : isUsed s i ≡ true → RowsJudged s (before && zeroAt s z (rowAt i - z)) (rowAt i + rowSize) (i + 1)
+  unfolding zeroAt all
+  used-judged e =
+      let n : rowAt (i + 1) - (rowAt i + rowSize) ≡ 0 = omega arith in
+      rw (n, and-true, h, all-next, e, and-true)
+
+pub rows-judged : (s : List ℕ) (before : Bool) (z : ℕ) → RowsJudged s before z rowCount → z ≤ rowAt rowCount → Zeros s before z
+unfolding freeZero
+rows-judged s before z h l = record { within = l; says = h }
+
+-- ---- the free rows and the first desks, of which the closed ones are to be zero
 
 -- what is left to say of the bytes from index z up to desk d, and what has been said of those before
 abbrev pub Judged : List ℕ → (before : Bool) (z d : ℕ) → Type 0
-Judged s before z d = (before && zeroAt s z (deskAt d - z)) ≡ (unusedZero s && all d (deskRight s))
+Judged s before z d = (before && zeroAt s z (deskAt d - z)) ≡ (freeZero s && all d (deskRight s))
 
-pub none-judged : (s : List ℕ) → used s ≤ rowCount → Judged s true (rowAt (used s)) 0
-unfolding unusedZero all
-none-judged s few =
-    let e : used s + (rowCount - used s) ≡ rowCount = omega arith in
-    let n : deskAt 0 - rowAt (used s) ≡ rowSize * (rowCount - used s) = omega arith in
-    rw n (zero-rows s rowsStart rowSize (used s) (rowCount - used s) ∙ rw e (sym (and-true _)))
+pub none-judged : (s : List ℕ) (before : Bool) (z : ℕ) → Zeros s before z → Judged s before z 0
+unfolding all
+none-judged s before z h = h .says ∙ sym (and-true _)
 
 module _ (s : List ℕ) (before : Bool) (z d : ℕ) (h : Judged s before z d) (l : z ≤ deskAt d) where
   -- a closed desk makes the range longer
@@ -64,56 +94,81 @@ module _ (s : List ℕ) (before : Bool) (z d : ℕ) (h : Judged s before z d) (l
       let n : deskAt (d + 1) - (deskAt d + deskSize) ≡ 0 = omega arith in
       rw (n, and-true, h, all-next, and-assoc)
 
--- ---- what a right sheet tells
+-- ---- counts
 
--- the header counts no more rows than there are
-pub header-few : (s : List ℕ) → headerRight s ≡ true → used s ≤ rowCount
-unfolding headerRight
-header-few s h =
-    let size = eqb (headerNumber s lengthAt) sheetSize in
-    let few = leb (used s) rowCount in
-    let rows = eqb (headerNumber s rowCountAt) rowCount in
-    let start = eqb (headerNumber s rowsStartAt) rowsStart in
-    let desks = eqb (headerNumber s deskCountAt) deskCount in
-    let h4 = and-split (size && few && rows && start && desks) (eqb (headerNumber s desksStartAt) desksStart) h in
-    let h3 = and-split (size && few && rows && start) desks (h4 .0) in
-    let h2 = and-split (size && few && rows) start (h3 .0) in
-    let h1 = and-split (size && few) rows (h2 .0) in
-    leb-true _ _ (and-split size few (h1 .0) .1)
+pub count-none : (p : ℕ → Bool) → count 0 p ≡ 0
+unfolding count
+count-none p = refl
+
+pub count-next : (n : ℕ) (p : ℕ → Bool) → count (n + 1) p ≡ count n p + cond (p n) 1 0
+unfolding count
+count-next n p = rw add-one
+
+-- some row that is counted makes the count positive
+pub count-some : (n i : ℕ) (p : ℕ → Bool) → i < n → p i ≡ true → 0 < count n p
+unfolding count
+count-some zero i p l e = absurd (omega arith)
+count-some (suc n) i p l e =
+    ⊎-elim
+    (λ (q : i ≡ n). let one : p n ≡ true = ap p (sym q) ∙ e in rw one (omega arith))
+    (λ (q : i < n). omega (arith, count-some n i p q e))
+    (eq-or-lt-of-le (omega arith))
+
+pub count-most : (n : ℕ) (p : ℕ → Bool) → count n p ≤ n
+unfolding count
+count-most zero p = omega arith
+count-most (suc n) p = by (count n p) (count-most n p) (p n)
+  where
+    by : (c : ℕ) → c ≤ n → (b : Bool) → c + cond b 1 0 ≤ suc n
+    by c l true = omega arith
+    by c l false = omega arith
+
+-- ---- what a right sheet tells
 
 -- its clauses
 pub record Right (s : List ℕ) : Type 0 where
   pub long : length s ≡ sheetSize
   pub header : headerRight s ≡ true
+  pub counted : count rowCount (isUsed s) ≡ used s
   pub valid : validKeys s ≡ true
   pub different : differentKeys s ≡ true
   pub firsts : firstNumbers s ≡ true
-  pub unused : unusedZero s ≡ true
+  pub free : freeZero s ≡ true
   pub desks : all deskCount (deskRight s) ≡ true
 
 pub right-parts : (s : List ℕ) → right s ≡ true → Right s
-unfolding right
+unfolding right countRight
 right-parts s h =
     let long = eqb (length s) sheetSize in
-    let rows = validKeys s && differentKeys s && firstNumbers s in
-    let h4 = and-split (long && headerRight s && rows && unusedZero s) (all deskCount (deskRight s)) h in
-    let h3 = and-split (long && headerRight s && rows) (unusedZero s) (h4 .0) in
+    let rows = countRight s && validKeys s && differentKeys s && firstNumbers s in
+    let h4 = and-split (long && headerRight s && rows && freeZero s) (all deskCount (deskRight s)) h in
+    let h3 = and-split (long && headerRight s && rows) (freeZero s) (h4 .0) in
     let h2 = and-split (long && headerRight s) rows (h3 .0) in
     let h1 = and-split long (headerRight s) (h2 .0) in
-    let f = and-split (validKeys s && differentKeys s) (firstNumbers s) (h2 .1) in
-    let k = and-split (validKeys s) (differentKeys s) (f .0) in
-    record { long = eqb-true _ _ (h1 .0); header = h1 .1; valid = k .0; different = k .1; firsts = f .1; unused = h3 .1; desks = h4 .1 }
+    let f = and-split (countRight s && validKeys s && differentKeys s) (firstNumbers s) (h2 .1) in
+    let k = and-split (countRight s && validKeys s) (differentKeys s) (f .0) in
+    let c = and-split (countRight s) (validKeys s) (k .0) in
+    record {
+      long = eqb-true _ _ (h1 .0);
+      header = h1 .1;
+      counted = eqb-true _ _ (c .0);
+      valid = c .1;
+      different = k .1;
+      firsts = f .1;
+      free = h3 .1;
+      desks = h4 .1;
+    }
 
--- its length and its count of rows: what the functions on a right sheet ask
-pub sized : (s : List ℕ) → right s ≡ true → Sized s
-sized s h = let r = right-parts s h in record { long = r .long; few = header-few s (r .header) }
+-- a row that there is: its number, and its word
+pub row-parts : (s : List ℕ) (i : ℕ) → isRow s i ≡ true → (i < rowCount) × (isUsed s i ≡ true)
+row-parts s i h = let p = and-split (ltb i rowCount) (isUsed s i) h in (ltb-true i rowCount (p .0), p .1)
 
--- a desk that is not closed names one of the used rows
-pub open-row : (s : List ℕ) (d : ℕ) → right s ≡ true → d < deskCount → isClosed s d ≡ false → deskRow s d < used s
+-- a desk that is not closed names a row that there is
+pub open-row : (s : List ℕ) (d : ℕ) → right s ≡ true → d < deskCount → isClosed s d ≡ false → isRow s (deskRow s d) ≡ true
 unfolding deskRight openNames
 open-row s d h l o =
     let names = and-split (closedZero s d && deskMarked s d) (openNames s d) (all-at deskCount d (deskRight s) (right-parts s h .desks) l) .1 in
-    let row = ltb (deskRow s d) (used s) in
+    let row = isRow s (deskRow s d) in
     let opened = carries s (deskAt d + openedAt) (deskRow s d) in
     let h1 = and-split (row && opened) (carries s (deskAt d + workedAt) (deskRow s d)) (rw o at names) in
-    ltb-true _ _ (and-split row opened (h1 .0) .0)
+    and-split row opened (h1 .0) .0

@@ -1,3 +1,4 @@
 pub mod Ranges
 pub mod Clauses
 pub mod Answers
+pub mod RowsRead

@@ -1,3 +1,4 @@
 -- What the contracts of `sheet` cite, and the words of the ledger's answers.
 pub mod Sheet
+pub mod Judging
 pub mod Words

@@ -1,9 +1,8 @@
--- Document 01, "The ledger sheet": where its parts stand, and when a list of bytes is a right sheet. Every size and offset
--- has its name here, once. Assumes nothing.
-use Prim.Native.Nat.{ℕ, _+_, _*_, _≤_}
-use mathlib.Core.Bool.{Bool, not, _&&_, _||_}
+-- Document 01, "The ledger sheet", as document 02, request 10, has it: where its parts stand, and when a list of bytes is a right
+-- sheet. Every size and offset has its name here, once. Assumes nothing.
+use Prim.Native.Nat.{ℕ, zero, suc, _+_, _*_}
+use mathlib.Core.Bool.{Bool, cond, not, _&&_, _||_}
 use mathlib.Core.List.{List}
-use mathlib.Core.Path.{_≡_}
 use lib.Dec.{eqb, ltb, leb}
 use lib.ListN.{length, getD}
 use Rattle.keys.specs.Key.{validKey}
@@ -12,12 +11,22 @@ use Rattle.octets.specs.Octets.{numberAt, all, zeroAt, sameAt}
 
 -- ---- sizes and offsets
 
--- "A row is 140 bytes: key (8), first number (4), ticks (128)." There are 32, and the first stands at 24.
+-- "Each row gains a 4-byte word before its key, 1 used and 0 free": a row is 144 bytes, used word (4), key (8), first number (4), ticks
+-- (128). There are 32, and the first stands at 24.
+abbrev pub usedWordSize : ℕ
+usedWordSize = 4
+
+abbrev pub usedWord : ℕ
+usedWord = 1
+
+abbrev pub keyStart : ℕ
+keyStart = usedWordSize
+
 abbrev pub keySize : ℕ
 keySize = 8
 
 abbrev pub firstAt : ℕ
-firstAt = keySize
+firstAt = keyStart + keySize
 
 abbrev pub firstSize : ℕ
 firstSize = 4
@@ -41,8 +50,8 @@ rowsStart = 24
 abbrev pub byteBits : ℕ
 byteBits = 8
 
--- "A desk is 284 bytes: 1 if open, row, two zeros, the row as opened (140), the row as worked on (140)." There are eight,
--- and they stand behind the rows.
+-- A desk is 292 bytes: "1 if open, row, two zeros, the row as opened, the row as worked on". There are eight, and they stand
+-- behind the rows, from 4,632.
 abbrev pub deskRowAt : ℕ
 deskRowAt = 1
 
@@ -67,11 +76,11 @@ deskCount = 8
 abbrev pub desksStart : ℕ
 desksStart = rowsStart + rowSize * rowCount
 
--- "A lent slice of exactly 6,776 bytes."
+-- "sheet 6,968"
 abbrev pub sheetSize : ℕ
 sheetSize = desksStart + deskSize * deskCount
 
--- "A header of six 4-byte numbers: length 6,776, rows used, row places 32, offset of rows 24, desks 8, offset of desks 4,504."
+-- "A header of six 4-byte numbers: length, rows used, row places 32, offset of rows 24, desks 8, offset of desks."
 abbrev pub headerNumberSize : ℕ
 headerNumberSize = 4
 
@@ -110,9 +119,17 @@ headerNumber s at = numberAt s at headerNumberSize
 abbrev pub used : List ℕ → ℕ
 used s = headerNumber s usedAt
 
+-- "1 used and 0 free": row i is used where its word is 1.
+abbrev pub isUsed : List ℕ → ℕ → Bool
+isUsed s i = eqb (numberAt s (rowAt i) usedWordSize) usedWord
+
+-- Whether there is a row with this number. "A free row is no row, in every call."
+abbrev pub isRow : List ℕ → ℕ → Bool
+isRow s i = ltb i rowCount && isUsed s i
+
 -- The key and the first number of the row, or of the copy of one, at offset a.
 abbrev pub keyAt : List ℕ → ℕ → ℕ
-keyAt s a = numberAt s a keySize
+keyAt s a = numberAt s (a + keyStart) keySize
 
 abbrev pub firstNumberAt : List ℕ → ℕ → ℕ
 firstNumberAt s a = numberAt s (a + firstAt) firstSize
@@ -133,26 +150,39 @@ isClosed s d = eqb (deskByte s d) 0
 -- "the header is so"
 unfoldable pub headerRight : List ℕ → Bool
 headerRight s =
-    eqb (headerNumber s lengthAt) sheetSize && leb (used s) rowCount && eqb (headerNumber s rowCountAt) rowCount
-    && eqb (headerNumber s rowsStartAt) rowsStart && eqb (headerNumber s deskCountAt) deskCount
-    && eqb (headerNumber s desksStartAt) desksStart
+    eqb (headerNumber s lengthAt) sheetSize && eqb (headerNumber s rowCountAt) rowCount && eqb (headerNumber s rowsStartAt) rowsStart
+    && eqb (headerNumber s deskCountAt) deskCount && eqb (headerNumber s desksStartAt) desksStart
 
--- "used rows come first with valid, different keys"
+-- How many numbers below n have p.
+unfoldable pub count : ℕ → (ℕ → Bool) → ℕ
+count zero p = 0
+count (suc n) p = count n p + cond (p n) 1 0
+
+-- "used rows needn't come first, the header counts them"
+unfoldable pub countRight : List ℕ → Bool
+countRight s = eqb (count rowCount (isUsed s)) (used s)
+
+-- "valid, different keys"
 unfoldable pub validKeys : List ℕ → Bool
-validKeys s = all (used s) (λ i. validKey (keyAt s (rowAt i)))
+validKeys s = all rowCount (λ i. not (isUsed s i) || validKey (keyAt s (rowAt i)))
+
+-- No used row among the first n has this key.
+unfoldable pub isNew : List ℕ → (n key : ℕ) → Bool
+isNew s n key = all n (λ j. not (isUsed s j) || not (eqb (keyAt s (rowAt j)) key))
 
 unfoldable pub differentKeys : List ℕ → Bool
-differentKeys s = all (used s) (λ i. all i (λ j. not (eqb (keyAt s (rowAt j)) (keyAt s (rowAt i)))))
+differentKeys s = all rowCount (λ i. not (isUsed s i) || isNew s i (keyAt s (rowAt i)))
 
 -- "an RSR row with such a first number makes the sheet 20" (request 03): a used row's first number is one of its stream. The copies at
 -- desks carry it.
 unfoldable pub firstNumbers : List ℕ → Bool
-firstNumbers s = all (used s) (λ i. isNumber (keyAt s (rowAt i)) (firstNumberAt s (rowAt i)))
+firstNumbers s = all rowCount (λ i. not (isUsed s i) || isNumber (keyAt s (rowAt i)) (firstNumberAt s (rowAt i)))
 
--- "unused rows and closed desks are all zero"
-unfoldable pub unusedZero : List ℕ → Bool
-unusedZero s = all rowCount (λ i. ltb i (used s) || zeroAt s (rowAt i) rowSize)
+-- "a free row is all zero": a row whose word is not 1 is, its word too, so that a word is 1 or 0.
+unfoldable pub freeZero : List ℕ → Bool
+freeZero s = all rowCount (λ i. isUsed s i || zeroAt s (rowAt i) rowSize)
 
+-- "closed desks are all zero"
 unfoldable pub closedZero : List ℕ → ℕ → Bool
 closedZero s d = not (isClosed s d) || zeroAt s (deskAt d) deskSize
 
@@ -160,14 +190,14 @@ closedZero s d = not (isClosed s d) || zeroAt s (deskAt d) deskSize
 unfoldable pub deskMarked : List ℕ → ℕ → Bool
 deskMarked s d = leb (deskByte s d) 1 && zeroAt s (deskAt d + deskZerosAt) deskZerosSize
 
--- "an open desk names a used row and both its copies carry that row's key and first number"
+-- "an open desk names a used row and both its copies carry that row's key and first number"; "a desk's copies carry the 1"
 abbrev pub carries : List ℕ → (copy row : ℕ) → Bool
 carries s copy row = sameAt s (rowAt row) s copy ticksAt
 
 unfoldable pub openNames : List ℕ → ℕ → Bool
 openNames s d =
     isClosed s d
-    || (ltb (deskRow s d) (used s) && carries s (deskAt d + openedAt) (deskRow s d) && carries s (deskAt d + workedAt) (deskRow s d))
+    || (isRow s (deskRow s d) && carries s (deskAt d + openedAt) (deskRow s d) && carries s (deskAt d + workedAt) (deskRow s d))
 
 -- What the paragraph says of desk d.
 unfoldable pub deskRight : List ℕ → ℕ → Bool
@@ -175,11 +205,5 @@ deskRight s d = closedZero s d && deskMarked s d && openNames s d
 
 unfoldable pub right : List ℕ → Bool
 right s =
-    eqb (length s) sheetSize && headerRight s && (validKeys s && differentKeys s && firstNumbers s) && unusedZero s
+    eqb (length s) sheetSize && headerRight s && (countRight s && validKeys s && differentKeys s && firstNumbers s) && freeZero s
     && all deskCount (deskRight s)
-
--- ---- what the functions on a right sheet ask of it
-
-pub record Sized (s : List ℕ) : Type 0 where
-  pub long : length s ≡ sheetSize
-  pub few : used s ≤ rowCount

@@ -1,13 +1,19 @@
-// The bytes of the ledger sheet (document 01, "The ledger sheet"): whether a slice is a right sheet. Every size and offset has its
+// The bytes of the ledger sheet (document 01, "The ledger sheet"; document 02, request 10): whether a slice is a right sheet. Every size and offset has its
 // name here, once.
 pub mod right;
 
 use refusals::Refusal;
 
-// A row: key, first number, ticks. There are 32, and the first stands at 24.
+// A row: used word, key, first number, ticks. There are 32, and the first stands at 24.
+pub const USED_WORD: usize = 4;
+
+pub const USED: u64 = 1;
+
+pub const KEY_AT: usize = USED_WORD;
+
 pub const KEY: usize = 8;
 
-pub const FIRST_AT: usize = KEY;
+pub const FIRST_AT: usize = KEY_AT + KEY;
 
 pub const FIRST: usize = 4;
 

@@ -2,22 +2,24 @@
 -- holds, so what the functions on a right sheet ask is so. Assumes nothing.
 use Prim.Native.Nat.{ℕ, _<_}
 use native.Mathlib.Omega.{arith}
+use mathlib.Core.Bool.{true, not}
 use mathlib.Core.List.{List, [], _∷_}
 use mathlib.Core.Path.{_≡_, sym, ap, _∙_}
 use lib.ListN.{length}
 use borrow.Author.Tests.{not-false, ne-eqb, eqb-false, ltb-true}
 use Rattle.refusals.specs.declared.Refusal.{Refusal}
 use Rattle.refusals.specs.Table.{numberOf}
-use Rattle.refusals.specs.Judge.{Rule, verdict}
+use Rattle.refusals.specs.Judge.{Rule, verdict, judge}
 use Rattle.refusals.proofs.Laws.{number-positive}
 use Rattle.refusals.proofs.Judged.{NoneHolds, Numbered, verdict-none}
-use Rattle.sheet.specs.Sheet.{sheetSize, rowCount, deskCount, used, deskRow, right, Sized}
-use Rattle.changes.specs.Bytes.{Outcome, judged, rowWith}
+use Rattle.sheet.specs.Sheet.{sheetSize, rowCount, deskCount, used, isUsed, deskRow, right}
+use Rattle.changes.specs.Bytes.{Outcome, judged, rowWith, freeRow}
+use Rattle.changes.proofs.Scans.{lowest-within}
 use Rattle.sheet.specs.Words.{answerWords}
 use Rattle.sheet.specs.declared.Answer.{Answer}
 use Rattle.sheet.specs.declared.Answer.the-variants as A
-use Rattle.sheet.proofs.Clauses.{sized, open-row}
-use Rattle.verdicts.specs.Verdicts.{enrolRows, findRows, openRows, deskRows, reportRows, verdictWords}
+use Rattle.sheet.proofs.Clauses.{right-parts, row-parts, count-some, open-row}
+use Rattle.verdicts.specs.Verdicts.{enrolRows, findRows, openRows, deskRows, reportRows, strikeRows, verdictWords}
 
 -- the number that a verdict gives, or 0
 module _ (rows : List (Rule ℕ)) {v : Answer} (e : answerWords v ≡ verdictWords rows) where
@@ -53,37 +55,45 @@ module _ {rows : List (Rule ℕ)} {o t : Outcome} {s : List ℕ} (law : Law rows
 
 -- ---- what an accepted call has of its sheet
 
+long : (s : List ℕ) → right s ≡ true → length s ≡ sheetSize
+long s r = right-parts s r .long
+
 module _ (s : List ℕ) {v : Answer} where
-  pub enrol-fine : (key first : ℕ) → answerWords v ≡ verdictWords (enrolRows key first s) → v ≡ A.Done → (length s ≡ sheetSize) × (used s < rowCount)
+  pub enrol-fine : (key first : ℕ) → answerWords v ≡ verdictWords (enrolRows key first s) → v ≡ A.Done → (length s ≡ sheetSize) × (freeRow s < rowCount)
+  unfolding freeRow
   enrol-fine key first e g =
       let h = none-holds (enrolRows key first s) e (omega arith, (omega arith, (omega arith, (omega arith, (omega arith, tt))))) g in
-      let z = sized s (not-false (right s) (h .0)) in
-      (z .long, omega (arith, z .few, eqb-false (used s) rowCount (h .1 .1 .1 .1 .0)))
+      (long s (not-false (right s) (h .0)), omega (arith, lowest-within rowCount (λ i. not (isUsed s i)), eqb-false (freeRow s) rowCount (h .1 .1 .1 .1 .0)))
 
-  pub find-fine : (key : ℕ) → answerWords v ≡ verdictWords (findRows key s) → v ≡ A.Done → Sized s × (rowWith s key < rowCount)
+  pub find-fine : (key : ℕ) → answerWords v ≡ verdictWords (findRows key s) → v ≡ A.Done → (length s ≡ sheetSize) × (rowWith s key < rowCount)
   find-fine key e g =
       let h = none-holds (findRows key s) e (omega arith, (omega arith, (omega arith, tt))) g in
-      let z = sized s (not-false (right s) (h .0)) in
-      (z, omega (arith, z .few, ltb-true (rowWith s key) (used s) (not-false _ (h .1 .1 .0))))
+      (long s (not-false (right s) (h .0)), ltb-true (rowWith s key) rowCount (not-false _ (h .1 .1 .0)))
 
   pub open-fine : (desk row : ℕ) → answerWords v ≡ verdictWords (openRows desk row s) → v ≡ A.Done
       → (length s ≡ sheetSize) × (desk < deskCount) × (row < rowCount)
   open-fine desk row e g =
       let h = none-holds (openRows desk row s) e (omega arith, (omega arith, (omega arith, (omega arith, tt)))) g in
-      let z = sized s (not-false (right s) (h .0)) in
-      (z .long, ltb-true _ _ (not-false _ (h .1 .0)), omega (arith, z .few, ltb-true row (used s) (not-false _ (h .1 .1 .0))))
+      (long s (not-false (right s) (h .0)), ltb-true _ _ (not-false _ (h .1 .0)), row-parts s row (not-false _ (h .1 .1 .0)) .0)
 
   pub desk-fine : (desk : ℕ) → answerWords v ≡ verdictWords (deskRows desk s) → v ≡ A.Done
       → (length s ≡ sheetSize) × (desk < deskCount) × (deskRow s desk < rowCount)
   desk-fine desk e g =
       let h = none-holds (deskRows desk s) e (omega arith, (omega arith, (omega arith, tt))) g in
       let r = not-false (right s) (h .0) in
-      let z = sized s r in
       let d = ltb-true _ _ (not-false _ (h .1 .0)) in
-      (z .long, d, omega (arith, z .few, open-row s desk r d (h .1 .1 .0)))
+      (long s r, d, row-parts s (deskRow s desk) (open-row s desk r d (h .1 .1 .0)) .0)
 
   pub report-fine : (row : ℕ) → answerWords v ≡ verdictWords (reportRows row s) → v ≡ A.Done → (length s ≡ sheetSize) × (row < rowCount)
   report-fine row e g =
       let h = none-holds (reportRows row s) e (omega arith, (omega arith, tt)) g in
-      let z = sized s (not-false (right s) (h .0)) in
-      (z .long, omega (arith, z .few, ltb-true row (used s) (not-false _ (h .1 .0))))
+      (long s (not-false (right s) (h .0)), row-parts s row (not-false _ (h .1 .0)) .0)
+
+  -- a row that there is makes the header's count positive
+  pub strike-fine : (row : ℕ) → answerWords v ≡ verdictWords (strikeRows row s) → v ≡ A.Done
+      → (length s ≡ sheetSize) × (row < rowCount) × (0 < used s)
+  strike-fine row e g =
+      let h = none-holds (strikeRows row s) e (omega arith, (omega arith, (omega arith, tt))) g in
+      let parts = right-parts s (not-false (right s) (h .0)) in
+      let p = row-parts s row (not-false _ (h .1 .0)) in
+      (parts .long, p .0, rw (parts .counted) at (count-some rowCount row (isUsed s) (p .0) (p .1)))

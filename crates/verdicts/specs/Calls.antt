@@ -6,17 +6,17 @@ use mathlib.Core.List.{List, [], _∷_}
 use lib.Dec.{eqb}
 use lib.ListN.{length}
 use Rattle.refusals.specs.Judge.{_when_}
-use Rattle.sheet.specs.Sheet.{sheetSize, rowAt, used, right}
-use Rattle.changes.specs.Bytes.{Outcome, judged, done, freshSheet, rowWith, enrolAt, openAt, clearDesk, markDesk, saveAt, reportWords, gapFrom}
-use Rattle.verdicts.specs.Verdicts.{enrolRows, findRows, openRows, deskRows, reportRows}
+use Rattle.sheet.specs.Sheet.{sheetSize, rowCount, rowAt, right}
+use Rattle.changes.specs.Bytes.{Outcome, judged, done, freshSheet, rowWith, freeRow, enrolAt, strikeAt, openAt, clearDesk, markDesk, saveAt, reportWords, gapFrom}
+use Rattle.verdicts.specs.Verdicts.{enrolRows, findRows, openRows, deskRows, reportRows, strikeRows}
 
 -- "The call that makes a fresh sheet judges only the slice's length (20)."
 unfoldable pub freshCall : List ℕ → Outcome
 freshCall s = judged ((20 when not (eqb (length s) sheetSize)) ∷ []) (done, freshSheet) s
 
--- "Enrol (key, first): the next row, no ticks; answers the row."
+-- "enrol takes the lowest free one"; no ticks; it answers the row.
 unfoldable pub enrolCall : (key first : ℕ) → List ℕ → Outcome
-enrolCall key first s = judged (enrolRows key first s) (0 ∷ used s ∷ [], enrolAt (used s) key first s) s
+enrolCall key first s = judged (enrolRows key first s) (0 ∷ freeRow s ∷ [], enrolAt (freeRow s) key first s) s
 
 -- "Find (key): answers the row with it."
 unfoldable pub findCall : (key : ℕ) → List ℕ → Outcome
@@ -40,4 +40,8 @@ unfoldable pub reportCall : (row : ℕ) → List ℕ → Outcome
 reportCall row s = judged (reportRows row s) (reportWords s (rowAt row), s) s
 
 unfoldable pub gapCall : List ℕ → Outcome
-gapCall s = judged ((20 when not (right s)) ∷ []) (gapFrom s 0 (used s), s) s
+gapCall s = judged ((20 when not (right s)) ∷ []) (gapFrom s 0 rowCount, s) s
+
+-- "strike gives 20, 25 .., then 36"; else the row is zeroed, and the header counts one less.
+unfoldable pub strikeCall : (row : ℕ) → List ℕ → Outcome
+strikeCall row s = judged (strikeRows row s) (done, strikeAt row s) s

@@ -7,8 +7,8 @@ use lib.Dec.{eqb, ltb}
 use Rattle.refusals.specs.Judge.{Rule, _when_, verdict}
 use Rattle.keys.specs.Key.{validKey}
 use Rattle.keys.specs.Numbers.{isNumber}
-use Rattle.sheet.specs.Sheet.{rowCount, deskCount, used, isClosed, right}
-use Rattle.changes.specs.Bytes.{hasKey}
+use Rattle.sheet.specs.Sheet.{rowCount, deskCount, isRow, isClosed, right}
+use Rattle.changes.specs.Bytes.{hasKey, freeRow, noneHasOpen}
 
 abbrev pub enrolRows : (key first : ℕ) → List ℕ → List (Rule ℕ)
 enrolRows key first s =
@@ -16,7 +16,7 @@ enrolRows key first s =
     ∷ (22 when not (validKey key))
     ∷ (32 when not (isNumber key first))
     ∷ (23 when hasKey s key)
-    ∷ (24 when eqb (used s) rowCount)
+    ∷ (24 when eqb (freeRow s) rowCount)
     ∷ []
 
 abbrev pub findRows : (key : ℕ) → List ℕ → List (Rule ℕ)
@@ -26,7 +26,7 @@ abbrev pub openRows : (desk row : ℕ) → List ℕ → List (Rule ℕ)
 openRows desk row s =
     (20 when not (right s))
     ∷ (21 when not (ltb desk deskCount))
-    ∷ (25 when not (ltb row (used s)))
+    ∷ (25 when not (isRow s row))
     ∷ (26 when not (isClosed s desk))
     ∷ []
 
@@ -35,7 +35,10 @@ abbrev pub deskRows : (desk : ℕ) → List ℕ → List (Rule ℕ)
 deskRows desk s = (20 when not (right s)) ∷ (21 when not (ltb desk deskCount)) ∷ (27 when isClosed s desk) ∷ []
 
 abbrev pub reportRows : (row : ℕ) → List ℕ → List (Rule ℕ)
-reportRows row s = (20 when not (right s)) ∷ (25 when not (ltb row (used s))) ∷ []
+reportRows row s = (20 when not (right s)) ∷ (25 when not (isRow s row)) ∷ []
+
+abbrev pub strikeRows : (row : ℕ) → List ℕ → List (Rule ℕ)
+strikeRows row s = (20 when not (right s)) ∷ (25 when not (isRow s row)) ∷ (36 when not (noneHasOpen s row)) ∷ []
 
 -- The words of a verdict: the first refusal that applies, or 0 where none does.
 unfoldable pub verdictWords : List (Rule ℕ) → List ℕ

@@ -1,15 +1,17 @@
 // Whether a call of the ledger is refused, judged in the order of the refusal table. Nothing is changed.
 use changes::desks::is_closed;
+use changes::desks::is_idle;
+use changes::rows::free_row;
 use changes::rows::has_key;
 use refusals::Refusal;
 use sheet::Answer;
 use sheet::DESKS;
 use sheet::ROWS;
+use sheet::right::is_row;
 use sheet::right::is_sheet;
-use sheet::right::rows_used;
 ghost use mathlib.Core.Path.{_≡_};
 ghost use Rattle.sheet.specs.Words.{answerWords};
-ghost use Rattle.verdicts.specs.Verdicts.{enrolRows, findRows, openRows, deskRows, reportRows, verdictWords};
+ghost use Rattle.verdicts.specs.Verdicts.{enrolRows, findRows, openRows, deskRows, reportRows, strikeRows, verdictWords};
 
 pub fn enrol_verdict(s: &[u8], key: u64, first: u32) -> Answer
     ensures { λ r. ⌜ answerWords r ≡ verdictWords (enrolRows key first (now (s .entry))) ⌝ }
@@ -26,7 +28,7 @@ pub fn enrol_verdict(s: &[u8], key: u64, first: u32) -> Answer
     if has_key(s, key) {
         return Answer::Refused(Refusal::AlreadyEnrolled);
     }
-    if rows_used(s) == ROWS {
+    if free_row(s) == ROWS {
         return Answer::Refused(Refusal::LedgerFull);
     }
     Answer::Done
@@ -56,7 +58,7 @@ pub fn open_verdict(s: &[u8], desk: u32, row: u32) -> Answer
     if desk as usize >= DESKS {
         return Answer::Refused(Refusal::NoDesk);
     }
-    if row as usize >= rows_used(s) {
+    if !is_row(s, row as usize) {
         return Answer::Refused(Refusal::NoRow);
     }
     if !is_closed(s, desk as usize) {
@@ -87,8 +89,23 @@ pub fn report_verdict(s: &[u8], row: u32) -> Answer
     if !is_sheet(s) {
         return Answer::Refused(Refusal::NotSheet);
     }
-    if row as usize >= rows_used(s) {
+    if !is_row(s, row as usize) {
         return Answer::Refused(Refusal::NoRow);
+    }
+    Answer::Done
+}
+
+pub fn strike_verdict(s: &[u8], row: u32) -> Answer
+    ensures { λ r. ⌜ answerWords r ≡ verdictWords (strikeRows row (now (s .entry))) ⌝ }
+{
+    if !is_sheet(s) {
+        return Answer::Refused(Refusal::NotSheet);
+    }
+    if !is_row(s, row as usize) {
+        return Answer::Refused(Refusal::NoRow);
+    }
+    if !is_idle(s, row as usize) {
+        return Answer::Refused(Refusal::RowOpen);
     }
     Answer::Done
 }

@@ -17,13 +17,12 @@ use Rattle.keys.specs.Numbers.{modulus}
 use Rattle.model.specs.Positions.{position, noTicks, same, size, anyTicked, missing, least}
 use Rattle.model.specs.Positions.{numberAt as numberAtPosition}
 use Rattle.model.specs.Book.{fresh, hasKey, placeWith, allUsed, lowestFree}
-use Rattle.model.specs.Step.{Call, refusals, effect, afterRefusal, step, run}
-use Rattle.model.specs.Counts.{rowReport}
+use Rattle.model.specs.Step.{RowReport, Call, Ask, refusals, asked, effect, afterRefusal, step, run}
 use Rattle.model.proofs.WellFormed.{run-well-formed}
 use Rattle.sheet.specs.Sheet.{rowAt, ticksAt}
 use Rattle.changes.specs.Rows.{rowBytes}
 use Rattle.changes.specs.Bytes.{headerBytes}
-use Rattle.layout.specs.Layout.{bitsValue, tickBytes, placeBytes, countUsed, laid, layout, report, onSheet}
+use Rattle.layout.specs.Layout.{bitsValue, tickBytes, placeBytes, countUsed, laid, layout, call, onSheet}
 use Rattle.layout.proofs.Sheets.{on-layout}
 use Rattle.worked.specs.Worked.{Agree, table, p7, p8-empty, p8, p9-stale, p9, p10, verdicts, reportAfter, tickByteAfter}
 use Rattle.worked.proofs.Sheet.{wordsIn, answers-fresh, after-fresh}
@@ -34,21 +33,21 @@ module _ (calls : List Call) where
   said : verdicts calls ≡ map (λ words. getD words 0 0) (map wordsIn (run fresh calls .log))
   said = ap (map (λ words. getD words 0 0)) (answers-fresh calls)
 
-  reported : reportAfter calls ≡ rowReport (run fresh calls .book) 0
+  reported : reportAfter calls ≡ call (Ask (RowReport 0)) (run fresh calls .book) .0
   reported =
-      ap (λ (s : List ℕ). onSheet (report (λ b. rowReport b 0)) s .0) (after-fresh calls)
-      ∙ ap (λ x. x .0) (on-layout (report (λ b. rowReport b 0)) (run fresh calls .book) (run-well-formed calls))
+      ap (λ (s : List ℕ). onSheet (call (Ask (RowReport 0))) s .0) (after-fresh calls)
+      ∙ ap (λ x. x .0) (on-layout (call (Ask (RowReport 0))) (run fresh calls .book) (run-well-formed calls))
 
   ticks : tickByteAfter calls ≡ getD (layout (run fresh calls .book)) (rowAt 0 + ticksAt) 0 ∷ []
   ticks = ap (λ (s : List ℕ). getD s (rowAt 0 + ticksAt) 0 ∷ []) (after-fresh calls)
 
   both : map number (tickByteAfter calls ++ reportAfter calls)
-      ≡ map number (getD (layout (run fresh calls .book)) (rowAt 0 + ticksAt) 0 ∷ rowReport (run fresh calls .book) 0)
+      ≡ map number (getD (layout (run fresh calls .book)) (rowAt 0 + ticksAt) 0 ∷ call (Ask (RowReport 0)) (run fresh calls .book) .0)
   both = ap (λ (x : List ℕ). map number (x ++ reportAfter calls)) ticks
       ∙ ap (λ (x : List ℕ). map number (getD (layout (run fresh calls .book)) (rowAt 0 + ticksAt) 0 ∷ x)) reported
 
 pub worked : Agree table
-unfolding judge modulus numberAt bytesOf part put all sameAt hasKind kindOf labelLength recordLength blockType blockLength lengthInRange accepts readOne dataPart labelBytes block primaryBlock headBytes recordBytes signedByte recordNumber isYear isDay isRsrBand isBand inRange judgedBytes fault readHeaders validKey telemetryKeyCall position noTicks same size anyTicked missing least numberAtPosition hasKey placeWith allUsed lowestFree refusals effect afterRefusal step run rowBytes headerBytes bitsValue tickBytes placeBytes countUsed laid layout
+unfolding judge modulus numberAt bytesOf part put all sameAt hasKind kindOf labelLength recordLength blockType blockLength lengthInRange accepts readOne dataPart labelBytes block primaryBlock headBytes recordBytes signedByte recordNumber isYear isDay isRsrBand isBand inRange judgedBytes fault readHeaders validKey telemetryKeyCall position noTicks same size anyTicked missing least numberAtPosition hasKey placeWith allUsed lowestFree refusals effect afterRefusal step run rowBytes headerBytes bitsValue tickBytes placeBytes countUsed laid layout asked
 worked = (
   refl,
   (

@@ -11,11 +11,10 @@ use Rattle.headers.specs.Words.{Word, number, signed}
 use Rattle.headers.specs.Headers.{readHeaders}
 use Rattle.keys.specs.Key.{telemetryKeyCall}
 use Rattle.model.specs.Positions.{position}
-use Rattle.model.specs.Step.{Call, Enrol, Open, Tick, Untick, Save}
-use Rattle.model.specs.Counts.{rowReport}
+use Rattle.model.specs.Step.{Call, Enrol, Ask, RowReport, Open, Tick, Untick, Save}
 use Rattle.sheet.specs.Sheet.{rowAt, ticksAt}
 use Rattle.changes.specs.Bytes.{freshSheet}
-use Rattle.layout.specs.Layout.{report, onSheet}
+use Rattle.layout.specs.Layout.{call, onSheet}
 use Rattle.worked.specs.Calls.{answersOn, sheetAfter}
 use Rattle.worked.specs.Records.{plain, relabelled, p4, p6}
 
@@ -68,7 +67,7 @@ verdicts calls = map (λ words. getD words 0 0) (answersOn calls freshSheet)
 
 -- The report of row 0, and its first tick byte: positions 0 to 7, from the lowest bit.
 abbrev pub reportAfter : List Call → List ℕ
-reportAfter calls = onSheet (report (λ b. rowReport b 0)) (sheetAfter calls freshSheet) .0
+reportAfter calls = onSheet (call (Ask (RowReport 0))) (sheetAfter calls freshSheet) .0
 
 abbrev pub tickByteAfter : List Call → List ℕ
 tickByteAfter calls = getD (sheetAfter calls freshSheet) (rowAt 0 + ticksAt) 0 ∷ []

@@ -2,35 +2,31 @@
 -- first i positions are ticked. Assumes nothing.
 use native.Mathlib.Nat.{sub-zero}
 use Rattle.changes.proofs.Scans.{Each, each-none, each-more}
-use Prim.Native.Nat.{_-_, _≤_}
+use Prim.Native.Nat.{_-_, _≤_, _<_}
 use mathlib.Core.Bool.{true}
 use mathlib.Core.Path.{_≡_, refl, sym, ap, _∙_}
 use native.Mathlib.Omega.{arith}
 use Rattle.octets.proofs.Laws.{failed, passed}
 use Rattle.sheet.specs.declared.GapAnswer.the-variants.{Nothing}
-use Rattle.sheet.specs.Sheet.{rowAt}
+use Rattle.sheet.specs.Sheet.{rowCount}
 use Rattle.changes.specs.Rows.{tickedAt}
-use Rattle.model.specs.Positions.{rowLength}
-use Rattle.changes.specs.Bytes.{pastHighest, gapFrom}
+use Rattle.changes.specs.Bytes.{gapFrom}
 use Rattle.sheet.specs.Words.{gapWords}
-use Rattle.counts.proofs.Reports.{end-within, row-gap, row-whole, gap-next, gap-here, gap-none}
+use Rattle.counts.proofs.Reports.{rowEnd, row-end-within, gap-next, gap-here, gap-none}
 use Rattle.counts.proofs.first_gap.Statement.{statement}
 use Rattle.counts.proofs.first_gap.Tie as tie
 
 abbrev Inv-loop : tie.InvT-loop
-Inv-loop s used gap₀ row a end i₀ gap i = (i ≤ end) × (gap ≡ Nothing) × Each true (tickedAt s a) i
+Inv-loop s gap₀ row a end i₀ gap i = (i ≤ end) × (gap ≡ Nothing) × Each true (tickedAt s a) i
 
 abbrev μ-loop : tie.MeasureT-loop
-μ-loop s used gap₀ row a end i₀ gap i = end - i
+μ-loop s gap₀ row a end i₀ gap i = end - i
 
 abbrev Inv-rows : tie.InvT-rows
-Inv-rows s used gap₀ row₀ gap row = (row ≤ used) × (gap ≡ Nothing) × (gapFrom s 0 used ≡ gapFrom s row (used - row))
+Inv-rows s gap₀ row₀ gap row = (row ≤ rowCount) × (gap ≡ Nothing) × (gapFrom s 0 rowCount ≡ gapFrom s row (rowCount - row))
 
 abbrev μ-rows : tie.MeasureT-rows
-μ-rows s used gap₀ row₀ gap row = used - row
-
-rows-used-requires : tie.Need-rows-used-requires Inv-loop μ-loop Inv-rows μ-rows
-rows-used-requires c κs = omega arith
+μ-rows s gap₀ row₀ gap row = rowCount - row
 
 rows-holds : tie.Need-rows-holds Inv-loop μ-loop Inv-rows μ-rows
 rows-holds c = (omega arith, refl, rw sub-zero)
@@ -41,26 +37,26 @@ mul-a c = omega arith
 add-a : tie.Need-add-a Inv-loop μ-loop Inv-rows μ-rows
 add-a c = omega arith
 
-ticks-end-requires : tie.Need-ticks-end-requires Inv-loop μ-loop Inv-rows μ-rows
-ticks-end-requires c κs = omega arith
+row-end-requires : tie.Need-row-end-requires Inv-loop μ-loop Inv-rows μ-rows
+row-end-requires c κs = omega arith
 
 loop-holds : tie.Need-loop-holds Inv-loop μ-loop Inv-rows μ-rows
 loop-holds c = (omega arith, c .before .before .rows .inv .1, each-none _ _)
 
 is-ticked-requires : tie.Need-is-ticked-requires Inv-loop μ-loop Inv-rows μ-rows
 is-ticked-requires c κs =
-    let s = c .before .before .before .before .before .before .before .args .s .now in
+    let s = c .before .before .before .before .before .before .args .s .now in
     let row = c .before .before .before .before .rows .row in
-    omega (arith, end-within s (rowAt row), c .before .before .ticks-end .ensures)
+    omega (arith, row-end-within s row, c .before .before .row-end .ensures)
 
 number-in-requires : tie.Need-number-in-requires Inv-loop μ-loop Inv-rows μ-rows
 number-in-requires c κs =
-    let s = c .before .before .before .before .before .before .before .before .before .args .s .now in
+    let s = c .before .before .before .before .before .before .before .before .args .s .now in
     let row = c .before .before .before .before .before .before .rows .row in
-    omega (arith, end-within s (rowAt row), c .before .before .before .before .ticks-end .ensures)
+    omega (arith, row-end-within s row, c .before .before .before .before .row-end .ensures)
 
-cast-t13 : tie.Need-cast-t13 Inv-loop μ-loop Inv-rows μ-rows
-cast-t13 c = omega arith
+cast-t12 : tie.Need-cast-t12 Inv-loop μ-loop Inv-rows μ-rows
+cast-t12 c = omega arith
 
 add-i : tie.Need-add-i Inv-loop μ-loop Inv-rows μ-rows
 add-i c = omega arith
@@ -81,26 +77,25 @@ rows-less c = omega arith
 
 rows-again : tie.Need-rows-again Inv-loop μ-loop Inv-rows μ-rows
 rows-again c =
-    let s = c .before .before .before .before .before .before .before .args .s .now in
+    let s = c .before .before .before .before .before .before .args .s .now in
     let at = c .before .before .before .before .rows in
-    let all-ticked : c .before .loop .i ≡ pastHighest rowLength (tickedAt s (rowAt (at .row))) = omega (arith, c .before .before .ticks-end .ensures) in
-    (omega arith, c .before .loop .inv .1, at .inv .2 ∙ gap-next s (at .row) _ (c .before .before .before .rows-test .taken) (row-whole s (rowAt (at .row)) (rw all-ticked at (c .before .loop .inv .2))))
+    let to-end : c .before .loop .i ≡ rowEnd s (at .row) = omega (arith, c .before .before .row-end .ensures) in
+    (omega arith, c .before .loop .inv .1, at .inv .2 ∙ gap-next s (at .row) rowCount (omega arith) (rw to-end at (c .before .loop .inv .2)))
 
 returns : tie.Need-returns Inv-loop μ-loop Inv-rows μ-rows
 returns c =
     let at = c .before .rows in
-    let e : c .before .before .rows-used .result - at .row ≡ 0 = omega arith in
-    ap gapWords (at .inv .1) ∙ sym (rw (← c .before .before .rows-used .ensures) (rw e at (at .inv .2) ∙ gap-none _ _))
+    let e : rowCount - at .row ≡ 0 = omega arith in
+    ap gapWords (at .inv .1) ∙ sym (rw e at (at .inv .2) ∙ gap-none _ _)
 
 returns-2 : tie.Need-returns-2 Inv-loop μ-loop Inv-rows μ-rows
 returns-2 c =
     let at = c .before .before .before .before .loop in
     let rows = c .before .before .before .before .before .before .before in
-    let s = rows .before .before .before .args .s .now in
-    let used = rows .before .rows-used .ensures in
-    let end = c .before .before .before .before .before .ticks-end .ensures in
-    let gap = row-gap s (rowAt (rows .rows .row)) (at .i) (omega arith) (at .inv .2) (failed (c .before .before .is-ticked .ensures) (c .before .if1 .taken)) in
-    rw (c .number-in .ensures, ← used) (sym (rows .rows .inv .2 ∙ gap-here s (rows .rows .row) _ (at .i) (c .before .before .before .before .before .before .rows-test .taken) gap))
+    let s = rows .before .before .args .s .now in
+    let unticked = failed (c .before .before .is-ticked .ensures) (c .before .if1 .taken) in
+    let below : at .i < rowEnd s (rows .rows .row) = omega (arith, c .before .before .before .before .before .row-end .ensures) in
+    rw (c .number-in .ensures) (sym (rows .rows .inv .2 ∙ gap-here s (rows .rows .row) rowCount (omega arith) (at .i) below (at .inv .2) unticked))
 
 pub first-gap-spec : {M : Type 1} → statement M
 first-gap-spec =
@@ -110,15 +105,14 @@ first-gap-spec =
     μ-loop
     Inv-rows
     μ-rows
-    rows-used-requires
     rows-holds
     mul-a
     add-a
-    ticks-end-requires
+    row-end-requires
     loop-holds
     is-ticked-requires
     number-in-requires
-    cast-t13
+    cast-t12
     add-i
     loop-less
     loop-again

@@ -1,6 +1,6 @@
 -- `find` meets its contract. Assumes nothing.
 use native.Mathlib.Omega.{arith}
-use Rattle.model.specs.Step.{Find}
+use Rattle.model.specs.Step.{Ask, Find}
 use Rattle.verdicts.proofs.Judged.{refused-is, accepted-is, find-fine}
 use Rattle.ledger.proofs.Calls.{by-rows}
 use borrow.Author.Needs.{needs}
@@ -17,7 +17,7 @@ returns : tie.Need-returns
 returns c =
     let judged = c .before .before .before in
     let g = judged .before .before .args in
-    let law = by-rows (Find (g .key)) (g .s .now) (judged .before .shared-slice-known .given) in
+    let law = by-rows (Ask (Find (g .key))) (g .s .now) (judged .before .shared-slice-known .given) in
     let why = c .before .verdict .given in
     refused-is law (judged .find-verdict .ensures) (why .0 .0) (why .1)
 
@@ -41,7 +41,7 @@ returns-2 : tie.Need-returns-2
 returns-2 c =
     let judged = c .before .before .before in
     let g = judged .before .before .args in
-    let law = by-rows (Find (g .key)) (g .s .now) (judged .before .shared-slice-known .given) in
+    let law = by-rows (Ask (Find (g .key))) (g .s .now) (judged .before .shared-slice-known .given) in
     rw (c .find-row .ensures) (accepted-is law (judged .find-verdict .ensures) (c .before .enum-told .given .1))
 
 pub find-spec : {M : Type 1} → statement M

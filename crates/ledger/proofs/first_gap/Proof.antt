@@ -1,7 +1,7 @@
 -- `first_gap` meets its contract. Assumes nothing.
 use mathlib.Core.Path.{ap, _∙_}
 use Rattle.octets.proofs.Laws.{failed, passed}
-use Rattle.sheet.proofs.Clauses.{sized}
+use Rattle.sheet.proofs.Clauses.{right-parts}
 use Rattle.ledger.proofs.Calls.{gap-not-right, gap-right}
 use borrow.Author.Needs.{needs}
 use Rattle.ledger.proofs.first_gap.Statement.{statement}
@@ -16,7 +16,7 @@ returns c =
     gap-not-right (judged .before .before .args .s .now) (judged .before .shared-slice-known .given) (failed (judged .is-sheet .ensures) (c .if1 .taken))
 
 first-gap-requires : tie.Need-first-gap-requires
-first-gap-requires c κs = sized _ (passed (c .before .is-sheet .ensures) (c .if1 .left))
+first-gap-requires c κs = right-parts _ (passed (c .before .is-sheet .ensures) (c .if1 .left)) .long
 
 returns-2 : tie.Need-returns-2
 returns-2 c =

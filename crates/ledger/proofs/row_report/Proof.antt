@@ -1,8 +1,9 @@
 -- `row_report` meets its contract. Assumes nothing.
 use native.Mathlib.Omega.{arith}
 use mathlib.Core.Path.{ap, _∙_}
+use Rattle.model.specs.Step.{Ask, RowReport}
 use Rattle.verdicts.proofs.Judged.{refused-is, accepted-is, report-fine}
-use Rattle.ledger.proofs.Calls.{report-by-rows}
+use Rattle.ledger.proofs.Calls.{by-rows}
 use borrow.Author.Needs.{needs}
 use Rattle.ledger.proofs.row_report.Statement.{statement}
 use Rattle.ledger.proofs.row_report.Tie as tie
@@ -17,7 +18,7 @@ returns : tie.Need-returns
 returns c =
     let judged = c .before .before .before in
     let g = judged .before .before .args in
-    let law = report-by-rows (g .row) (g .s .now) (judged .before .shared-slice-known .given) in
+    let law = by-rows (Ask (RowReport (g .row))) (g .s .now) (judged .before .shared-slice-known .given) in
     let why = c .before .verdict .given in
     refused-is law (judged .report-verdict .ensures) (why .0 .0) (why .1)
 
@@ -35,7 +36,7 @@ returns-2 : tie.Need-returns-2
 returns-2 c =
     let judged = c .before .before .before in
     let g = judged .before .before .args in
-    let law = report-by-rows (g .row) (g .s .now) (judged .before .shared-slice-known .given) in
+    let law = by-rows (Ask (RowReport (g .row))) (g .s .now) (judged .before .shared-slice-known .given) in
     ap (λ w. (w, g .s .now)) (c .row-report .ensures) ∙ accepted-is law (judged .report-verdict .ensures) (c .before .enum-told .given .1)
 
 pub row-report-spec : {M : Type 1} → statement M

@@ -109,6 +109,9 @@ enum-told-34 c = search needs
 enum-told-35 : tie.Need-enum-told-35
 enum-told-35 c = search needs
 
+enum-told-36 : tie.Need-enum-told-36
+enum-told-36 c = search needs
+
 returns : tie.Need-returns
 returns c = sym (ap numberOf (c .enum-told .given .1))
 
@@ -214,6 +217,9 @@ returns-34 c = sym (ap numberOf (c .enum-told34 .given .1))
 returns-35 : tie.Need-returns-35
 returns-35 c = sym (ap numberOf (c .enum-told35 .given .1))
 
+returns-36 : tie.Need-returns-36
+returns-36 c = sym (ap numberOf (c .enum-told36 .given .1))
+
 pub number-spec : {M : Type 1} → statement M
 number-spec =
     tie.close
@@ -253,6 +259,7 @@ number-spec =
     enum-told-33
     enum-told-34
     enum-told-35
+    enum-told-36
     returns
     returns-2
     returns-3
@@ -287,4 +294,5 @@ number-spec =
     returns-32
     returns-33
     returns-34
-    returns-35)
+    returns-35
+    returns-36)

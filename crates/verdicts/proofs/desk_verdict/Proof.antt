@@ -2,7 +2,7 @@
 use borrow.Author.Tests.{lt-ltb, le-ltb}
 use Rattle.octets.proofs.Laws.{failed, passed}
 use Rattle.refusals.specs.Judge.{verdict, judge}
-use Rattle.sheet.proofs.Clauses.{sized}
+use Rattle.sheet.proofs.Clauses.{right-parts}
 use Rattle.verdicts.specs.Verdicts.{verdictWords}
 use borrow.Author.Needs.{needs}
 use Rattle.verdicts.proofs.desk_verdict.Statement.{statement}
@@ -20,7 +20,7 @@ unfolding verdictWords judge
 returns-2 c = rw (passed (c .before .before .is-sheet .ensures) (c .before .if1 .left), le-ltb _ _ (c .if2 .taken))
 
 is-closed-requires : tie.Need-is-closed-requires
-is-closed-requires c κs = (sized _ (passed (c .before .before .is-sheet .ensures) (c .before .if1 .left)) .long, c .if2 .left)
+is-closed-requires c κs = (right-parts _ (passed (c .before .before .is-sheet .ensures) (c .before .if1 .left)) .long, c .if2 .left)
 
 returns-3 : tie.Need-returns-3
 unfolding verdictWords judge

@@ -2,7 +2,7 @@
 use borrow.Author.Tests.{eq-eqb, ne-eqb}
 use Rattle.octets.proofs.Laws.{failed, passed}
 use Rattle.refusals.specs.Judge.{verdict, judge}
-use Rattle.sheet.proofs.Clauses.{sized}
+use Rattle.sheet.proofs.Clauses.{right-parts}
 use Rattle.verdicts.specs.Verdicts.{verdictWords}
 use borrow.Author.Needs.{needs}
 use Rattle.verdicts.proofs.enrol_verdict.Statement.{statement}
@@ -41,7 +41,7 @@ returns-3 c =
 has-key-requires : tie.Need-has-key-requires
 has-key-requires c κs =
     let right = c .before .before .before .before in
-    sized _ (passed (right .before .is-sheet .ensures) (right .if1 .left))
+    right-parts _ (passed (right .before .is-sheet .ensures) (right .if1 .left)) .long
 
 returns-4 : tie.Need-returns-4
 unfolding verdictWords judge
@@ -57,10 +57,10 @@ returns-4 c =
       c .if4 .taken,
     )
 
-rows-used-requires : tie.Need-rows-used-requires
-rows-used-requires c κs =
+free-row-requires : tie.Need-free-row-requires
+free-row-requires c κs =
     let right = c .before .before .before .before .before .before in
-    sized _ (passed (right .before .is-sheet .ensures) (right .if1 .left)) .long
+    right-parts _ (passed (right .before .is-sheet .ensures) (right .if1 .left)) .long
 
 returns-5 : tie.Need-returns-5
 unfolding verdictWords judge
@@ -69,15 +69,10 @@ returns-5 c =
     let number = new .before .before in
     let valid = number .before .before in
     let right = valid .before .before in
-    rw (
-      passed (right .before .is-sheet .ensures) (right .if1 .left),
-      passed (valid .before .valid .ensures) (valid .if2 .left),
-      passed (number .before .is-number .ensures) (number .if3 .left),
-      ← new .before .has-key .ensures,
-      new .if4 .left,
-      ← c .before .rows-used .ensures,
-      eq-eqb _ _ (c .if5 .taken),
-    )
+    rw
+    (passed (right .before .is-sheet .ensures) (right .if1 .left), passed (valid .before .valid .ensures) (valid .if2 .left),
+    passed (number .before .is-number .ensures) (number .if3 .left), ← new .before .has-key .ensures, new .if4 .left,
+    ← c .before .free-row .ensures, eq-eqb _ _ (c .if5 .taken))
 
 returns-6 : tie.Need-returns-6
 unfolding verdictWords judge
@@ -86,15 +81,10 @@ returns-6 c =
     let number = new .before .before in
     let valid = number .before .before in
     let right = valid .before .before in
-    rw (
-      passed (right .before .is-sheet .ensures) (right .if1 .left),
-      passed (valid .before .valid .ensures) (valid .if2 .left),
-      passed (number .before .is-number .ensures) (number .if3 .left),
-      ← new .before .has-key .ensures,
-      new .if4 .left,
-      ← c .before .rows-used .ensures,
-      ne-eqb _ _ (c .if5 .left),
-    )
+    rw
+    (passed (right .before .is-sheet .ensures) (right .if1 .left), passed (valid .before .valid .ensures) (valid .if2 .left),
+    passed (number .before .is-number .ensures) (number .if3 .left), ← new .before .has-key .ensures, new .if4 .left,
+    ← c .before .free-row .ensures, ne-eqb _ _ (c .if5 .left))
 
 pub enrol-verdict-spec : {M : Type 1} → statement M
 enrol-verdict-spec =
@@ -108,6 +98,6 @@ enrol-verdict-spec =
     returns-3
     has-key-requires
     returns-4
-    rows-used-requires
+    free-row-requires
     returns-5
     returns-6)

@@ -1,7 +1,7 @@
 -- `verdicts::find_verdict` meets its contract. Assumes nothing.
 use Rattle.octets.proofs.Laws.{failed, passed}
 use Rattle.refusals.specs.Judge.{verdict, judge}
-use Rattle.sheet.proofs.Clauses.{sized}
+use Rattle.sheet.proofs.Clauses.{right-parts}
 use Rattle.verdicts.specs.Verdicts.{verdictWords}
 use borrow.Author.Needs.{needs}
 use Rattle.verdicts.proofs.find_verdict.Statement.{statement}
@@ -22,7 +22,7 @@ unfolding verdictWords judge
 returns-2 c = rw (passed (c .before .before .before .is-sheet .ensures) (c .before .before .if1 .left), failed (c .before .valid .ensures) (c .if2 .taken))
 
 has-key-requires : tie.Need-has-key-requires
-has-key-requires c κs = sized _ (passed (c .before .before .before .is-sheet .ensures) (c .before .before .if1 .left))
+has-key-requires c κs = right-parts _ (passed (c .before .before .before .is-sheet .ensures) (c .before .before .if1 .left)) .long
 
 returns-3 : tie.Need-returns-3
 unfolding verdictWords judge

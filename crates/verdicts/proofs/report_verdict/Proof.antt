@@ -1,8 +1,7 @@
 -- `verdicts::report_verdict` meets its contract. Assumes nothing.
-use borrow.Author.Tests.{lt-ltb, le-ltb}
 use Rattle.octets.proofs.Laws.{failed, passed}
 use Rattle.refusals.specs.Judge.{verdict, judge}
-use Rattle.sheet.proofs.Clauses.{sized}
+use Rattle.sheet.proofs.Clauses.{right-parts}
 use Rattle.verdicts.specs.Verdicts.{verdictWords}
 use borrow.Author.Needs.{needs}
 use Rattle.verdicts.proofs.report_verdict.Statement.{statement}
@@ -15,16 +14,20 @@ returns : tie.Need-returns
 unfolding verdictWords judge
 returns c = rw (failed (c .before .is-sheet .ensures) (c .if1 .taken))
 
-rows-used-requires : tie.Need-rows-used-requires
-rows-used-requires c κs = sized _ (passed (c .before .is-sheet .ensures) (c .if1 .left)) .long
+is-row-requires : tie.Need-is-row-requires
+is-row-requires c κs = right-parts _ (passed (c .before .is-sheet .ensures) (c .if1 .left)) .long
 
 returns-2 : tie.Need-returns-2
 unfolding verdictWords judge
-returns-2 c = rw (passed (c .before .before .before .is-sheet .ensures) (c .before .before .if1 .left), ← c .before .rows-used .ensures, le-ltb _ _ (c .if2 .taken))
+returns-2 c =
+    let right = c .before .before in
+    rw (passed (right .before .is-sheet .ensures) (right .if1 .left), failed (c .before .is-row .ensures) (c .if2 .taken))
 
 returns-3 : tie.Need-returns-3
 unfolding verdictWords judge
-returns-3 c = rw (passed (c .before .before .before .is-sheet .ensures) (c .before .before .if1 .left), ← c .before .rows-used .ensures, lt-ltb _ _ (c .if2 .left))
+returns-3 c =
+    let right = c .before .before in
+    rw (passed (right .before .is-sheet .ensures) (right .if1 .left), passed (c .before .is-row .ensures) (c .if2 .left))
 
 pub report-verdict-spec : {M : Type 1} → statement M
-report-verdict-spec = tie.close (tie.spec is-sheet-requires returns rows-used-requires returns-2 returns-3)
+report-verdict-spec = tie.close (tie.spec is-sheet-requires returns is-row-requires returns-2 returns-3)

@@ -6,11 +6,8 @@ use Rattle.changes.proofs.rows.has_key.Tie as tie
 find-row-requires : tie.Need-find-row-requires
 find-row-requires c κs = search needs
 
-rows-used-requires : tie.Need-rows-used-requires
-rows-used-requires c κs = search needs
-
 returns : tie.Need-returns
-returns c = rw (c .before .find-row .ensures, c .rows-used .ensures)
+returns c = rw (c .find-row .ensures)
 
 pub has-key-spec : {M : Type 1} → statement M
-has-key-spec = tie.close (tie.spec find-row-requires rows-used-requires returns)
+has-key-spec = tie.close (tie.spec find-row-requires returns)

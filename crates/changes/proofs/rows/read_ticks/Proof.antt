@@ -4,7 +4,7 @@ use mathlib.Core.Path.{_≡_, refl}
 use native.Mathlib.Omega.{arith}
 use lib.ListN.{length, getD, length-set}
 use Rattle.sheet.specs.Sheet.{ticksSize}
-use Rattle.sheet.proofs.Ranges.{read-more}
+use Rattle.changes.proofs.Scans.{read-more}
 use Rattle.changes.proofs.Puts.{part-is}
 use Rattle.changes.proofs.rows.read_ticks.Statement.{statement}
 use Rattle.changes.proofs.rows.read_ticks.Tie as tie

@@ -11,11 +11,17 @@ write-be-requires c κs = search needs
 add-write-be : tie.Need-add-write-be
 add-write-be c = search needs
 
+write-be-requires-2 : tie.Need-write-be-requires-2
+write-be-requires-2 c κs = search needs
+
+add-write-be-2 : tie.Need-add-write-be-2
+add-write-be-2 c = search needs
+
 cast-write-be : tie.Need-cast-write-be
 cast-write-be c = search needs
 
-write-be-requires-2 : tie.Need-write-be-requires-2
-write-be-requires-2 c κs = search needs
+write-be-requires-3 : tie.Need-write-be-requires-3
+write-be-requires-3 c κs = search needs
 
 add-write-ticks : tie.Need-add-write-ticks
 add-write-ticks c = search needs
@@ -30,10 +36,11 @@ same-length : tie.Need-same-length
 same-length c = search needs
 
 returns : tie.Need-returns
-returns c =
+returns c = 
     let first = c .before .before .before .before .before .before .before in
     let key = first .before .before .before .before .before in
-    row-written _ _ _ _ _ (omega arith) (omega arith) (key .write-be .ensures) (first .write-be2 .ensures) (c .before .before .write-ticks .ensures)
+    let word = key .before .before .before .before in
+    row-written _ _ _ _ _ (omega arith) (omega arith) (word .write-be .ensures) (key .write-be2 .ensures) (first .write-be3 .ensures) (c .before .before .write-ticks .ensures)
 
 pub write-row-spec : {M : Type 1} → statement M
 write-row-spec =
@@ -41,8 +48,10 @@ write-row-spec =
     (tie.spec
     write-be-requires
     add-write-be
-    cast-write-be
     write-be-requires-2
+    add-write-be-2
+    cast-write-be
+    write-be-requires-3
     add-write-ticks
     slice-aggregate-write-ticks
     write-ticks-requires

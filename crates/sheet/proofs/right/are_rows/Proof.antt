@@ -1,34 +1,24 @@
--- `right::are_rows` meets its contract. The invariant: the first i keys are in the array, and what is gathered says it of
--- them. Assumes nothing.
-use Rattle.sheet.proofs.Ranges.{read-more, read-test}
-use Prim.Native.Nat.{ℕ, _≤_, _<_, _-_}
-use mathlib.Core.Bool.{not}
-use mathlib.Core.Path.{_≡_, refl, sym}
+-- `right::are_rows` meets its contract. The invariant: the array has the keys of the used rows among the first i, and what is gathered says it of them. Assumes nothing.
+use Prim.Native.Nat.{_≤_, _-_}
+use mathlib.Core.Path.{_≡_, refl, sym, _∙_}
+use mathlib.Core.Logic.{⊎-elim}
 use native.Mathlib.Omega.{arith}
-use lib.Dec.{eqb}
-use lib.ListN.{length, getD, length-set}
-use Rattle.octets.specs.Octets.{all}
-use Rattle.octets.proofs.Laws.{all-none, all-next}
-use Rattle.keys.specs.Key.{validKey}
-use Rattle.keys.specs.Numbers.{isNumber}
-use Rattle.sheet.specs.Sheet.{rowCount, rowAt, keyAt, firstNumberAt, validKeys, differentKeys, firstNumbers}
+use Rattle.sheet.specs.Sheet.{rowCount}
+use Rattle.sheet.proofs.RowsRead.{RowsRead, no-row-read, used-read, free-read, all-read}
 use Rattle.sheet.proofs.right.are_rows.Statement.{statement}
 use Rattle.sheet.proofs.right.are_rows.Tie as tie
 
 abbrev Inv-loop : tie.InvT-loop
-Inv-loop s used keys₀ valid₀ different₀ numbers₀ i₀ keys valid different numbers i =
-    (i ≤ used) × (length keys ≡ rowCount) × ((j : ℕ) → j < i → getD keys j 0 ≡ keyAt s (rowAt j))
-    × (valid ≡ all i (λ k. validKey (keyAt s (rowAt k)))) × (different ≡ all i (λ k. all k (λ j. not (eqb (keyAt s (rowAt j)) (keyAt s (rowAt k))))))
-    × (numbers ≡ all i (λ k. isNumber (keyAt s (rowAt k)) (firstNumberAt s (rowAt k))))
+Inv-loop s keys₀ found₀ valid₀ different₀ numbers₀ i₀ keys found valid different numbers i = (i ≤ rowCount) × RowsRead s keys found valid different numbers i
 
 abbrev μ-loop : tie.MeasureT-loop
-μ-loop s used keys₀ valid₀ different₀ numbers₀ i₀ keys valid different numbers i = used - i
-
-rows-used-requires : tie.Need-rows-used-requires Inv-loop μ-loop
-rows-used-requires c κs = omega arith
+μ-loop s keys₀ found₀ valid₀ different₀ numbers₀ i₀ keys found valid different numbers i = rowCount - i
 
 loop-holds : tie.Need-loop-holds Inv-loop μ-loop
-loop-holds c = (omega arith, refl, (λ j l. absurd (omega arith)), sym (all-none _), sym (all-none _), sym (all-none _))
+loop-holds c = (omega arith, no-row-read _ _ refl)
+
+is-used-requires : tie.Need-is-used-requires Inv-loop μ-loop
+is-used-requires c κs = omega arith
 
 mul-row : tie.Need-mul-row Inv-loop μ-loop
 mul-row c = omega arith
@@ -40,13 +30,13 @@ key-at-requires : tie.Need-key-at-requires Inv-loop μ-loop
 key-at-requires c κs = omega arith
 
 valid-requires : tie.Need-valid-requires Inv-loop μ-loop
-valid-requires c κs = tt
+valid-requires c κs = omega arith
 
 first-at-requires : tie.Need-first-at-requires Inv-loop μ-loop
 first-at-requires c κs = omega arith
 
 is-number-requires : tie.Need-is-number-requires Inv-loop μ-loop
-is-number-requires c κs = tt
+is-number-requires c κs = omega arith
 
 is-new-requires : tie.Need-is-new-requires Inv-loop μ-loop
 is-new-requires c κs = omega arith
@@ -57,6 +47,9 @@ mul-keys c = omega arith
 array-write-keys : tie.Need-array-write-keys Inv-loop μ-loop
 array-write-keys c = omega arith
 
+add-found : tie.Need-add-found Inv-loop μ-loop
+add-found c = omega arith
+
 add-i : tie.Need-add-i Inv-loop μ-loop
 add-i c = omega arith
 
@@ -65,24 +58,23 @@ loop-less c = omega arith
 
 loop-again : tie.Need-loop-again Inv-loop μ-loop
 loop-again c =
-    let s = c .before .before .before .before .before .before .before .before .before .before .args .s .now in
-    let at = c .before .before .before .before .before .before .before .loop in
-    let key = c .before .before .before .before .before .key-at .ensures in
-    let first = c .before .before .before .first-at .ensures in
-    let keys : ℕ → ℕ = λ j. keyAt s (rowAt j) in (
-      omega arith,
-      (simp length-set (at .inv .1)),
-      read-more keys (at .keys) (at .i) _ (at .inv .2) key (omega arith),
-      rw (all-next, ← at .inv .3, ← key, ← c .before .before .before .before .valid .ensures),
-      rw (all-next, ← at .inv .4, ← read-test keys (at .keys) (at .i) _ (at .inv .2) key (λ a b. not (eqb a b)), ← c .is-new .ensures),
-      rw (all-next, ← at .inv .5, ← key, ← first, ← c .before .before .is-number .ensures),
-    )
+    let turn = c .before .before .before .loop in
+    let word = c .before .is-used .ensures in
+    ⊎-elim
+    (λ w.
+    (omega arith,
+    rw (w .7, w .8, w .9, w .10, w .11)
+    (used-read _ _ _ _ _ _ _ (turn .inv .1) _ _ _ _ _ (omega arith) (sym word ∙ w .0 .taken) (w .1 .ensures) (w .3 .ensures) (w .2 .ensures) (w .6 .ensures) (w .4 .ensures))))
+    (λ w. (omega arith, rw (w .1, w .2, w .3, w .4, w .5) (free-read _ _ _ _ _ _ _ (turn .inv .1) (sym word ∙ w .0 .left))))
+    (c .if1 .came)
+
+rows-used-requires : tie.Need-rows-used-requires Inv-loop μ-loop
+rows-used-requires c κs = omega arith
 
 returns : tie.Need-returns Inv-loop μ-loop
-unfolding validKeys differentKeys firstNumbers
 returns c =
-    let e : c .before .loop .i ≡ c .before .before .rows-used .result = omega arith in
-    rw (← c .before .before .rows-used .ensures, ← e, c .before .loop .inv .3, c .before .loop .inv .4, c .before .loop .inv .5)
+    let e : c .before .before .loop .i ≡ rowCount = omega arith in
+    all-read _ _ _ _ _ _ _ (c .rows-used .ensures) (rw e at (c .before .before .loop .inv .1))
 
 pub are-rows-spec : {M : Type 1} → statement M
 are-rows-spec =
@@ -90,8 +82,8 @@ are-rows-spec =
     (tie.spec
     Inv-loop
     μ-loop
-    rows-used-requires
     loop-holds
+    is-used-requires
     mul-row
     add-row
     key-at-requires
@@ -101,7 +93,9 @@ are-rows-spec =
     is-new-requires
     mul-keys
     array-write-keys
+    add-found
     add-i
     loop-less
     loop-again
+    rows-used-requires
     returns)

@@ -19,12 +19,12 @@ read-be-requires-4 c κs = search needs
 read-be-requires-5 : tie.Need-read-be-requires-5
 read-be-requires-5 c κs = search needs
 
-read-be-requires-6 : tie.Need-read-be-requires-6
-read-be-requires-6 c κs = search needs
-
 returns : tie.Need-returns
 unfolding headerRight
-returns c = rw (c .before .before .before .before .before .read-be .ensures, c .before .before .before .before .read-be2 .ensures, c .before .before .before .read-be3 .ensures, c .before .before .read-be4 .ensures, c .before .read-be5 .ensures, c .read-be6 .ensures)
+returns c = 
+    rw
+    (c .before .before .before .before .read-be .ensures, c .before .before .before .read-be2 .ensures, c .before .before .read-be3 .ensures,
+    c .before .read-be4 .ensures, c .read-be5 .ensures)
 
 pub is-header-spec : {M : Type 1} → statement M
 is-header-spec =
@@ -35,5 +35,4 @@ is-header-spec =
     read-be-requires-3
     read-be-requires-4
     read-be-requires-5
-    read-be-requires-6
     returns)

@@ -3,7 +3,6 @@ use native.Mathlib.Omega.{arith}
 use borrow.Author.Tests.{eq-eqb, ne-eqb}
 use Rattle.octets.proofs.Laws.{failed, passed, and-assoc}
 use Rattle.sheet.specs.Sheet.{right}
-use Rattle.sheet.proofs.Clauses.{header-few}
 use borrow.Author.Needs.{needs}
 use Rattle.sheet.proofs.right.is_sheet.Statement.{statement}
 use Rattle.sheet.proofs.right.is_sheet.Tie as tie
@@ -20,24 +19,18 @@ unfolding right
 returns-2 c = rw (eq-eqb _ _ (c .before .before .if1 .left), failed (c .before .is-header .ensures) (c .if2 .taken))
 
 are-rows-requires : tie.Need-are-rows-requires
-are-rows-requires c κs = record { long = omega arith; few = header-few _ (passed (c .before .is-header .ensures) (c .if2 .left)) }
+are-rows-requires c κs = omega arith
 
 is-rest-requires : tie.Need-is-rest-requires
-is-rest-requires c κs = record { long = omega arith; few = header-few _ (passed (c .before .before .is-header .ensures) (c .before .if2 .left)) }
+is-rest-requires c κs = omega arith
 
 returns-3 : tie.Need-returns-3
 unfolding right
 returns-3 c =
     let header = c .before .before in
-    rw (eq-eqb _ _ (header .before .before .if1 .left), passed (header .before .is-header .ensures) (header .if2 .left), ← c .before .are-rows .ensures, ← and-assoc, ← c .is-rest .ensures)
+    rw
+    (eq-eqb _ _ (header .before .before .if1 .left), passed (header .before .is-header .ensures) (header .if2 .left),
+    ← c .before .are-rows .ensures, ← and-assoc, ← c .is-rest .ensures)
 
 pub is-sheet-spec : {M : Type 1} → statement M
-is-sheet-spec =
-    tie.close
-    (tie.spec
-    returns
-    is-header-requires
-    returns-2
-    are-rows-requires
-    is-rest-requires
-    returns-3)
+is-sheet-spec = tie.close (tie.spec returns is-header-requires returns-2 are-rows-requires is-rest-requires returns-3)

@@ -1,14 +1,14 @@
--- `right::is_rest` meets its contract. The invariant: the bytes from `zeros` up to desk d are to be zero, and the others before desk d have
+-- `old::is_rest` meets its contract. The invariant: the bytes from `zeros` up to desk d are to be zero, and the others before desk d have
 -- been judged. Assumes nothing.
 use Prim.Native.Nat.{_≤_, _-_}
 use mathlib.Core.Path.{_≡_}
 use mathlib.Core.Logic.{⊎-elim}
 use native.Mathlib.Omega.{arith}
 use borrow.Author.Needs.{needs}
-use Rattle.sheet.specs.Sheet.{deskCount, deskAt}
-use Rattle.sheet.proofs.Clauses.{Judged, none-judged, closed-judged, open-judged}
-use Rattle.sheet.proofs.right.is_rest.Statement.{statement}
-use Rattle.sheet.proofs.right.is_rest.Tie as tie
+use Rattle.ledger_convert.specs.Old.{deskCount, deskAt}
+use Rattle.ledger_convert.proofs.Clauses.{Judged, none-judged, closed-judged, open-judged}
+use Rattle.ledger_convert.proofs.old.is_rest.Statement.{statement}
+use Rattle.ledger_convert.proofs.old.is_rest.Tie as tie
 
 abbrev Inv-loop : tie.InvT-loop
 Inv-loop s right₀ zeros₀ d₀ right zeros d = (d ≤ deskCount) × (zeros ≤ deskAt d) × Judged s right zeros d

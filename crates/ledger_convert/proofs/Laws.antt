@@ -1,0 +1,46 @@
+-- A converted sheet answers as the old one's book; and an old sheet given to a new call is refused. Assumes nothing.
+use Prim.Native.Nat.{ℕ}
+use native.Mathlib.Omega.{arith}
+use mathlib.Core.Bool.{Bool, true, false, _&&_}
+use mathlib.Core.List.{List, [], _∷_}
+use mathlib.Core.Path.{_≡_, refl, sym, ap, _∙_}
+use lib.Dec.{eqb}
+use lib.ListN.{length}
+use borrow.Author.Tests.{ne-eqb}
+use Rattle.model.specs.Book.{Book}
+use Rattle.octets.proofs.Laws.{and-split}
+use Rattle.sheet.specs.Sheet.{sheetSize, right}
+use Rattle.changes.specs.Bytes.{Outcome}
+use Rattle.layout.specs.Layout.{layout, bookOf, call, onSheet}
+use Rattle.layout.proofs.Right.{reads-back}
+use Rattle.layout.proofs.Sheets.{on-layout}
+use Rattle.ledger_convert.specs.Old as Old
+use Rattle.ledger_convert.specs.Convert.{oldBookOf, convertOn}
+use Rattle.ledger_convert.specs.Laws.{AnswersAsBefore}
+use Rattle.ledger_convert.proofs.Read.{book-fine, long}
+
+-- where the converter answers 0, the old sheet was right, and the new one is its book laid out
+accepted : (old new t : List ℕ) → (0 ∷ [], t) ≡ convertOn old new → (Old.right old ≡ true) × (t ≡ layout (oldBookOf old))
+unfolding convertOn
+accepted old new t e = by (eqb (length new) sheetSize && Old.right old) refl
+  where
+    by : (b : Bool) → (eqb (length new) sheetSize && Old.right old) ≡ b → (Old.right old ≡ true) × (t ≡ layout (oldBookOf old))
+    by true q = (and-split (eqb (length new) sheetSize) (Old.right old) q .1, ap (λ (o : Outcome). o .1) (rw q at e))
+    by false q =
+        let d : _≡_ {A = Outcome} (0 ∷ [], t) (20 ∷ [], new) = rw q at e in
+        let f : _≡_ {A = List ℕ} (0 ∷ []) (20 ∷ []) = ap (λ (o : Outcome). o .0) d in
+        absurd (let z : _≡_ {A = ℕ} 0 1 = cc in omega arith)
+
+pub converted-answers : (old new t : List ℕ) → (0 ∷ [], t) ≡ convertOn old new → AnswersAsBefore old t
+converted-answers old new t e =
+    let a = accepted old new t e in
+    let fine = book-fine old (a .0) in
+    record {
+      same-book = ap bookOf (a .1) ∙ reads-back (oldBookOf old) fine;
+      same-calls = λ c. ap (onSheet (call c)) (a .1) ∙ on-layout (call c) (oldBookOf old) fine;
+    }
+
+-- "an old sheet given to a new call is 20"
+pub old-refused : (old : List ℕ) → Old.right old ≡ true → (f : Book → List ℕ × Book) → onSheet f old ≡ (20 ∷ [], old)
+unfolding onSheet right
+old-refused old r f = rw (ne-eqb (length old) sheetSize (λ e. omega (arith, long old r)))

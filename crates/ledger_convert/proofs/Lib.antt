@@ -1,0 +1,5 @@
+pub mod Ranges
+pub mod Clauses
+pub mod Read
+pub mod Laying
+pub mod Laws

@@ -1,0 +1,77 @@
+-- `write_desk` meets its contract. Assumes nothing.
+use native.Mathlib.Omega.{arith}
+use mathlib.Core.Path.{_∙_}
+use lib.ListN.{length-set}
+use Rattle.changes.proofs.ReadBack.{length-row}
+use Rattle.ledger_convert.proofs.Laying.{desk-written}
+use borrow.Author.Needs.{needs}
+use Rattle.ledger_convert.proofs.write_desk.Statement.{statement}
+use Rattle.ledger_convert.proofs.write_desk.Tie as tie
+
+mul-a : tie.Need-mul-a
+mul-a c = search needs
+
+add-a : tie.Need-add-a
+add-a c = search needs
+
+slice-write-new : tie.Need-slice-write-new
+slice-write-new c = search needs
+
+add-new : tie.Need-add-new
+add-new c = search needs
+
+slice-write-new-2 : tie.Need-slice-write-new-2
+slice-write-new-2 c = simp length-set (omega arith)
+
+add-clear : tie.Need-add-clear
+add-clear c = search needs
+
+clear-requires : tie.Need-clear-requires
+clear-requires c κs = simp length-set (omega arith)
+
+add-write-row : tie.Need-add-write-row
+add-write-row c = search needs
+
+write-row-requires : tie.Need-write-row-requires
+write-row-requires c κs =
+    let kept = simp length-set at (c .before .before .before .clear .kept .0) in
+    (omega arith, c .before .before .before .before .before .before .pre .1 .0)
+
+add-write-row-2 : tie.Need-add-write-row-2
+add-write-row-2 c = search needs
+
+write-row-requires-2 : tie.Need-write-row-requires-2
+write-row-requires-2 c κs =
+    let kept = simp length-set at (c .before .before .before .before .before .before .before .clear .kept .0) in
+    let kept-2 = c .before .before .before .write-row .kept .0 in
+    (omega arith, c .before .before .before .before .before .before .before .before .before .before .pre .1 .1)
+
+same-length : tie.Need-same-length
+same-length c =
+    let one = c .before .before .before .before .before .before in
+    c .before .before .write-row2 .kept .0 ∙ one .write-row .kept .0 ∙ (simp length-set at (one .before .before .before .before .clear .kept .0))
+
+returns : tie.Need-returns
+returns c = 
+    let start = c .before .before .before .before .before .before .before .before .before .before .before .before .before in
+    let g = start .args in
+    desk-written _ _ _ _ _ (start .pre .0 .0) (start .pre .0 .1) (length-row _ _ _ (start .pre .1 .0)) (length-row _ _ _ (start .pre .1 .1))
+    (c .before .before .before .before .before .before .before .before .before .before .clear .ensures) (c .before .before .before .before .before .before .write-row .ensures) (c .before .before .write-row2 .ensures)
+
+pub write-desk-spec : {M : Type 1} → statement M
+write-desk-spec =
+    tie.close
+    (tie.spec
+    mul-a
+    add-a
+    slice-write-new
+    add-new
+    slice-write-new-2
+    add-clear
+    clear-requires
+    add-write-row
+    write-row-requires
+    add-write-row-2
+    write-row-requires-2
+    same-length
+    returns)

@@ -1,0 +1,93 @@
+-- `write_rows` meets its contract. The invariant: the first i rows are laid out. Assumes nothing.
+use Prim.Native.Nat.{_≤_, _-_, _*_, _+_}
+use mathlib.Core.Path.{_≡_}
+use native.Mathlib.Omega.{arith}
+use Rattle.sheet.specs.Sheet.{usedWordSize, rowsStart}
+use Rattle.ledger_convert.specs.Old as Old
+use Rattle.ledger_convert.specs.Laid.{Laid}
+use Rattle.ledger_convert.proofs.Read.{few, long, value-ticks}
+use Rattle.ledger_convert.proofs.Laying.{row-laid, rows-laid, row-copied}
+use borrow.Author.Needs.{needs}
+use Rattle.ledger_convert.proofs.write_rows.Statement.{statement}
+use Rattle.ledger_convert.proofs.write_rows.Tie as tie
+
+abbrev Inv-loop : tie.InvT-loop
+Inv-loop old new₀ used i₀ new i = (i ≤ used) × Laid old new i 0
+
+abbrev μ-loop : tie.MeasureT-loop
+μ-loop old new₀ used i₀ new i = used - i
+
+loop-holds : tie.Need-loop-holds Inv-loop μ-loop
+loop-holds c = (omega arith, c .before .before .pre .1)
+
+mul-read-row : tie.Need-mul-read-row Inv-loop μ-loop
+mul-read-row c = omega (arith, few (c .before .before .before .before .args .old .now) (c .before .before .before .before .pre .0 .0), long (c .before .before .before .before .args .old .now) (c .before .before .before .before .pre .0 .0), c .before .before .before .before .pre .0 .1)
+
+add-read-row : tie.Need-add-read-row Inv-loop μ-loop
+add-read-row c = omega (arith, few (c .before .before .before .before .args .old .now) (c .before .before .before .before .pre .0 .0), long (c .before .before .before .before .args .old .now) (c .before .before .before .before .pre .0 .0), c .before .before .before .before .pre .0 .1)
+
+sub-read-row : tie.Need-sub-read-row Inv-loop μ-loop
+sub-read-row c = omega arith
+
+read-row-requires : tie.Need-read-row-requires Inv-loop μ-loop
+read-row-requires c κs = omega (arith, few (c .before .before .before .before .args .old .now) (c .before .before .before .before .pre .0 .0), long (c .before .before .before .before .args .old .now) (c .before .before .before .before .pre .0 .0), c .before .before .before .before .pre .0 .1)
+
+mul-write-row : tie.Need-mul-write-row Inv-loop μ-loop
+mul-write-row c = omega (arith, few (c .before .before .before .before .before .before .args .old .now) (c .before .before .before .before .before .before .pre .0 .0), long (c .before .before .before .before .before .before .args .old .now) (c .before .before .before .before .before .before .pre .0 .0), c .before .before .before .before .before .before .pre .0 .1)
+
+add-write-row : tie.Need-add-write-row Inv-loop μ-loop
+add-write-row c = omega (arith, few (c .before .before .before .before .before .before .args .old .now) (c .before .before .before .before .before .before .pre .0 .0), long (c .before .before .before .before .before .before .args .old .now) (c .before .before .before .before .before .before .pre .0 .0), c .before .before .before .before .before .before .pre .0 .1)
+
+write-row-requires : tie.Need-write-row-requires Inv-loop μ-loop
+write-row-requires c κs = 
+    let turn = c .before .before .before .loop in
+    let old = c .before .before .before .before .before .before .args .old .now in
+    (omega (arith, turn .inv .1 .long, few (c .before .before .before .before .before .before .args .old .now) (c .before .before .before .before .before .before .pre .0 .0), long (c .before .before .before .before .before .before .args .old .now) (c .before .before .before .before .before .before .pre .0 .0), c .before .before .before .before .before .before .pre .0 .1),
+    value-ticks old _ _ (omega (arith, few (c .before .before .before .before .before .before .args .old .now) (c .before .before .before .before .before .before .pre .0 .0), long (c .before .before .before .before .before .before .args .old .now) (c .before .before .before .before .before .before .pre .0 .0), c .before .before .before .before .before .before .pre .0 .1)) (c .before .read-row .ensures))
+
+add-i : tie.Need-add-i Inv-loop μ-loop
+add-i c = omega arith
+
+loop-less : tie.Need-loop-less Inv-loop μ-loop
+loop-less c = omega arith
+
+loop-again : tie.Need-loop-again Inv-loop μ-loop
+loop-again c = 
+    let start = c .before .before .before .before .before .before .before .before .before in
+    let turn = c .before .before .before .before .before .before .loop in
+    let old = start .args .old .now in
+    let right = start .pre .0 .0 in
+    let i = turn .i in
+    (omega arith,
+    row-laid old (turn .new) i 0 (turn .inv .1) _ _ (omega (arith, few old right, start .pre .0 .1))
+    (row-copied old right (c .before .before .before .before .before .before .before .before .shared-slice-known .given) i (rowsStart + Old.rowSize * i - usedWordSize) (omega (arith, start .pre .0 .1)) (omega arith) _ (c .before .before .before .before .read-row .ensures))
+    (c .before .before .write-row .ensures))
+
+same-length : tie.Need-same-length Inv-loop μ-loop
+same-length c = search needs
+
+returns : tie.Need-returns Inv-loop μ-loop
+returns c = 
+    let start = c .before .before .before .before in
+    let e : c .before .loop .i ≡ Old.used (start .args .old .now) = omega (arith, start .pre .0 .1) in
+    rows-laid _ _ 0 (rw e at (c .before .loop .inv .1))
+
+pub write-rows-spec : {M : Type 1} → statement M
+write-rows-spec =
+    tie.close
+    (tie.spec
+    Inv-loop
+    μ-loop
+    loop-holds
+    mul-read-row
+    add-read-row
+    sub-read-row
+    read-row-requires
+    mul-write-row
+    add-write-row
+    write-row-requires
+    add-i
+    loop-less
+    loop-again
+    same-length
+    returns)

@@ -1,0 +1,36 @@
+-- Document 02, request 10: "A converter makes a new sheet of an old one, places and open desks kept; 20 where the old isn't right or the new
+-- slice isn't 6,968 bytes." Assumes nothing.
+use Prim.Native.Nat.{ℕ, _+_, _/_, _%_, _^_}
+use mathlib.Core.Bool.{Bool, cond, _&&_}
+use mathlib.Core.List.{List, [], _∷_}
+use lib.Dec.{eqb, ltb}
+use lib.ListN.{length, getD}
+use Rattle.model.specs.Positions.{rowLength, Positions}
+use Rattle.model.specs.Book.{Place, free, row, Desk, closed, working, Book}
+use Rattle.sheet.specs.Sheet.{sheetSize}
+use Rattle.changes.specs.Rows.{table}
+use Rattle.changes.specs.Bytes.{Outcome}
+use Rattle.layout.specs.Layout.{layout}
+use Rattle.ledger_convert.specs.Old.{ticksAt, byteBits, rowCount, openedAt, workedAt, deskCount, rowAt, deskAt, used, keyAt, firstNumberAt, deskRow, isClosed, right}
+
+-- "Position i is bit i mod 8, counted from the lowest, of tick byte i div 8." The old row or copy stands at offset a.
+abbrev pub oldTickedAt : List ℕ → ℕ → ℕ → Bool
+oldTickedAt s a i = eqb (getD s (a + ticksAt + i / byteBits) 0 / 2 ^ (i % byteBits) % 2) 1
+
+unfoldable pub oldTicksOf : List ℕ → ℕ → Positions
+oldTicksOf s a = table rowLength (oldTickedAt s a)
+
+-- The book that a right old sheet holds.
+unfoldable pub oldPlaceIn : List ℕ → ℕ → Place
+oldPlaceIn s i = cond (ltb i (used s)) (row (keyAt s (rowAt i)) (firstNumberAt s (rowAt i)) (oldTicksOf s (rowAt i))) free
+
+unfoldable pub oldDeskIn : List ℕ → ℕ → Desk
+oldDeskIn s d =
+    cond (isClosed s d) closed (working (deskRow s d) (oldTicksOf s (deskAt d + openedAt)) (oldTicksOf s (deskAt d + workedAt)))
+
+unfoldable pub oldBookOf : List ℕ → Book
+oldBookOf s = record { places = table rowCount (oldPlaceIn s); desks = table deskCount (oldDeskIn s) }
+
+-- What the converter answers and leaves in the new slice: the book of the old sheet, laid out.
+unfoldable pub convertOn : (old new : List ℕ) → Outcome
+convertOn old new = cond (eqb (length new) sheetSize && right old) (0 ∷ [], layout (oldBookOf old)) (20 ∷ [], new)

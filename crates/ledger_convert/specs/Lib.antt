@@ -1,0 +1,5 @@
+-- The old sheet, and what the call that converts one promises.
+pub mod Old
+pub mod Convert
+pub mod Laws
+pub mod Laid

@@ -1,0 +1,185 @@
+-- The old sheet, document 01, "The ledger sheet", with request 03's rule on first numbers: where its parts stand, and when a list of bytes
+-- is a right one. Every size and offset of it has its name here, once. Assumes nothing.
+use Prim.Native.Nat.{ℕ, _+_, _*_, _≤_}
+use mathlib.Core.Bool.{Bool, not, _&&_, _||_}
+use mathlib.Core.List.{List}
+use mathlib.Core.Path.{_≡_}
+use lib.Dec.{eqb, ltb, leb}
+use lib.ListN.{length, getD}
+use Rattle.keys.specs.Key.{validKey}
+use Rattle.keys.specs.Numbers.{isNumber}
+use Rattle.octets.specs.Octets.{numberAt, all, zeroAt, sameAt}
+
+-- ---- sizes and offsets
+
+-- "A row is 140 bytes: key (8), first number (4), ticks (128)." There are 32, and the first stands at 24.
+abbrev pub keySize : ℕ
+keySize = 8
+
+abbrev pub firstAt : ℕ
+firstAt = keySize
+
+abbrev pub firstSize : ℕ
+firstSize = 4
+
+abbrev pub ticksAt : ℕ
+ticksAt = firstAt + firstSize
+
+abbrev pub ticksSize : ℕ
+ticksSize = 128
+
+abbrev pub rowSize : ℕ
+rowSize = ticksAt + ticksSize
+
+abbrev pub rowCount : ℕ
+rowCount = 32
+
+abbrev pub rowsStart : ℕ
+rowsStart = 24
+
+-- A tick byte has eight positions.
+abbrev pub byteBits : ℕ
+byteBits = 8
+
+-- "A desk is 284 bytes: 1 if open, row, two zeros, the row as opened (140), the row as worked on (140)." There are eight,
+-- and they stand behind the rows.
+abbrev pub deskRowAt : ℕ
+deskRowAt = 1
+
+abbrev pub deskZerosAt : ℕ
+deskZerosAt = 2
+
+abbrev pub deskZerosSize : ℕ
+deskZerosSize = 2
+
+abbrev pub openedAt : ℕ
+openedAt = deskZerosAt + deskZerosSize
+
+abbrev pub workedAt : ℕ
+workedAt = openedAt + rowSize
+
+abbrev pub deskSize : ℕ
+deskSize = workedAt + rowSize
+
+abbrev pub deskCount : ℕ
+deskCount = 8
+
+abbrev pub desksStart : ℕ
+desksStart = rowsStart + rowSize * rowCount
+
+-- "A lent slice of exactly 6,776 bytes."
+abbrev pub sheetSize : ℕ
+sheetSize = desksStart + deskSize * deskCount
+
+-- "A header of six 4-byte numbers: length 6,776, rows used, row places 32, offset of rows 24, desks 8, offset of desks 4,504."
+abbrev pub headerNumberSize : ℕ
+headerNumberSize = 4
+
+abbrev pub lengthAt : ℕ
+lengthAt = 0
+
+abbrev pub usedAt : ℕ
+usedAt = 4
+
+abbrev pub rowCountAt : ℕ
+rowCountAt = 8
+
+abbrev pub rowsStartAt : ℕ
+rowsStartAt = 12
+
+abbrev pub deskCountAt : ℕ
+deskCountAt = 16
+
+abbrev pub desksStartAt : ℕ
+desksStartAt = 20
+
+-- ---- what stands there
+
+-- The offset of row i, and of desk d. "Rows and desks count from 0."
+abbrev pub rowAt : ℕ → ℕ
+rowAt i = rowsStart + rowSize * i
+
+abbrev pub deskAt : ℕ → ℕ
+deskAt d = desksStart + deskSize * d
+
+-- A number of the header.
+abbrev pub headerNumber : List ℕ → ℕ → ℕ
+headerNumber s at = numberAt s at headerNumberSize
+
+-- How many rows are used.
+abbrev pub used : List ℕ → ℕ
+used s = headerNumber s usedAt
+
+-- The key and the first number of the row, or of the copy of one, at offset a.
+abbrev pub keyAt : List ℕ → ℕ → ℕ
+keyAt s a = numberAt s a keySize
+
+abbrev pub firstNumberAt : List ℕ → ℕ → ℕ
+firstNumberAt s a = numberAt s (a + firstAt) firstSize
+
+-- The first byte of desk d, and the row that it names.
+abbrev pub deskByte : List ℕ → ℕ → ℕ
+deskByte s d = getD s (deskAt d) 0
+
+abbrev pub deskRow : List ℕ → ℕ → ℕ
+deskRow s d = getD s (deskAt d + deskRowAt) 0
+
+-- "1 if open": a desk whose first byte is 0 is closed.
+abbrev pub isClosed : List ℕ → ℕ → Bool
+isClosed s d = eqb (deskByte s d) 0
+
+-- ---- "A sheet is right when ..", a definition for each clause
+
+-- "the header is so"
+unfoldable pub headerRight : List ℕ → Bool
+headerRight s =
+    eqb (headerNumber s lengthAt) sheetSize && leb (used s) rowCount && eqb (headerNumber s rowCountAt) rowCount
+    && eqb (headerNumber s rowsStartAt) rowsStart && eqb (headerNumber s deskCountAt) deskCount
+    && eqb (headerNumber s desksStartAt) desksStart
+
+-- "used rows come first with valid, different keys"
+unfoldable pub validKeys : List ℕ → Bool
+validKeys s = all (used s) (λ i. validKey (keyAt s (rowAt i)))
+
+unfoldable pub differentKeys : List ℕ → Bool
+differentKeys s = all (used s) (λ i. all i (λ j. not (eqb (keyAt s (rowAt j)) (keyAt s (rowAt i)))))
+
+-- "an RSR row with such a first number makes the sheet 20" (request 03): a used row's first number is one of its stream. The copies at
+-- desks carry it.
+unfoldable pub firstNumbers : List ℕ → Bool
+firstNumbers s = all (used s) (λ i. isNumber (keyAt s (rowAt i)) (firstNumberAt s (rowAt i)))
+
+-- "unused rows and closed desks are all zero"
+unfoldable pub unusedZero : List ℕ → Bool
+unusedZero s = all rowCount (λ i. ltb i (used s) || zeroAt s (rowAt i) rowSize)
+
+unfoldable pub closedZero : List ℕ → ℕ → Bool
+closedZero s d = not (isClosed s d) || zeroAt s (deskAt d) deskSize
+
+-- "a desk's first byte is 0 or 1 and its two zeros are zero"
+unfoldable pub deskMarked : List ℕ → ℕ → Bool
+deskMarked s d = leb (deskByte s d) 1 && zeroAt s (deskAt d + deskZerosAt) deskZerosSize
+
+-- "an open desk names a used row and both its copies carry that row's key and first number"
+abbrev pub carries : List ℕ → (copy row : ℕ) → Bool
+carries s copy row = sameAt s (rowAt row) s copy ticksAt
+
+unfoldable pub openNames : List ℕ → ℕ → Bool
+openNames s d =
+    isClosed s d
+    || (ltb (deskRow s d) (used s) && carries s (deskAt d + openedAt) (deskRow s d) && carries s (deskAt d + workedAt) (deskRow s d))
+
+-- What the paragraph says of desk d.
+unfoldable pub deskRight : List ℕ → ℕ → Bool
+deskRight s d = closedZero s d && deskMarked s d && openNames s d
+
+unfoldable pub right : List ℕ → Bool
+right s =
+    eqb (length s) sheetSize && headerRight s && (validKeys s && differentKeys s && firstNumbers s) && unusedZero s
+    && all deskCount (deskRight s)
+
+-- ---- what the functions on a right sheet ask of it
+
+pub record Sized (s : List ℕ) : Type 0 where
+  pub long : length s ≡ sheetSize
+  pub few : used s ≤ rowCount

@@ -1,0 +1,114 @@
+// Old sheets, of document 01's layout, made new ones (document 02, request 10).
+pub mod old;
+
+use changes::desks::make_fresh;
+use changes::rows::read_row;
+use changes::rows::write_row;
+use octets::clear;
+use octets::write_be;
+use old::is_old_sheet;
+use old::rows_used;
+use refusals::Refusal;
+use sheet::Answer;
+use sheet::CLOSED;
+use sheet::DESK;
+use sheet::DESK_ROW_AT;
+use sheet::DESK_ZEROS;
+use sheet::DESK_ZEROS_AT;
+use sheet::DESKS;
+use sheet::DESKS_AT;
+use sheet::NUMBER;
+use sheet::OPEN;
+use sheet::OPENED_AT;
+use sheet::ROW;
+use sheet::ROWS_AT;
+use sheet::Row;
+use sheet::SHEET;
+use sheet::USED_AT;
+use sheet::USED_WORD;
+use sheet::WORKED_AT;
+ghost use mathlib.Core.Path.{_≡_};
+ghost use mathlib.Core.Bool.{true};
+ghost use Prim.Native.Nat.{_<_};
+ghost use lib.ListN.{length};
+ghost use Rattle.octets.specs.Octets.{put};
+ghost use Rattle.sheet.specs.Sheet.{sheetSize, rowCount, ticksSize, deskCount, deskAt};
+ghost use Rattle.sheet.specs.Words.{answerWords};
+ghost use Rattle.changes.specs.Rows.{rowBytes};
+ghost use Rattle.changes.specs.Bytes.{openDesk};
+ghost use Rattle.layout.specs.Layout.{layout};
+ghost use Rattle.ledger_convert.specs.Old as Old;
+ghost use Rattle.ledger_convert.specs.Convert.{oldBookOf, convertOn};
+ghost use Rattle.ledger_convert.specs.Laid.{Laid};
+
+// A row of the new layout, from its key on, is laid out as an old one: so an old row is read as the new one whose used word
+// would stand before its key.
+const BEFORE_KEY: usize = USED_WORD;
+
+// Makes a new sheet of an old one: places and open desks are kept. What is not a right old sheet, or no slice of a new sheet's length, is
+// refused, and nothing is written.
+pub fn convert(old: &[u8], new: &mut [u8]) -> Answer
+    ensures { λ r. ⌜ (answerWords r, now (new .exit)) ≡ convertOn (now (old .entry)) (now (new .entry)) ⌝ }
+{
+    if new.len() != SHEET {
+        return Answer::Refused(Refusal::NotSheet);
+    }
+    if !is_old_sheet(old) {
+        return Answer::Refused(Refusal::NotSheet);
+    }
+    lay_out(old, new);
+    Answer::Done
+}
+
+fn lay_out(old: &[u8], new: &mut [u8])
+    requires { ⌜ (length (now new) ≡ sheetSize) × (Old.right (now old) ≡ true) ⌝ }
+    ensures { λ _. ⌜ now (new .exit) ≡ layout (oldBookOf (now (old .entry))) ⌝ }
+{
+    let used = rows_used(old);
+    make_fresh(new);
+    write_be(new, USED_AT, NUMBER, used as u64);
+    write_rows(old, new, used);
+    write_desks(old, new);
+}
+
+// Lays out the used rows.
+fn write_rows(old: &[u8], new: &mut [u8], used: usize)
+    requires { ⌜ (Old.right (now old) ≡ true) × (used ≡ Old.used (now old)) ⌝ }
+    requires { ⌜ Laid (now old) (now new) 0 0 ⌝ }
+    ensures { λ _. ⌜ Laid (now (old .entry)) (now (new .exit)) rowCount 0 ⌝ }
+{
+    for i in 0..used {
+        let row = read_row(old, ROWS_AT + old::ROW * i - BEFORE_KEY);
+        write_row(new, ROWS_AT + ROW * i, row);
+    }
+}
+
+// Lays out the open desks.
+fn write_desks(old: &[u8], new: &mut [u8])
+    requires { ⌜ Old.right (now old) ≡ true ⌝ }
+    requires { ⌜ Laid (now old) (now new) rowCount 0 ⌝ }
+    ensures { λ _. ⌜ Laid (now (old .entry)) (now (new .exit)) rowCount deskCount ⌝ }
+{
+    for d in 0..DESKS {
+        let from = old::DESKS_AT + old::DESK * d;
+        if old[from] != CLOSED {
+            let opened = read_row(old, from + OPENED_AT - BEFORE_KEY);
+            let worked = read_row(old, from + old::WORKED_AT - BEFORE_KEY);
+            write_desk(new, d, old[from + DESK_ROW_AT], opened, worked);
+        }
+    }
+}
+
+// Writes desk d as an open one.
+fn write_desk(new: &mut [u8], d: usize, row: u8, opened: Row, worked: Row)
+    requires { ⌜ (length (now new) ≡ sheetSize) × (d < deskCount) ⌝ }
+    requires { ⌜ (length (opened .ticks) ≡ ticksSize) × (length (worked .ticks) ≡ ticksSize) ⌝ }
+    ensures { λ _. ⌜ now (new .exit) ≡ put (now (new .entry)) (deskAt d) (openDesk row (rowBytes (opened .key) (opened .first) (opened .ticks)) (rowBytes (worked .key) (worked .first) (worked .ticks))) ⌝ }
+{
+    let a = DESKS_AT + DESK * d;
+    new[a] = OPEN;
+    new[a + DESK_ROW_AT] = row;
+    clear(new, a + DESK_ZEROS_AT, DESK_ZEROS);
+    write_row(new, a + OPENED_AT, opened);
+    write_row(new, a + WORKED_AT, worked);
+}

@@ -1,0 +1,169 @@
+// Whether a slice is a right old sheet: document 01's layout, before rows had a used word.
+use sheet::CLOSED;
+use sheet::DESK_COUNT_AT;
+use sheet::DESK_ROW_AT;
+use sheet::DESK_ZEROS;
+use sheet::DESK_ZEROS_AT;
+use sheet::DESKS;
+use sheet::DESKS_START_AT;
+use sheet::FIRST;
+use sheet::KEY;
+use sheet::LENGTH_AT;
+use sheet::NUMBER;
+use sheet::OPEN;
+use sheet::OPENED_AT;
+use sheet::ROW_COUNT_AT;
+use sheet::ROWS;
+use sheet::ROWS_AT;
+use sheet::ROWS_START_AT;
+use sheet::TICKS;
+use sheet::USED_AT;
+use octets::is_long_zero;
+use octets::is_same;
+use octets::is_zero;
+use octets::read_be;
+ghost use mathlib.Core.Path.{_≡_};
+ghost use mathlib.Core.Bool.{not, _&&_};
+ghost use Prim.Native.Nat.{_+_, _≤_, _<_};
+ghost use lib.Dec.{eqb};
+ghost use lib.ListN.{length, getD};
+ghost use Rattle.octets.specs.Octets.{all};
+ghost use Rattle.ledger_convert.specs.Old.{sheetSize, rowSize, rowCount, deskCount, used, keyAt, firstNumberAt, deskByte, headerRight, validKeys, differentKeys, firstNumbers, unusedZero, deskRight, right, Sized};
+
+// An old row: key, first number, ticks.
+const FIRST_AT: usize = KEY;
+
+const TICKS_AT: usize = FIRST_AT + FIRST;
+
+pub const ROW: usize = TICKS_AT + TICKS;
+
+pub const WORKED_AT: usize = OPENED_AT + ROW;
+
+pub const DESK: usize = WORKED_AT + ROW;
+
+pub const DESKS_AT: usize = ROWS_AT + ROW * ROWS;
+
+const SHEET: usize = DESKS_AT + DESK * DESKS;
+
+// Whether a slice is a right old sheet.
+pub fn is_old_sheet(s: &[u8]) -> bool
+    ensures { λ r. ⌜ r ≡ right (now (s .entry)) ⌝ }
+{
+    if s.len() != SHEET {
+        return false;
+    }
+    if !is_header(s) {
+        return false;
+    }
+    let rows = are_rows(s);
+    let rest = is_rest(s);
+    rows & rest
+}
+
+fn is_header(s: &[u8]) -> bool
+    requires { ⌜ length (now s) ≡ sheetSize ⌝ }
+    ensures { λ r. ⌜ r ≡ headerRight (now (s .entry)) ⌝ }
+{
+    let size = read_be(s, LENGTH_AT, NUMBER) == SHEET as u64;
+    let used = read_be(s, USED_AT, NUMBER) <= ROWS as u64;
+    let rows = read_be(s, ROW_COUNT_AT, NUMBER) == ROWS as u64;
+    let rows_start = read_be(s, ROWS_START_AT, NUMBER) == ROWS_AT as u64;
+    let desks = read_be(s, DESK_COUNT_AT, NUMBER) == DESKS as u64;
+    let desks_start = read_be(s, DESKS_START_AT, NUMBER) == DESKS_AT as u64;
+    size & used & rows & rows_start & desks & desks_start
+}
+
+// How many rows are used.
+pub fn rows_used(s: &[u8]) -> usize
+    requires { ⌜ length (now s) ≡ sheetSize ⌝ }
+    ensures { λ r. ⌜ r ≡ used (now (s .entry)) ⌝ }
+{
+    read_be(s, USED_AT, NUMBER) as usize
+}
+
+// The key of the row or the copy at offset a.
+fn key_at(s: &[u8], a: usize) -> u64
+    requires { ⌜ a + rowSize ≤ length (now s) ⌝ }
+    ensures { λ r. ⌜ r ≡ keyAt (now (s .entry)) a ⌝ }
+{
+    read_be(s, a, KEY)
+}
+
+// The first number of the row or the copy at offset a.
+fn first_at(s: &[u8], a: usize) -> u32
+    requires { ⌜ a + rowSize ≤ length (now s) ⌝ }
+    ensures { λ r. ⌜ r ≡ firstNumberAt (now (s .entry)) a ⌝ }
+{
+    read_be(s, a + FIRST_AT, FIRST) as u32
+}
+
+// Whether the used rows have valid, different keys and first numbers of their streams. Each key is read once.
+fn are_rows(s: &[u8]) -> bool
+    requires { ⌜ Sized (now s) ⌝ }
+    ensures { λ r. ⌜ r ≡ (validKeys (now (s .entry)) && differentKeys (now (s .entry)) && firstNumbers (now (s .entry))) ⌝ }
+{
+    let used = rows_used(s);
+    let mut keys = [0u64; ROWS];
+    let mut valid = true;
+    let mut different = true;
+    let mut numbers = true;
+    for i in 0..used {
+        let row = ROWS_AT + ROW * i;
+        let key = key_at(s, row);
+        valid &= keys::valid(key);
+        numbers &= keys::is_number(key, first_at(s, row));
+        different &= is_new(&keys, i, key);
+        keys[i] = key;
+    }
+    valid & different & numbers
+}
+
+// Whether none of the first n keys is the key given.
+fn is_new(keys: &[u64; ROWS], n: usize, key: u64) -> bool
+    requires { ⌜ n ≤ rowCount ⌝ }
+    ensures { λ r. ⌜ r ≡ all n (λ j. not (eqb (getD (now (keys .entry)) j 0) key)) ⌝ }
+{
+    let mut new = true;
+    for j in 0..n {
+        new &= keys[j] != key;
+    }
+    new
+}
+
+// Whether the unused rows are zero and each desk is right. The desks stand behind the unused rows, so that these and closed desks
+// that follow one another are one range of zeros, tested in one go.
+fn is_rest(s: &[u8]) -> bool
+    requires { ⌜ Sized (now s) ⌝ }
+    ensures { λ r. ⌜ r ≡ (unusedZero (now (s .entry)) && all deskCount (deskRight (now (s .entry)))) ⌝ }
+{
+    let mut right = true;
+    let mut zeros = ROWS_AT + ROW * rows_used(s);
+    for d in 0..DESKS {
+        let desk = DESKS_AT + DESK * d;
+        if s[desk] != CLOSED {
+            right &= is_long_zero(s, zeros, desk - zeros);
+            right &= is_open_desk(s, d);
+            zeros = desk + DESK;
+        }
+    }
+    right & is_long_zero(s, zeros, SHEET - zeros)
+}
+
+// Whether a desk that is not closed is marked open, has its two zeros, names a used row, and both its copies carry that row's key
+// and first number.
+fn is_open_desk(s: &[u8], d: usize) -> bool
+    requires { ⌜ Sized (now s) ⌝ }
+    requires { ⌜ (d < deskCount) × (deskByte (now s) d ≡ 0 → ⊥) ⌝ }
+    ensures { λ r. ⌜ r ≡ deskRight (now (s .entry)) d ⌝ }
+{
+    let a = DESKS_AT + DESK * d;
+    let row = s[a + DESK_ROW_AT] as usize;
+    if row >= rows_used(s) {
+        return false;
+    }
+    let open = s[a] == OPEN;
+    let zeros = is_zero(s, a + DESK_ZEROS_AT, DESK_ZEROS);
+    let opened = is_same(s, ROWS_AT + ROW * row, s, a + OPENED_AT, TICKS_AT);
+    let worked = is_same(s, ROWS_AT + ROW * row, s, a + WORKED_AT, TICKS_AT);
+    open & zeros & opened & worked
+}
