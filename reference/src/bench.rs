@@ -5,7 +5,7 @@ use crate::idr::{self, Idr};
 use crate::make::Rng;
 use crate::record::{Fields, Record, Refused, Rsr, Telemetry, RSR, TELEMETRY};
 use crate::stream;
-use crate::{ledger, list, nights, record, sample};
+use crate::{dates, ledger, list, nights, record, sample};
 use std::hint::black_box;
 use std::time::Instant;
 
@@ -21,6 +21,7 @@ pub struct Implementation {
     pub read_headers: fn(&[u8], u32) -> u64,
     pub walk: fn(&[u8]) -> u64,
     pub read_tape: fn(&[u8]) -> u64,
+    pub date_of: fn(u32) -> u64,
     pub is_sheet: fn(&[u8]) -> u64,
     pub tick: fn(&mut [u8], u32, u32) -> u64,
     pub untick: fn(&mut [u8], u32, u32) -> u64,
@@ -35,6 +36,8 @@ pub const REFERENCE: Implementation = Implementation {
     // The count of whole records.
     walk: |s| black_box(stream::walk(s)).count,
     read_tape: |s| tape_number(idr::read(s)),
+    // 1,000 years and the day.
+    date_of: |count| dates::date_of(count).map_or_else(u64::from, |(year, day)| 1_000 * year as u64 + day as u64),
     is_sheet: |s| ledger::is_sheet(s) as u64,
     tick: |s, desk, n| ledger::tick(s, desk, n).err().unwrap_or(0) as u64,
     untick: |s, desk, n| ledger::untick(s, desk, n).err().unwrap_or(0) as u64,
@@ -67,6 +70,9 @@ fn telemetry_number(t: &Telemetry) -> u64 {
         ^ t.stream as u64
         ^ t.equipment as u64
         ^ t.key
+        ^ t.received_days as u64
+        ^ t.received_milliseconds as u64
+        ^ t.received_extended as u64
 }
 
 fn rsr_number(r: &Rsr) -> u64 {
@@ -88,7 +94,7 @@ fn rsr_number(r: &Rsr) -> u64 {
         ^ r.rms as u64
         ^ r.peak as u64;
     let time = r.year as u64 ^ r.day as u64 ^ r.override_frequency;
-    source ^ signal ^ time ^ r.key
+    source ^ signal ^ time ^ r.key ^ r.day_count as u64
 }
 
 /// Every number of the fields, one on the other, flags as 0 or 1; 0 where there are none.
@@ -202,6 +208,10 @@ pub fn run() {
         let s = sample::telemetry_stream(records, length);
         compare(name, records as f64, &each, |i| (i.walk)(black_box(&s)));
     }
+    let counts: Vec<u32> = (0..1_000).map(|i| i * 7_919 % (dates::LAST_COUNT + 1)).collect();
+    compare("the date of a day count", counts.len() as f64, &each, |i| {
+        black_box(&counts).iter().fold(0, |all, count| all ^ (i.date_of)(*count))
+    });
     for (name, sample) in [("read a medium band record", 0), ("read one without a valid time tag", 1)] {
         let tape = sample::sample("tapes/good-tape").expect("a sample");
         let s = &tape[sample * idr::RECORD..][..idr::RECORD];

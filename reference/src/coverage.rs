@@ -9,6 +9,8 @@ use std::ops::RangeInclusive;
 const REFUSALS: &[RangeInclusive<u32>] = &[
     // Records and streams.
     1..=16,
+    // Dates.
+    33..=33,
     // The ledger.
     20..=32,
     36..=36,

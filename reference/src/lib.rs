@@ -3,6 +3,7 @@
 
 // The calls, each module a section of document 01 or a request of document 02; and the programs' listings.
 pub mod convert;
+pub mod dates;
 pub mod idr;
 pub mod keys;
 pub mod ledger;

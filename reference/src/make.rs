@@ -1,5 +1,6 @@
 //! What the random scripts, the samples and the benchmarks are made of: seeded numbers, decks, whole records.
 
+use crate::dates;
 use crate::record::{self, RSR, SECONDARY, SECONDARY_VALUE, TELEMETRY};
 use std::cell::Cell;
 
@@ -129,8 +130,9 @@ pub fn secondary(rng: &Rng, kind: u32) -> Vec<u8> {
     set(25, 1, rng.below(64));
     set(26, 1, rng.below(129));
     set(27, 1, rng.below(129));
-    set(28, 2, 1900 + rng.below(1101));
-    set(30, 2, 1 + rng.below(366));
+    let year = 1900 + rng.below(1101);
+    set(28, 2, year);
+    set(30, 2, 1 + rng.below(dates::days_in(year as u32).into()));
     bytes
 }
 

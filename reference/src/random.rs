@@ -5,6 +5,7 @@ use crate::make::{self, put, Deck, Rng};
 use crate::record::{self, RSR, SECONDARY, TELEMETRY};
 use crate::script::{Calls, Frame, MOST_B, MOST_LIST, MOST_SLICE};
 
+mod dates;
 mod idr;
 pub mod old_sheets;
 
@@ -18,6 +19,7 @@ enum Scene {
     Keys,
     Streams,
     Long,
+    Dates,
     Night,
     Sheets,
     OldSheets,
@@ -32,6 +34,7 @@ const SCENES: &[(Scene, usize, &str)] = &[
     (Scene::Keys, 4, "records"),
     (Scene::Streams, 8, "records"),
     (Scene::Long, 1, "records"),
+    (Scene::Dates, 3, "records"),
     (Scene::Night, 3, "ledger"),
     (Scene::Sheets, 10, "ledger"),
     (Scene::OldSheets, 4, "ledger"),
@@ -61,6 +64,7 @@ pub struct Generator {
     pub sheet_ops: Deck<u32>,
     pub pieces: Deck<crate::nights::Piece>,
     pub nights: Deck<crate::nights::NightCase>,
+    dates: Deck<dates::DateCase>,
     old_sheets: Deck<old_sheets::OldCase>,
     tapes: Vec<Deck<idr::TapeCase>>,
     tape_kinds: Deck<usize>,
@@ -88,6 +92,7 @@ pub fn script_of(seed: u64, count: usize, part: Option<&str>) -> Vec<Frame> {
         sheet_ops: Deck::new((21..=30).collect()),
         pieces: Deck::new(crate::nights::PIECES.to_vec()),
         nights: Deck::new(crate::nights::NIGHT_CASES.to_vec()),
+        dates: Deck::new(dates::date_cases()),
         old_sheets: Deck::new(old_sheets::old_cases()),
         tapes: idr::tape_cases().into_iter().map(Deck::new).collect(),
         tape_kinds: Deck::new((0..idr::tape_cases().len()).collect()),
@@ -118,6 +123,7 @@ impl Generator {
             Scene::Keys => self.keys(),
             Scene::Streams => self.streams(),
             Scene::Long => self.long(),
+            Scene::Dates => self.dates(),
             Scene::Night => self.night(),
             Scene::Sheets => self.sheets(),
             Scene::OldSheets => self.old_sheets(),
@@ -391,6 +397,8 @@ fn damaged_field(rng: &Rng, bytes: &mut [u8], kind: u32, field: usize, value: us
 enum HeaderCase {
     /// One of the fields of `RANGES`, with this value.
     Field(usize, u64),
+    /// The RSR year and day.
+    Date(u64, u64),
     /// A band of RSR, at this offset in the block.
     Band(usize, u8),
     Several,
@@ -426,6 +434,11 @@ fn header_cases() -> Vec<HeaderCase> {
         values.dedup();
         cases.extend(values.into_iter().map(|value| HeaderCase::Field(field, value)));
     }
+    for year in [1904, 2000, 2004, 2008, 2400, 2800, 2996, 1900, 1901, 2001, 2100, 2200, 2900, 2998, 3000, 1899, 3001] {
+        cases.push(HeaderCase::Date(year, 366));
+    }
+    cases.extend([1900, 2000, 2001, 3000].map(|year| HeaderCase::Date(year, 365)));
+    cases.extend([2000, 2001].map(|year| HeaderCase::Date(year, 367)));
     for at in [18, 19] {
         cases.extend([b'S', b'X', b'K', b'U', b'k', 0, 255].map(|band| HeaderCase::Band(at, band)));
     }
@@ -454,6 +467,10 @@ fn header_case(rng: &Rng, case: HeaderCase) -> Frame {
     let mut bytes = make::good_record(rng, kind, 0);
     match case {
         HeaderCase::Field(field, value) => put(&mut bytes, RANGES[field].0, RANGES[field].1, value),
+        HeaderCase::Date(year, day) => {
+            put(&mut bytes, SECONDARY + 28, 2, year);
+            put(&mut bytes, SECONDARY + 30, 2, day);
+        }
         HeaderCase::Band(at, band) => bytes[SECONDARY + at] = band,
         HeaderCase::Several => {
             for (at, width, least, most) in RANGES {

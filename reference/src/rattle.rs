@@ -8,6 +8,7 @@ extern "C" {
     fn bench_read_headers(s: *const u8, length: usize, wanted: u32) -> u64;
     fn bench_walk(s: *const u8, length: usize) -> u64;
     fn bench_read_tape(s: *const u8, length: usize) -> u64;
+    fn bench_date_of(count: u32) -> u64;
     fn bench_is_sheet(s: *const u8, length: usize) -> u64;
     fn bench_tick(s: *mut u8, length: usize, desk: u32, n: u32) -> u64;
     fn bench_untick(s: *mut u8, length: usize, desk: u32, n: u32) -> u64;
@@ -21,6 +22,7 @@ pub const RATTLE: Implementation = Implementation {
     read_headers: |s, wanted| unsafe { bench_read_headers(s.as_ptr(), s.len(), wanted) },
     walk: |s| unsafe { bench_walk(s.as_ptr(), s.len()) },
     read_tape: |s| unsafe { bench_read_tape(s.as_ptr(), s.len()) },
+    date_of: |count| unsafe { bench_date_of(count) },
     is_sheet: |s| unsafe { bench_is_sheet(s.as_ptr(), s.len()) },
     tick: |s, desk, n| unsafe { bench_tick(s.as_mut_ptr(), s.len(), desk, n) },
     untick: |s, desk, n| unsafe { bench_untick(s.as_mut_ptr(), s.len(), desk, n) },

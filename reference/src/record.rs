@@ -1,6 +1,7 @@
-//! One record. Document 01: 'How a record nests' and 'Calls on records'; request 05: where a refused record is wrong.
+//! One record. Document 01: 'How a record nests' and 'Calls on records'; request 05: where a refused record is wrong;
+//! request 01: dates.
 
-use crate::keys;
+use crate::{dates, keys};
 
 pub const TELEMETRY: u32 = 1;
 pub const RSR: u32 = 2;
@@ -255,6 +256,10 @@ pub struct Telemetry {
     pub stream: u8,
     pub equipment: u16,
     pub key: u64,
+    // The received time, split: days since 1 January 1958, milliseconds of the day, extended resolution.
+    pub received_days: u16,
+    pub received_milliseconds: u32,
+    pub received_extended: u16,
 }
 
 #[derive(Clone, Copy, Debug, PartialEq)]
@@ -281,6 +286,8 @@ pub struct Rsr {
     pub day: u16,
     pub override_frequency: u64,
     pub key: u64,
+    /// Of year and day.
+    pub day_count: u32,
 }
 
 #[derive(Clone, Copy, Debug, PartialEq)]
@@ -332,6 +339,9 @@ fn read_telemetry(block: &[u8; TELEMETRY_BLOCK]) -> Result<Telemetry, Refused> {
         stream,
         equipment,
         key: keys::of_telemetry(spacecraft.into(), source.into(), equipment.into(), stream.into()),
+        received_days: u16::from_be_bytes(array(block, 14)),
+        received_milliseconds: u32::from_be_bytes(array(block, 16)),
+        received_extended: u16::from_be_bytes(array(block, 20)),
     })
 }
 
@@ -351,7 +361,9 @@ fn read_rsr(primary: &[u8; 4], block: &[u8; RSR_BLOCK]) -> Result<Rsr, Refused> 
     judge_field(SECONDARY + 26, block[26] <= 128)?;
     judge_field(SECONDARY + 27, block[27] <= 128)?;
     judge_field(SECONDARY + 28, (1900..=3000).contains(&year))?;
-    judge_field(SECONDARY + 30, (1..=366).contains(&day))?;
+    let Some(day_count) = dates::day_count(year.into(), day.into()) else {
+        return Err(Refused::Field { number: 12, offset: SECONDARY + 30 });
+    };
     let (station, receiver, subchannel, spacecraft) = (block[11], block[12], block[13], block[15]);
     Ok(Rsr {
         software: u16::from_be_bytes(array(block, 6)),
@@ -376,6 +388,7 @@ fn read_rsr(primary: &[u8; 4], block: &[u8; RSR_BLOCK]) -> Result<Rsr, Refused> 
         day,
         override_frequency: u64::from_be_bytes(array(block, 64)),
         key: keys::of_rsr(spacecraft.into(), station.into(), receiver.into(), subchannel.into()),
+        day_count,
     })
 }
 

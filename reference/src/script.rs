@@ -2,7 +2,7 @@
 
 use crate::record::{self, Fields, Record, Refused, Rsr, Telemetry};
 use crate::stream::{self, Cursor, Step, Stop};
-use crate::{convert, keys, ledger};
+use crate::{convert, dates, keys, ledger};
 use std::io::{self, Write};
 
 mod idr;
@@ -106,6 +106,7 @@ impl Calls {
             8 => Some(line_of_stop(&stream::walk(&f.a))),
             9 => number_lists(f),
             11 => Some(line_of_step(Cursor { place: f.key }.step(&f.a))),
+            12 => Some(line_of_date(dates::date_of(f.x))),
             16 => Some(idr::read(f)),
             17 => idr::write(f),
             19..=31 => self.ledger_line(f),
@@ -196,7 +197,7 @@ fn line_of_headers(answer: Result<(Record, Fields), Refused>) -> String {
 
 fn telemetry_words(t: &Telemetry) -> String {
     format!(
-        "{} {} {} {} {} {} {} {} {}",
+        "{} {} {} {} {} {} {} {} {} {} {} {}",
         t.spacecraft,
         t.source,
         t.received,
@@ -205,13 +206,16 @@ fn telemetry_words(t: &Telemetry) -> String {
         t.mode,
         t.stream,
         t.equipment,
-        t.key
+        t.key,
+        t.received_days,
+        t.received_milliseconds,
+        t.received_extended
     )
 }
 
 fn rsr_words(r: &Rsr) -> String {
     format!(
-        "{} {} {} {} {} {} {} {} {} {} {} {} {} {} {} {} {} {} {} {} {} {}",
+        "{} {} {} {} {} {} {} {} {} {} {} {} {} {} {} {} {} {} {} {} {} {} {}",
         r.software,
         r.number,
         r.complex,
@@ -233,13 +237,21 @@ fn rsr_words(r: &Rsr) -> String {
         r.year,
         r.day,
         r.override_frequency,
-        r.key
+        r.key,
+        r.day_count
     )
 }
 
 fn line_of_key(answer: Result<u64, u32>) -> String {
     match answer {
         Ok(key) => format!("0 {key}"),
+        Err(refusal) => refusal.to_string(),
+    }
+}
+
+fn line_of_date(answer: Result<(u32, u32), u32>) -> String {
+    match answer {
+        Ok((year, day)) => format!("0 {year} {day}"),
         Err(refusal) => refusal.to_string(),
     }
 }

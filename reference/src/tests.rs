@@ -11,6 +11,7 @@ use crate::{keys, list, nights, random, sample, tapes};
 use std::collections::BTreeSet;
 use std::io::{self, Read};
 
+mod dates;
 mod idr;
 mod rsr_rows;
 mod strikes;
@@ -442,6 +443,7 @@ fn rsr_ranges() {
     for (at, inside, outside) in ranges {
         for (value, right) in inside.iter().map(|v| (v, true)).chain(outside.iter().map(|v| (v, false))) {
             let mut s = by_hand(RSR, 240, &rsr_secondary(), &[]);
+            s[62..64].copy_from_slice(&[0, 200]);
             if at >= 60 {
                 s[at..at + 2].copy_from_slice(&value.to_be_bytes());
             } else {
@@ -709,8 +711,8 @@ fn script_lines() {
             "6 50",
             "0 0",
             "3 891568578",
-            "0 1 120 21 4 255 0 0 0 0 0 none 0 0 0 0",
-            "0 2 263 21 4 255 0 0 0 0 0 0 0 0 0 83 75 1 0 -1 127 0 0 0 0 2008 366 0 4398046511104",
+            "0 1 120 21 4 255 0 0 0 0 0 none 0 0 0 0 0 0 0",
+            "0 2 263 21 4 255 0 0 0 0 0 0 0 0 0 83 75 1 0 -1 127 0 0 0 0 2008 366 0 4398046511104 39811",
             "15",
             "13 0",
             "1 120 0 0",
@@ -736,7 +738,7 @@ fn bad_frames() {
     assert_eq!(lines_of(&[]), [""; 0]);
     assert_eq!(lines_of(&bytes), ["0 0"]);
     assert_eq!(lines_of(&[&bytes[..], &bytes[..39]].concat()), ["0 0", "bad frame"]);
-    for op in [0, 10, 12, 18, 32, u32::MAX] {
+    for op in [0, 10, 13, 18, 32, u32::MAX] {
         assert_eq!(lines(&[good.clone(), Frame { op, ..Frame::default() }, good.clone()]), ["0 0", "bad frame"]);
     }
     let most = Frame { op: 8, a: vec![0; 131_072], b: vec![0; 66_000], ..Frame::default() };

@@ -1,0 +1,40 @@
+//! Day counts in random scripts.
+
+use super::Generator;
+use crate::dates::{day_count, LAST_COUNT};
+use crate::script::Frame;
+
+#[derive(Clone, Copy)]
+pub enum DateCase {
+    Count(u32),
+    /// About 1 January of a year: any, one that can be divided by four, and the hundreds.
+    NewYear(u32),
+    Any,
+}
+
+pub fn date_cases() -> Vec<DateCase> {
+    use DateCase::*;
+    let mut cases = [0, 1, 21_184, 21_184 + 65_535, LAST_COUNT - 1, LAST_COUNT, LAST_COUNT + 1, 1 << 31, u32::MAX]
+        .map(Count)
+        .to_vec();
+    cases.extend([[NewYear(1); 4], [NewYear(4); 4], [NewYear(100); 4], [Any; 4]].concat());
+    cases
+}
+
+impl Generator {
+    pub fn dates(&mut self) {
+        for _ in 0..4 {
+            let rng = &self.rng;
+            let x = match self.dates.deal(rng) {
+                DateCase::Count(count) => count,
+                DateCase::NewYear(step) => {
+                    let year = 1900 + step * rng.below(u64::from(1_100 / step) + 1) as u32;
+                    let count = day_count(year, 1).expect("it is a date") + rng.pick(&[0, 1, 2, 364, 365, 366]);
+                    count.saturating_sub(1)
+                }
+                DateCase::Any => rng.below(LAST_COUNT.into()) as u32,
+            };
+            self.emit(Frame { op: 12, x, ..Frame::default() });
+        }
+    }
+}
