@@ -33,3 +33,7 @@ counts words = cond (eqb (getD words 0 0) 0) (bitXor (getD words 1 0 * 2 ^ 32 + 
 -- The same of a row of a slice that has a sheet's length, right or not; nothing of any other.
 abbrev pub counted : List ℕ → ℕ → ℕ
 counted s row = cond (eqb (length s) sheetSize && ltb row rowCount) (counts (reportWords s (rowAt row))) 0
+
+-- A thousand years and the day of a date's words, or the refusal's number.
+abbrev pub dateNumber : List ℕ → ℕ
+dateNumber words = cond (eqb (getD words 0 0) 0) (1000 * getD words 1 0 + getD words 2 0) (getD words 0 0)

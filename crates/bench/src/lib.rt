@@ -1,8 +1,10 @@
 // The calls that `reference bench` times, for its Rust program to link: numbers, and slices as a pointer and a length.
+pub mod calendar;
 pub mod tapes;
 
 use headers::Band;
 use headers::Headers;
+use headers::ReceivedTime;
 use headers::RsrSignal;
 use headers::RsrSource;
 use headers::RsrTime;
@@ -20,7 +22,7 @@ ghost use lib.ListN.{getD};
 ghost use Rattle.sheet.specs.Words.{answerWords, reportAnswerWords};
 ghost use Rattle.sfdu.specs.Read.{primaryWords, faultWords};
 ghost use Rattle.headers.specs.Words.{number};
-ghost use Rattle.headers.specs.Headers.{readHeaders, bandWord, telemetryFieldWords, sourceWords, signalWords, timeWords};
+ghost use Rattle.headers.specs.Headers.{readHeaders, bandWord, telemetryFieldWords, sourceWords, signalWords, timeWords, receivedWords};
 ghost use Rattle.stream.specs.Listing.{walked};
 ghost use Rattle.sheet.specs.Sheet.{right};
 ghost use Rattle.model.specs.Step.{Tick, Untick, Ask, RowReport};
@@ -50,11 +52,12 @@ pub extern "C" fn bench_read_headers(s: &[u8], wanted: u32) -> u64
             primary,
             fields,
             key,
+            received,
         } => accepted_onto(
             TELEMETRY,
             size,
             primary,
-            telemetry_onto(fields, key ^ NOTHING),
+            telemetry_onto(fields, key ^ received_onto(received, NOTHING)),
         ),
         Headers::Rsr {
             size,
@@ -63,11 +66,12 @@ pub extern "C" fn bench_read_headers(s: &[u8], wanted: u32) -> u64
             signal,
             time,
             key,
+            day_count,
         } => accepted_onto(
             RSR,
             size,
             primary,
-            rsr_onto(source, signal, time, key ^ NOTHING),
+            rsr_onto(source, signal, time, key ^ (day_count as u64 ^ NOTHING)),
         ),
         Headers::Refused(fault) => fault_onto(fault, NOTHING),
         Headers::WrongKind => WRONG_KIND ^ NOTHING,
@@ -100,6 +104,12 @@ fn telemetry_onto(f: TelemetryFields, rest: u64) -> u64
     let last = f.mode as u64 ^ (f.stream as u64 ^ (f.equipment as u64 ^ rest));
     let banded = band_value(uplink) ^ last;
     f.spacecraft as u64 ^ (f.source as u64 ^ (f.received ^ (f.number as u64 ^ banded)))
+}
+
+fn received_onto(f: ReceivedTime, rest: u64) -> u64
+    ensures { λ r. ⌜ r ≡ onto (receivedWords f) rest ⌝ }
+{
+    f.days as u64 ^ (f.milliseconds as u64 ^ (f.extended as u64 ^ rest))
 }
 
 fn band_value(band: Band) -> u64

@@ -11,9 +11,9 @@ use Rattle.headers.specs.Words.{Word}
 use Rattle.headers.specs.Fields.{spacecraft, source, equipment, virtualStream, rsrSpacecraft, station, receiver, subchannel}
 use Rattle.headers.specs.Headers.{accepted, telemetryFieldWords, sourceWords, sourceOf, fieldsOf, keyOf}
 
-pub same-accepted : (k : Kind) (size n : ℕ) (p q : List ℕ) (f g : List Word) (key l : ℕ) → size ≡ n → p ≡ q → f ≡ g → key ≡ l
-    → accepted k size p f key ≡ accepted k n q g l
-same-accepted k size n p q f g key l a b c d = rw (a, b, c, d)
+pub same-accepted : (k : Kind) (size n : ℕ) (p q : List ℕ) (f g : List Word) (key l : ℕ) (x y : List Word) → size ≡ n → p ≡ q → f ≡ g
+    → key ≡ l → x ≡ y → accepted k size p f key x ≡ accepted k n q g l y
+same-accepted k size n p q f g key l x y a b c d e = rw (a, b, c, d, e)
 
 pub telemetry-key : (s : List ℕ) (f : TelemetryFields) (key : ℕ) → telemetryFieldWords f ≡ fieldsOf Telemetry s
     → key ≡ telemetryKey (f .spacecraft) (f .source) (f .equipment) (f .stream) → key ≡ keyOf Telemetry s

@@ -2,3 +2,4 @@ pub mod Table
 pub mod Accept
 pub mod Reading
 pub mod Words
+pub mod Dates

@@ -14,10 +14,11 @@ use Rattle.headers.specs.declared.TelemetryFields.{TelemetryFields}
 use Rattle.headers.specs.declared.RsrSource.{RsrSource}
 use Rattle.headers.specs.declared.RsrSignal.{RsrSignal}
 use Rattle.headers.specs.declared.RsrTime.{RsrTime}
+use Rattle.headers.specs.declared.ReceivedTime.{ReceivedTime}
 use Rattle.headers.specs.declared.Headers.{Headers}
 use Rattle.headers.specs.declared.Headers.the-variants.{Telemetry, Rsr, Refused, WrongKind}
 use Rattle.headers.specs.Words.{Word, number}
-use Rattle.headers.specs.Headers.{bandWord, telemetryFieldWords, sourceWords, signalWords, timeWords, wordsOf}
+use Rattle.headers.specs.Headers.{bandWord, telemetryFieldWords, sourceWords, signalWords, timeWords, receivedWords, wordsOf}
 
 same-band : (a b : Band) → bandWord a ≡ bandWord b → a ≡ b
 same-band (Letter x) (Letter y) e = cc
@@ -82,6 +83,13 @@ same-time f g e =
     let c : f .frequency ≡ g .frequency = cc in
     λ i. record { year = a i; day = b i; frequency = c i }
 
+same-received : (f g : ReceivedTime) → receivedWords f ≡ receivedWords g → f ≡ g
+same-received f g e =
+    let a : f .days ≡ g .days = cc in
+    let b : f .milliseconds ≡ g .milliseconds = cc in
+    let c : f .extended ≡ g .extended = cc in
+    λ i. record { days = a i; milliseconds = b i; extended = c i }
+
 -- The words from a place on.
 abbrev part : (at count : ℕ) → List Word → List Word
 part at count words = take count (drop at words)
@@ -98,34 +106,36 @@ same-primary-words p q e =
     same-primary p q (rw (a, b, c, d))
 
 pub same-headers : (a b : Headers) → wordsOf a ≡ wordsOf b → a ≡ b
-same-headers (Telemetry n p f key) (Telemetry m q g l) e =
+same-headers (Telemetry n p f key r) (Telemetry m q g l o) e =
     let size : n ≡ m = same-number n m (ap (part 2 1) e) in
     let primary = same-primary-words p q (ap (part 3 4) e) in
     let fields = same-fields f g (ap (part 7 8) e) in
     let k : key ≡ l = same-number key l (ap (part 15 1) e) in
-    λ i. Telemetry (size i) (primary i) (fields i) (k i)
-same-headers (Rsr n p f s t key) (Rsr m q g u v l) e =
+    let received = same-received r o (ap (part 16 3) e) in
+    λ i. Telemetry (size i) (primary i) (fields i) (k i) (received i)
+same-headers (Rsr n p f s t key c) (Rsr m q g u v l d) e =
     let size : n ≡ m = same-number n m (ap (part 2 1) e) in
     let primary = same-primary-words p q (ap (part 3 4) e) in
     let source = same-source f g (ap (part 7 8) e) in
     let signal = same-signal s u (ap (part 15 10) e) in
     let time = same-time t v (ap (part 25 3) e) in
     let k : key ≡ l = same-number key l (ap (part 28 1) e) in
-    λ i. Rsr (size i) (primary i) (source i) (signal i) (time i) (k i)
+    let count : c ≡ d = same-number c d (ap (part 29 1) e) in
+    λ i. Rsr (size i) (primary i) (source i) (signal i) (time i) (k i) (count i)
 same-headers (Refused f) (Refused g) e =
     let n : numberOf (f .refusal) ≡ numberOf (g .refusal) = cc in
     let at : f .at ≡ g .at = cc in
     ap Refused (same-fault f g (rw (n, at)))
 same-headers WrongKind WrongKind e = refl
-same-headers (Telemetry n p f key) (Rsr m q g u v l) e = let z : _≡_ {A = ℕ} 1 2 = cc in absurd (omega arith)
-same-headers (Rsr m q g u v l) (Telemetry n p f key) e = let z : _≡_ {A = ℕ} 2 1 = cc in absurd (omega arith)
-same-headers (Telemetry n p f key) WrongKind e = let z : _≡_ {A = ℕ} 0 1 = cc in absurd (omega arith)
-same-headers WrongKind (Telemetry n p f key) e = let z : _≡_ {A = ℕ} 0 1 = cc in absurd (omega arith)
-same-headers (Rsr m q g u v l) WrongKind e = let z : _≡_ {A = ℕ} 0 1 = cc in absurd (omega arith)
-same-headers WrongKind (Rsr m q g u v l) e = let z : _≡_ {A = ℕ} 0 1 = cc in absurd (omega arith)
-same-headers (Telemetry n p f key) (Refused h) e = let z : _≡_ {A = ℕ} 0 1 = cc in absurd (omega arith)
-same-headers (Refused h) (Telemetry n p f key) e = let z : _≡_ {A = ℕ} 0 1 = cc in absurd (omega arith)
-same-headers (Rsr m q g u v l) (Refused h) e = let z : _≡_ {A = ℕ} 0 1 = cc in absurd (omega arith)
-same-headers (Refused h) (Rsr m q g u v l) e = let z : _≡_ {A = ℕ} 0 1 = cc in absurd (omega arith)
+same-headers (Telemetry n p f key r) (Rsr m q g u v l d) e = let z : _≡_ {A = ℕ} 1 2 = cc in absurd (omega arith)
+same-headers (Rsr m q g u v l d) (Telemetry n p f key r) e = let z : _≡_ {A = ℕ} 2 1 = cc in absurd (omega arith)
+same-headers (Telemetry n p f key r) WrongKind e = let z : _≡_ {A = ℕ} 0 1 = cc in absurd (omega arith)
+same-headers WrongKind (Telemetry n p f key r) e = let z : _≡_ {A = ℕ} 0 1 = cc in absurd (omega arith)
+same-headers (Rsr m q g u v l d) WrongKind e = let z : _≡_ {A = ℕ} 0 1 = cc in absurd (omega arith)
+same-headers WrongKind (Rsr m q g u v l d) e = let z : _≡_ {A = ℕ} 0 1 = cc in absurd (omega arith)
+same-headers (Telemetry n p f key r) (Refused h) e = let z : _≡_ {A = ℕ} 0 1 = cc in absurd (omega arith)
+same-headers (Refused h) (Telemetry n p f key r) e = let z : _≡_ {A = ℕ} 0 1 = cc in absurd (omega arith)
+same-headers (Rsr m q g u v l d) (Refused h) e = let z : _≡_ {A = ℕ} 0 1 = cc in absurd (omega arith)
+same-headers (Refused h) (Rsr m q g u v l d) e = let z : _≡_ {A = ℕ} 0 1 = cc in absurd (omega arith)
 same-headers WrongKind (Refused h) e = let z : _≡_ {A = ℕ} 0 1 = cc in absurd (omega arith)
 same-headers (Refused h) WrongKind e = let z : _≡_ {A = ℕ} 0 1 = cc in absurd (omega arith)

@@ -30,6 +30,16 @@ source s = byteAt s 10
 abbrev pub received : List ℕ → ℕ
 received s = fieldAt s 14 8
 
+-- Document 000, section 1.5.4, of the same eight bytes: days from 1 January 1958, milliseconds of the day, extended resolution.
+abbrev pub receivedDays : List ℕ → ℕ
+receivedDays s = fieldAt s 14 2
+
+abbrev pub receivedMilliseconds : List ℕ → ℕ
+receivedMilliseconds s = fieldAt s 16 4
+
+abbrev pub receivedExtended : List ℕ → ℕ
+receivedExtended s = fieldAt s 20 2
+
 abbrev pub uplinkAt : ℕ
 uplinkAt = 26
 

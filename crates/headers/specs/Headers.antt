@@ -7,6 +7,7 @@ use Rattle.refusals.specs.Judge.{_when_, judge, answered}
 use Rattle.refusals.specs.Table.{numberOf}
 use Rattle.refusals.specs.declared.Refusal.the-variants.{FieldRange, WrongKind as WrongKindRefusal}
 use Rattle.keys.specs.Key.{telemetryKey, rsrKey}
+use Rattle.dates.specs.Calendar.{dayCount}
 use Rattle.sfdu.specs.declared.Kind.{Kind}
 use Rattle.sfdu.specs.declared.Kind.the-variants.{Telemetry, Rsr}
 use Rattle.sfdu.specs.Nesting.{kindNumber}
@@ -17,6 +18,7 @@ use Rattle.headers.specs.declared.TelemetryFields.{TelemetryFields}
 use Rattle.headers.specs.declared.RsrSource.{RsrSource}
 use Rattle.headers.specs.declared.RsrSignal.{RsrSignal}
 use Rattle.headers.specs.declared.RsrTime.{RsrTime}
+use Rattle.headers.specs.declared.ReceivedTime.{ReceivedTime}
 use Rattle.headers.specs.declared.Headers.{Headers}
 use Rattle.headers.specs.declared.Headers.the-variants.{Telemetry as TelemetryHeaders, Rsr as RsrHeaders, Refused, WrongKind}
 use Rattle.headers.specs.Words.{Word, number, signed, none}
@@ -24,6 +26,9 @@ use Rattle.headers.specs.Fields.{
   spacecraft,
   source,
   received,
+  receivedDays,
+  receivedMilliseconds,
+  receivedExtended,
   uplink,
   predictsMode,
   hasBand,
@@ -85,8 +90,13 @@ signalWords f =
 abbrev pub timeWords : RsrTime → List Word
 timeWords f = number (f .year) ∷ number (f .day) ∷ number (f .frequency) ∷ []
 
-abbrev pub accepted : Kind → (size : ℕ) (primary : List ℕ) (fields : List Word) (key : ℕ) → List Word
-accepted k size primary fields key = number 0 ∷ number (kindNumber k) ∷ number size ∷ map number primary ++ fields ++ number key ∷ []
+abbrev pub receivedWords : ReceivedTime → List Word
+receivedWords f = number (f .days) ∷ number (f .milliseconds) ∷ number (f .extended) ∷ []
+
+-- What document 02 adds (Req 01) stands last, behind the key.
+abbrev pub accepted : Kind → (size : ℕ) (primary : List ℕ) (fields : List Word) (key : ℕ) (added : List Word) → List Word
+accepted k size primary fields key added =
+    number 0 ∷ number (kindNumber k) ∷ number size ∷ map number primary ++ fields ++ number key ∷ added
 
 abbrev pub outOfRange : ℕ → List Word
 outOfRange at = number (numberOf FieldRange) ∷ number at ∷ []
@@ -95,9 +105,10 @@ abbrev pub wrongKind : List Word
 wrongKind = number (numberOf WrongKindRefusal) ∷ []
 
 abbrev pub wordsOf : Headers → List Word
-wordsOf (TelemetryHeaders size primary fields key) = accepted Telemetry size (primaryWords primary) (telemetryFieldWords fields) key
-wordsOf (RsrHeaders size primary from signal time key) =
-    accepted Rsr size (primaryWords primary) (sourceWords from ++ signalWords signal ++ timeWords time) key
+wordsOf (TelemetryHeaders size primary fields key received) =
+    accepted Telemetry size (primaryWords primary) (telemetryFieldWords fields) key (receivedWords received)
+wordsOf (RsrHeaders size primary from signal time key day-count) =
+    accepted Rsr size (primaryWords primary) (sourceWords from ++ signalWords signal ++ timeWords time) key (number day-count ∷ [])
 wordsOf (Refused f) = map number (faultWords f)
 wordsOf WrongKind = wrongKind
 
@@ -136,10 +147,15 @@ abbrev pub keyOf : Kind → List ℕ → ℕ
 keyOf Telemetry s = telemetryKey (spacecraft s) (source s) (equipment s) (virtualStream s)
 keyOf Rsr s = rsrKey (rsrSpacecraft s) (station s) (receiver s) (subchannel s)
 
+-- Document 02, Req 01: the received time in its three parts, not judged; the day count of the ADC reading.
+abbrev pub addedOf : Kind → List ℕ → List Word
+addedOf Telemetry s = number (receivedDays s) ∷ number (receivedMilliseconds s) ∷ number (receivedExtended s) ∷ []
+addedOf Rsr s = number (dayCount (year s) (day s)) ∷ []
+
 -- ---- the call
 
 abbrev pub acceptedFields : Kind → List ℕ → List Word
-acceptedFields k s = accepted k (recordLength s) (primaryOf s) (fieldsOf k s) (keyOf k s)
+acceptedFields k s = accepted k (recordLength s) (primaryOf s) (fieldsOf k s) (keyOf k s) (addedOf k s)
 
 -- 12, judged last: the offset of the lowest field out of range; else the fields.
 abbrev pub judgedFields : Kind → List ℕ → List Word

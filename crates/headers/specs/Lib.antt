@@ -1,5 +1,5 @@
 pub mod Words
 pub mod Fields
-pub mod Date
 pub mod Ranges
 pub mod Headers
+pub mod Dated

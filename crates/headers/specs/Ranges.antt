@@ -11,11 +11,11 @@ use Rattle.sfdu.specs.declared.Kind.the-variants.{Telemetry, Rsr}
 use Rattle.sfdu.specs.declared.Checked.{Checked}
 use Rattle.sfdu.specs.Nesting.{primaryValueAt, secondaryAt}
 use Rattle.sfdu.specs.Read.{checked}
+use Rattle.dates.specs.Calendar.{isYear, isDay}
 use Rattle.headers.specs.declared.Allowed.{Allowed}
 use Rattle.headers.specs.declared.Allowed.the-variants.{Between, Bands}
 use Rattle.headers.specs.declared.Judged.{Judged}
 use Rattle.headers.specs.Fields.{uplinkAt, uplink, hasBand, year, day, rsrUplinkAt, downlinkAt, rsrModeAt, bandwidthAt, attenuationAt, rmsAt, peakAt, yearAt, dayAt}
-use Rattle.headers.specs.Date.{isYear, isDay}
 
 -- The letters of the bands: K, S, U, X.
 abbrev pub letterK : ℕ
@@ -63,6 +63,7 @@ byteRule s f = (f .at) when not (inRange (f .allowed) (getD s (f .at) 0))
 abbrev pub byteRules : List ℕ → List (Rule ℕ)
 byteRules s = map (byteRule s) judgedBytes
 
+-- Year and day of the ADC reading: "year 28-29 (1900 to 3000) and day 30-31"; document 02, Req 01: day 366 in a leap year alone.
 abbrev pub dateRules : List ℕ → List (Rule ℕ)
 dateRules s = ((secondaryAt + yearAt) when not (isYear (year s))) ∷ ((secondaryAt + dayAt) when not (isDay (year s) (day s))) ∷ []
 

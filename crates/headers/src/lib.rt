@@ -5,6 +5,7 @@ mod telemetry;
 
 pub use call::read_headers;
 pub use call::record_number;
+use sfdu::Checked;
 use sfdu::Fault;
 use sfdu::Primary;
 
@@ -59,6 +60,19 @@ pub struct RsrTime {
     pub frequency: u64,
 }
 
+// A telemetry record's received time: days from 1 January 1958, milliseconds of the day, extended resolution. None is judged.
+pub struct ReceivedTime {
+    pub days: u16,
+    pub milliseconds: u32,
+    pub extended: u16,
+}
+
+// What is wrong with an RSR record's year and day; where nothing is, their day count. (Public for the prover's sake.)
+pub struct Dated {
+    pub checked: Checked,
+    pub count: u32,
+}
+
 // Which bytes a judged field may hold.
 pub enum Allowed {
     Between(u8, u8),
@@ -71,7 +85,8 @@ pub struct Judged {
     pub allowed: Allowed,
 }
 
-// What reading the headers of a record finds: its length, its primary value, its fields and its stream key; or a
+// What reading the headers of a record finds: its length, its primary value, its fields, its stream key, and the
+// received time or the day count; or a
 // refusal, with the offset or the count that goes with it; or that it is of the other kind.
 pub enum Headers {
     Telemetry {
@@ -79,6 +94,7 @@ pub enum Headers {
         primary: Primary,
         fields: TelemetryFields,
         key: u64,
+        received: ReceivedTime,
     },
     Rsr {
         size: usize,
@@ -87,6 +103,7 @@ pub enum Headers {
         signal: RsrSignal,
         time: RsrTime,
         key: u64,
+        day_count: u32,
     },
     Refused(Fault),
     WrongKind,

@@ -1,20 +1,26 @@
 // The fields of an RSR record.
 ghost use mathlib.Core.Path.{_≡_};
-ghost use Prim.Native.Nat.{_≤_};
+ghost use mathlib.Core.Bool.{cond};
+ghost use mathlib.Core.List.{[], _∷_};
+ghost use Prim.Native.Nat.{_≤_, _+_};
 ghost use lib.ListN.{length};
 ghost use Rattle.sfdu.specs.declared.Kind.the-variants.{Rsr};
-ghost use Rattle.sfdu.specs.Nesting.{dataValueAt};
+ghost use Rattle.sfdu.specs.Nesting.{dataValueAt, secondaryAt};
 ghost use Rattle.sfdu.specs.Read.{primaryWords, primaryOf, recordLength, checked};
-ghost use Rattle.headers.specs.Date.{isYear, isDay};
-ghost use Rattle.headers.specs.Fields.{recordNumber, signedByte};
-ghost use Rattle.headers.specs.Headers.{wordsOf, acceptedFields, judgedFields, sourceWords, sourceOf, signalWords, signalOf, timeWords, timeOf};
-ghost use Rattle.headers.specs.Ranges.{fault, inRange, isRsrBand, byteRules, dateRules};
+ghost use Rattle.dates.specs.Calendar.{isYear};
+ghost use Rattle.headers.specs.Dated.{IsDated};
+ghost use Rattle.headers.specs.Fields.{recordNumber, signedByte, yearAt, dayAt};
+ghost use Rattle.headers.specs.Headers.{wordsOf, acceptedFields, judgedFields, outOfRange, sourceWords, sourceOf, signalWords, signalOf, timeWords, timeOf, addedOf};
+ghost use Rattle.headers.specs.Ranges.{inRange, isRsrBand, byteRules};
+ghost use Rattle.headers.specs.Words.{number};
 use crate::Allowed;
+use crate::Dated;
 use crate::Headers;
 use crate::Judged;
 use crate::RsrSignal;
 use crate::RsrSource;
 use crate::RsrTime;
+use dates::CountAnswer;
 use octets::read_be;
 use octets::read_u16;
 use refusals::Refusal;
@@ -113,29 +119,34 @@ const JUDGED: [Judged; 10] = [
     },
 ];
 
-const FIRST_YEAR: u16 = 1900;
-
-const LAST_YEAR: u16 = 3000;
-
-const LAST_DAY: u16 = 366;
-
-// The fields and the key of a whole RSR record, or the offset of the lowest field out of range.
+// The fields, the key and the day count of a whole RSR record, or the offset of the lowest field out of range.
 pub fn fields(s: &[u8], size: usize, primary: Primary) -> Headers
     requires { ⌜ (size ≡ recordLength (now s)) × (primaryWords primary ≡ primaryOf (now s)) × (dataValueAt Rsr ≤ length (now s)) ⌝ }
     ensures { λ r. ⌜ wordsOf r ≡ judgedFields Rsr (now (s .entry)) ⌝ }
 {
-    let checked = field_fault(s);
-    if let Checked::Wrong(at) = checked {
-        return Headers::Refused(Fault {
-            refusal: Refusal::FieldRange,
-            at,
-        });
+    let bytes = byte_fault(s);
+    if let Checked::Wrong(at) = bytes {
+        return out_of_range(at);
     }
-    read_fields(s, size, primary)
+    let dated = read_date(s);
+    let date = dated.checked;
+    if let Checked::Wrong(at) = date {
+        return out_of_range(at);
+    }
+    read_fields(s, size, primary, dated.count)
 }
 
-fn read_fields(s: &[u8], size: usize, primary: Primary) -> Headers
-    requires { ⌜ (size ≡ recordLength (now s)) × (primaryWords primary ≡ primaryOf (now s)) × (dataValueAt Rsr ≤ length (now s)) ⌝ }
+fn out_of_range(at: usize) -> Headers
+    ensures { λ r. ⌜ wordsOf r ≡ outOfRange at ⌝ }
+{
+    Headers::Refused(Fault {
+        refusal: Refusal::FieldRange,
+        at,
+    })
+}
+
+fn read_fields(s: &[u8], size: usize, primary: Primary, count: u32) -> Headers
+    requires { ⌜ (size ≡ recordLength (now s)) × (primaryWords primary ≡ primaryOf (now s)) × (dataValueAt Rsr ≤ length (now s)) × (number count ∷ [] ≡ addedOf Rsr (now s)) ⌝ }
     ensures { λ r. ⌜ wordsOf r ≡ acceptedFields Rsr (now (s .entry)) ⌝ }
 {
     let source = read_source(s);
@@ -154,22 +165,11 @@ fn read_fields(s: &[u8], size: usize, primary: Primary) -> Headers
         signal,
         time,
         key,
+        day_count: count,
     }
 }
 
-// The lowest field out of range.
-fn field_fault(s: &[u8]) -> Checked
-    requires { ⌜ dataValueAt Rsr ≤ length (now s) ⌝ }
-    ensures { λ r. ⌜ r ≡ fault Rsr (now (s .entry)) ⌝ }
-{
-    let checked = byte_fault(s);
-    if let Checked::Wrong(at) = checked {
-        return Checked::Wrong(at);
-    }
-    date_fault(s)
-}
-
-// The same for the judged bytes alone. The table is made once, before the loop: LLVM then unrolls the loop, and each entry is a
+// The lowest judged byte out of range. The table is made once, before the loop: LLVM then unrolls the loop, and each entry is a
 // constant.
 fn byte_fault(s: &[u8]) -> Checked
     requires { ⌜ dataValueAt Rsr ≤ length (now s) ⌝ }
@@ -202,32 +202,34 @@ pub fn is_band(b: u8) -> bool
     (b == b'S') | (b == b'X') | (b == b'K')
 }
 
-fn date_fault(s: &[u8]) -> Checked
+// The year and the day: which of them is out of range, or their day count.
+fn read_date(s: &[u8]) -> Dated
     requires { ⌜ dataValueAt Rsr ≤ length (now s) ⌝ }
-    ensures { λ r. ⌜ r ≡ checked (dateRules (now (s .entry))) ⌝ }
+    ensures { λ r. ⌜ IsDated (now (s .entry)) r ⌝ }
 {
     let year = read_u16(s, YEAR_AT);
-    if !is_year(year) {
-        return Checked::Wrong(YEAR_AT);
-    }
     let day = read_u16(s, DAY_AT);
-    if !is_day(year, day) {
-        return Checked::Wrong(DAY_AT);
+    let answer = dates::day_count(year, day);
+    match answer {
+        CountAnswer::Day(count) => Dated {
+            checked: Checked::Right,
+            count,
+        },
+        CountAnswer::NotADate => Dated {
+            checked: Checked::Wrong(wrong_date_at(year)),
+            count: 0,
+        },
     }
-    Checked::Right
 }
 
-fn is_year(year: u16) -> bool
-    ensures { λ r. ⌜ r ≡ isYear year ⌝ }
+// Where a year and a day are no date: the year's offset, or the day's where the year is one.
+fn wrong_date_at(year: u16) -> usize
+    ensures { λ r. ⌜ r ≡ cond (isYear year) (secondaryAt + dayAt) (secondaryAt + yearAt) ⌝ }
 {
-    (FIRST_YEAR <= year) & (year <= LAST_YEAR)
-}
-
-// Whether a day is one of the year.
-fn is_day(_year: u16, day: u16) -> bool
-    ensures { λ r. ⌜ r ≡ isDay «_year» day ⌝ }
-{
-    (1 <= day) & (day <= LAST_DAY)
+    if dates::is_year(year) {
+        return DAY_AT;
+    }
+    YEAR_AT
 }
 
 fn read_source(s: &[u8]) -> RsrSource

@@ -7,11 +7,12 @@ ghost use Rattle.sfdu.specs.declared.Kind.the-variants.{Telemetry};
 ghost use Rattle.sfdu.specs.Nesting.{dataValueAt};
 ghost use Rattle.sfdu.specs.Read.{primaryWords, primaryOf, recordLength};
 ghost use Rattle.headers.specs.Fields.{recordNumber, spacecraft, hasBand, uplink};
-ghost use Rattle.headers.specs.Headers.{wordsOf, judgedFields, telemetryFieldWords, fieldsOf, bandWord};
+ghost use Rattle.headers.specs.Headers.{wordsOf, judgedFields, telemetryFieldWords, fieldsOf, bandWord, receivedWords, addedOf};
 ghost use Rattle.headers.specs.Ranges.{fault, isBand};
 ghost use Rattle.headers.specs.Words.{number, none};
 use crate::Band;
 use crate::Headers;
+use crate::ReceivedTime;
 use crate::TelemetryFields;
 use octets::read_be;
 use octets::read_u16;
@@ -30,6 +31,13 @@ const SOURCE_AT: usize = SECONDARY_AT + 10;
 const RECEIVED_AT: usize = SECONDARY_AT + 14;
 
 const RECEIVED: usize = 8;
+
+// The parts of the received time.
+const DAYS_AT: usize = RECEIVED_AT;
+
+const MILLISECONDS_AT: usize = RECEIVED_AT + 2;
+
+const EXTENDED_AT: usize = RECEIVED_AT + 6;
 
 const NUMBER_AT: usize = SECONDARY_AT + 22;
 
@@ -60,11 +68,13 @@ pub fn fields(s: &[u8], size: usize, primary: Primary) -> Headers
         fields.equipment,
         fields.stream,
     );
+    let received = read_received(s);
     Headers::Telemetry {
         size,
         primary,
         fields,
         key,
+        received,
     }
 }
 
@@ -109,6 +119,17 @@ fn read_fields(s: &[u8]) -> TelemetryFields
         mode: s[MODE_AT] % 4,
         stream: s[STREAM_AT],
         equipment: read_u16(s, EQUIPMENT_AT),
+    }
+}
+
+fn read_received(s: &[u8]) -> ReceivedTime
+    requires { ⌜ dataValueAt Telemetry ≤ length (now s) ⌝ }
+    ensures { λ r. ⌜ receivedWords r ≡ addedOf Telemetry (now (s .entry)) ⌝ }
+{
+    ReceivedTime {
+        days: read_u16(s, DAYS_AT),
+        milliseconds: read_u32(s, MILLISECONDS_AT),
+        extended: read_u16(s, EXTENDED_AT),
     }
 }
 

@@ -239,10 +239,11 @@ module _ (s : List ℕ) (bytes : Bytes s) (r : right s ≡ true) where
   unfolding validKeys firstNumbers
   place-fine i =
       by-place PlaceOk i
-      (λ r.
-      (asked (λ k. validKey (keyAt s (rowAt k))) i (clauses .valid) r,
-      ltb-true _ _ (asked (λ k. isNumber (keyAt s (rowAt k)) (firstNumberAt s (rowAt k))) i (clauses .firsts) r),
-      set-there (rowAt i)))
+      (λ r. (
+        asked (λ k. validKey (keyAt s (rowAt k))) i (clauses .valid) r,
+        ltb-true _ _ (asked (λ k. isNumber (keyAt s (rowAt k)) (firstNumberAt s (rowAt k))) i (clauses .firsts) r),
+        set-there (rowAt i),
+      ))
       tt
 
   desk-fine : (d : ℕ) → DeskOk (b .places) (desk b d)

@@ -76,7 +76,7 @@ module _ (b : Book) (ok : WellFormed b) where
       by : (p : Place) → place b r ≡ p → isUsed s r ≡ not (isFree (place b r))
       by free e =
           let word = sym (number-within s (rowAt r) rowSize 0 usedWordSize (rowAt r) (add-zero (rowAt r)) (omega arith))
-              ∙ ap (λ (x : List ℕ). numberAt x 0 usedWordSize) (row-part b (shape ok) r l ∙ ap placeBytes e) ∙ free-word in
+          ∙ ap (λ (x : List ℕ). numberAt x 0 usedWordSize) (row-part b (shape ok) r l ∙ ap placeBytes e) ∙ free-word in
           rw (e, word)
       by (row key first ticks) e = rw (e, row-read r key first ticks e .word-is)
 

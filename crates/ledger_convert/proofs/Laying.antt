@@ -187,7 +187,7 @@ module _ (old : List ℕ) (r : Old.right old ≡ true) where
   all-laid new h =
       let rows = laid-table new rowSize placeBytes rowCount rowsStart (oldPlaceIn old) (λ i l. sym (h .rows i l ∙ rw (lt-ltb i rowCount l))) in
       let desks = laid-table new deskSize (deskBytes (oldBookOf old .places)) deskCount desksStart (oldDeskIn old)
-          (λ i l. sym (h .desks i l ∙ rw (lt-ltb i deskCount l))) in
+      (λ i l. sym (h .desks i l ∙ rw (lt-ltb i deskCount l))) in
       sym (rw (count-is, ← h .header, rows, desks, part-join new 0 rowsStart rowsStart (rowSize * rowCount) desksStart refl refl, part-join new 0 desksStart desksStart (deskSize * deskCount) sheetSize refl refl) (part-whole new sheetSize (h .long)))
 
 -- ---- an open desk

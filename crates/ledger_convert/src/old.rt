@@ -1,4 +1,8 @@
 // Whether a slice is a right old sheet: document 01's layout, before rows had a used word.
+use octets::is_long_zero;
+use octets::is_same;
+use octets::is_zero;
+use octets::read_be;
 use sheet::CLOSED;
 use sheet::DESK_COUNT_AT;
 use sheet::DESK_ROW_AT;
@@ -18,10 +22,6 @@ use sheet::ROWS_AT;
 use sheet::ROWS_START_AT;
 use sheet::TICKS;
 use sheet::USED_AT;
-use octets::is_long_zero;
-use octets::is_same;
-use octets::is_zero;
-use octets::read_be;
 ghost use mathlib.Core.Path.{_≡_};
 ghost use mathlib.Core.Bool.{not, _&&_};
 ghost use Prim.Native.Nat.{_+_, _≤_, _<_};

@@ -33,6 +33,7 @@ pub fn on_bytes(f: Frame, a: &[u8], b: &[u8]) -> Line {
         8 => records::stopped(stream::walk(a)),
         9 => lists::list_numbers(f, a),
         11 => records::step(a, f.key),
+        12 => records::date(dates::date_of(f.x)),
         16 => tapes::read(a),
         17 => tapes::write(f, a, b),
         _ => Line::empty(),

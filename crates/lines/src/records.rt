@@ -3,8 +3,10 @@ use crate::Frame;
 use crate::crc::crc;
 use crate::line::ACCEPTED;
 use crate::line::Line;
+use dates::DateAnswer;
 use headers::Band;
 use headers::Headers;
+use headers::ReceivedTime;
 use headers::RsrSignal;
 use headers::RsrSource;
 use headers::RsrTime;
@@ -68,7 +70,8 @@ pub fn read_headers(s: &[u8], wanted: u32) -> Line {
             primary,
             fields,
             key,
-        } => telemetry(size, primary, fields, key),
+            received,
+        } => received_time(telemetry(size, primary, fields, key), received),
         Headers::Rsr {
             size,
             primary,
@@ -76,7 +79,8 @@ pub fn read_headers(s: &[u8], wanted: u32) -> Line {
             signal,
             time,
             key,
-        } => rsr(size, primary, source, signal, time, key),
+            day_count,
+        } => rsr(size, primary, source, signal, time, key).number32(day_count),
         Headers::Refused(fault) => refused(fault),
         Headers::WrongKind => Line::refused(Refusal::WrongKind),
     }
@@ -93,6 +97,12 @@ fn telemetry(size: usize, primary: Primary, fields: TelemetryFields, key: u64) -
         .number8(fields.stream)
         .number16(fields.equipment)
         .number(key)
+}
+
+fn received_time(line: Line, received: ReceivedTime) -> Line {
+    line.number16(received.days)
+        .number32(received.milliseconds)
+        .number16(received.extended)
 }
 
 fn band(line: Line, band: Band) -> Line {
@@ -184,6 +194,13 @@ pub fn key(answer: KeyAnswer) -> Line {
     match answer {
         KeyAnswer::Key(key) => Line::accepted().number(key),
         KeyAnswer::Refused(why) => Line::refused(why),
+    }
+}
+
+pub fn date(answer: DateAnswer) -> Line {
+    match answer {
+        DateAnswer::Date { year, day } => Line::accepted().number16(year).number16(day),
+        DateAnswer::Refused(why) => Line::refused(why),
     }
 }
 

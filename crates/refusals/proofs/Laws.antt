@@ -27,6 +27,7 @@ use Rattle.refusals.specs.declared.Refusal.the-variants.{
   NotSheet,
   NoDesk,
   BadKey,
+  FirstNumber,
   AlreadyEnrolled,
   LedgerFull,
   NoRow,
@@ -36,8 +37,8 @@ use Rattle.refusals.specs.declared.Refusal.the-variants.{
   AlreadyTicked,
   NotTicked,
   Stale,
-  FirstNumber,
   RowOpen,
+  DayCount,
   TapeLengths,
   TapeLengthWord,
   TapeTime,
@@ -52,7 +53,7 @@ back =
     TooShort ∷ TooShort ∷ Authority ∷ LabelControl ∷ UnknownKind ∷ LabelLength ∷ Truncated ∷ AggregationLabel ∷ PrimaryLabel
     ∷ SecondaryLabel ∷ DataType ∷ DataLength ∷ FieldRange ∷ WriterSpace ∷ WriterInput ∷ WrongKind ∷ ListFull ∷ BufferSize
     ∷ TooShort ∷ TooShort ∷ NotSheet ∷ NoDesk ∷ BadKey ∷ AlreadyEnrolled ∷ LedgerFull ∷ NoRow ∷ DeskOpen ∷ DeskClosed ∷ OutsideRow
-    ∷ AlreadyTicked ∷ NotTicked ∷ Stale ∷ FirstNumber ∷ TooShort ∷ TooShort ∷ TooShort ∷ RowOpen ∷ TooShort ∷ TooShort ∷ TooShort
+    ∷ AlreadyTicked ∷ NotTicked ∷ Stale ∷ FirstNumber ∷ DayCount ∷ TooShort ∷ TooShort ∷ RowOpen ∷ TooShort ∷ TooShort ∷ TooShort
     ∷ TooShort ∷ TooShort ∷ TooShort ∷ TooShort ∷ TooShort ∷ TooShort ∷ TooShort ∷ TooShort ∷ TooShort ∷ TooShort ∷ TapeLengths
     ∷ TapeLengthWord ∷ TapeTime ∷ TapeRate ∷ TapeBlock ∷ []
 
@@ -81,6 +82,7 @@ found BufferSize = refl
 found NotSheet = refl
 found NoDesk = refl
 found BadKey = refl
+found FirstNumber = refl
 found AlreadyEnrolled = refl
 found LedgerFull = refl
 found NoRow = refl
@@ -90,8 +92,8 @@ found OutsideRow = refl
 found AlreadyTicked = refl
 found NotTicked = refl
 found Stale = refl
-found FirstNumber = refl
 found RowOpen = refl
+found DayCount = refl
 found TapeLengths = refl
 found TapeLengthWord = refl
 found TapeTime = refl

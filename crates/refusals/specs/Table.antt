@@ -22,6 +22,7 @@ use Rattle.refusals.specs.declared.Refusal.the-variants.{
   NotSheet,
   NoDesk,
   BadKey,
+  FirstNumber,
   AlreadyEnrolled,
   LedgerFull,
   NoRow,
@@ -31,8 +32,8 @@ use Rattle.refusals.specs.declared.Refusal.the-variants.{
   AlreadyTicked,
   NotTicked,
   Stale,
-  FirstNumber,
   RowOpen,
+  DayCount,
   TapeLengths,
   TapeLengthWord,
   TapeTime,
@@ -61,6 +62,7 @@ numberOf BufferSize = 17
 numberOf NotSheet = 20
 numberOf NoDesk = 21
 numberOf BadKey = 22
+numberOf FirstNumber = 32
 numberOf AlreadyEnrolled = 23
 numberOf LedgerFull = 24
 numberOf NoRow = 25
@@ -70,8 +72,8 @@ numberOf OutsideRow = 28
 numberOf AlreadyTicked = 29
 numberOf NotTicked = 30
 numberOf Stale = 31
-numberOf FirstNumber = 32
 numberOf RowOpen = 36
+numberOf DayCount = 33
 numberOf TapeLengths = 50
 numberOf TapeLengthWord = 51
 numberOf TapeTime = 52

@@ -1,4 +1,4 @@
-// The refusal table of document 01: a name for each row, in the table's order; then the rows that document 02 adds.
+// The refusal table: a name for each row, in the order of document 01's table with those of document 02 where it puts them.
 ghost use mathlib.Core.Path.{_≡_};
 ghost use Rattle.refusals.specs.Table.{numberOf};
 
@@ -26,6 +26,7 @@ pub enum Refusal {
     NotSheet,
     NoDesk,
     BadKey,
+    FirstNumber,
     AlreadyEnrolled,
     LedgerFull,
     NoRow,
@@ -35,10 +36,10 @@ pub enum Refusal {
     AlreadyTicked,
     NotTicked,
     Stale,
-    // Document 02, ledger: an enrolment whose first number is none of the stream's; a strike of a row that a desk has open.
-    FirstNumber,
     RowOpen,
-    // Medium band tapes (document 02, Req 04).
+    // Dates.
+    DayCount,
+    // Medium band tapes.
     TapeLengths,
     TapeLengthWord,
     TapeTime,
@@ -71,6 +72,7 @@ pub fn number(r: Refusal) -> u32
         Refusal::NotSheet => 20,
         Refusal::NoDesk => 21,
         Refusal::BadKey => 22,
+        Refusal::FirstNumber => 32,
         Refusal::AlreadyEnrolled => 23,
         Refusal::LedgerFull => 24,
         Refusal::NoRow => 25,
@@ -80,8 +82,8 @@ pub fn number(r: Refusal) -> u32
         Refusal::AlreadyTicked => 29,
         Refusal::NotTicked => 30,
         Refusal::Stale => 31,
-        Refusal::FirstNumber => 32,
         Refusal::RowOpen => 36,
+        Refusal::DayCount => 33,
         Refusal::TapeLengths => 50,
         Refusal::TapeLengthWord => 51,
         Refusal::TapeTime => 52,

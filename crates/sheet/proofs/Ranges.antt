@@ -34,7 +34,7 @@ module _ (f : ℕ → ℕ) (w : ℕ → Bool) (xs : List ℕ) (n i : ℕ) (known
   pub read-more : (y : ℕ) → n < length xs → y ≡ f i → w i ≡ true → Read f w (set xs n y) (n + 1) (i + 1)
   read-more y l last e x =
       let others : all n (λ j. not (eqb (getD (set xs n y) j 0) x)) ≡ all n (λ j. not (eqb (getD xs j 0) x)) =
-          all-same n _ _ (λ j b. rw (getD-set-other xs n j y 0 (λ q. omega arith))) in
+      all-same n _ _ (λ j b. rw (getD-set-other xs n j y 0 (λ q. omega arith))) in
       rw (all-next, others, known x, getD-set-same xs n y 0 l, last, all-next, e)
 
   -- one is passed

@@ -9,7 +9,7 @@ use Rattle.sfdu.specs.Read.{hasKind, kindOf, labelLength, recordLength, blockTy
 use Rattle.sfdu_write.specs.Write.{labelBytes, block, primaryBlock, headBytes, recordBytes}
 use Rattle.headers.specs.Words.{number}
 use Rattle.headers.specs.Fields.{signedByte, recordNumber}
-use Rattle.headers.specs.Date.{isYear, isDay}
+use Rattle.dates.specs.Calendar.{isLeap, yearLength, isYear, isDay}
 use Rattle.headers.specs.Ranges.{isRsrBand, isBand, inRange, judgedBytes, fault}
 use Rattle.headers.specs.Headers.{readHeaders}
 use Rattle.keys.specs.Key.{validKey, telemetryKeyCall}
@@ -47,7 +47,7 @@ module _ (calls : List Call) where
       ∙ ap (λ (x : List ℕ). map number (getD (layout (run fresh calls .book)) (rowAt 0 + ticksAt) 0 ∷ x)) reported
 
 pub worked : Agree table
-unfolding judge modulus numberAt bytesOf part put all sameAt hasKind kindOf labelLength recordLength blockType blockLength lengthInRange accepts readOne dataPart labelBytes block primaryBlock headBytes recordBytes signedByte recordNumber isYear isDay isRsrBand isBand inRange judgedBytes fault readHeaders validKey telemetryKeyCall position noTicks same size anyTicked missing least numberAtPosition hasKey placeWith allUsed lowestFree refusals effect afterRefusal step run rowBytes headerBytes bitsValue tickBytes placeBytes countUsed laid layout asked
+unfolding judge modulus numberAt bytesOf part put all sameAt hasKind kindOf labelLength recordLength blockType blockLength lengthInRange accepts readOne dataPart labelBytes block primaryBlock headBytes recordBytes signedByte recordNumber isLeap yearLength isYear isDay isRsrBand isBand inRange judgedBytes fault readHeaders validKey telemetryKeyCall position noTicks same size anyTicked missing least numberAtPosition hasKey placeWith allUsed lowestFree refusals effect afterRefusal step run rowBytes headerBytes bitsValue tickBytes placeBytes countUsed laid layout asked
 worked = (
   refl,
   (

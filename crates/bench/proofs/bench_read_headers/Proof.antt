@@ -12,6 +12,9 @@ read-headers-requires c κs = search needs
 enum-known-found : tie.Need-enum-known-found
 enum-known-found c = search needs
 
+received-onto-requires : tie.Need-received-onto-requires
+received-onto-requires c κs = search needs
+
 telemetry-onto-requires : tie.Need-telemetry-onto-requires
 telemetry-onto-requires c κs = search needs
 
@@ -20,6 +23,9 @@ accepted-onto-requires c κs = search needs
 
 enum-known-found-2 : tie.Need-enum-known-found-2
 enum-known-found-2 c = search needs
+
+cast-rsr-onto : tie.Need-cast-rsr-onto
+cast-rsr-onto c = search needs
 
 rsr-onto-requires : tie.Need-rsr-onto-requires
 rsr-onto-requires c κs = search needs
@@ -38,7 +44,12 @@ enum-told c = search needs
 
 returns : tie.Need-returns
 returns c =
-    c .accepted-onto .ensures ∙ rw (c .before .telemetry-onto .ensures) (ap digest (sym (ap wordsOf (c .before .before .before .found .given .1)) ∙ c .before .before .before .before .before .read-headers .ensures))
+    let fielded = c .before in
+    let timed = fielded .before in
+    let told = timed .before .before in
+    c .accepted-onto .ensures
+    ∙ rw (fielded .telemetry-onto .ensures, timed .received-onto .ensures)
+    (ap digest (sym (ap wordsOf (told .found .given .1)) ∙ told .before .before .read-headers .ensures))
 
 returns-2 : tie.Need-returns-2
 returns-2 c =
@@ -57,9 +68,11 @@ bench-read-headers-spec =
     (tie.spec
     read-headers-requires
     enum-known-found
+    received-onto-requires
     telemetry-onto-requires
     accepted-onto-requires
     enum-known-found-2
+    cast-rsr-onto
     rsr-onto-requires
     accepted-onto-requires-2
     enum-known-found-3

@@ -28,7 +28,7 @@ same-length c = search needs
 
 returns-3 : tie.Need-returns-3
 unfolding convertOn
-returns-3 c = 
+returns-3 c =
     let right = c .before .before .before .before in
     rw (eq-eqb _ _ (right .before .before .if1 .left), passed (right .before .is-old-sheet .ensures) (right .if2 .left))
     (ap (λ (t : List ℕ). (0 ∷ [], t)) (c .before .before .lay-out .ensures))

@@ -15,7 +15,7 @@ write-be-requires : tie.Need-write-be-requires
 write-be-requires c κs = search needs
 
 write-rows-requires : tie.Need-write-rows-requires
-write-rows-requires c κs = 
+write-rows-requires c κs =
     let used = c .before .before .before .before .before .before .before .before .before .rows-used .ensures in
     ((c .before .before .before .before .before .before .before .before .before .before .before .before .pre .1, used), fresh-laid _ (c .before .before .before .before .before .before .before .make-fresh .ensures) (rw used at (c .before .before .before .write-be .ensures)))
 

@@ -52,7 +52,7 @@ same-length c =
     c .before .before .write-row2 .kept .0 ∙ one .write-row .kept .0 ∙ (simp length-set at (one .before .before .before .before .clear .kept .0))
 
 returns : tie.Need-returns
-returns c = 
+returns c =
     let start = c .before .before .before .before .before .before .before .before .before .before .before .before .before in
     let g = start .args in
     desk-written _ _ _ _ _ (start .pre .0 .0) (start .pre .0 .1) (length-row _ _ _ (start .pre .1 .0)) (length-row _ _ _ (start .pre .1 .1))

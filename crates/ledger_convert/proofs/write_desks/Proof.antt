@@ -56,13 +56,16 @@ shared-slice-read-write-desk : tie.Need-shared-slice-read-write-desk Inv-loop μ
 shared-slice-read-write-desk c = omega (arith, long (c .before .before .before .before .before .before .before .before .before .before .args .old .now) (c .before .before .before .before .before .before .before .before .before .before .pre .0))
 
 write-desk-requires : tie.Need-write-desk-requires Inv-loop μ-loop
-write-desk-requires c κs = 
+write-desk-requires c κs =
     let start = c .before .before .before .before .before .before .before .before .before .before in
     let old = start .args .old .now in
-    let turn = c .before .before .before .before .before .before .before .loop in
-    ((turn .inv .1 .long, omega arith),
-    (value-ticks old _ _ (omega (arith, long old (start .pre .0))) (c .before .before .before .read-row .ensures),
-    value-ticks old _ _ (omega (arith, long old (start .pre .0))) (c .before .before .read-row2 .ensures)))
+    let turn = c .before .before .before .before .before .before .before .loop in (
+      (turn .inv .1 .long, omega arith),
+      (
+        value-ticks old _ _ (omega (arith, long old (start .pre .0))) (c .before .before .before .read-row .ensures),
+        value-ticks old _ _ (omega (arith, long old (start .pre .0))) (c .before .before .read-row2 .ensures),
+      ),
+    )
 
 add-d : tie.Need-add-d Inv-loop μ-loop
 add-d c = omega arith
@@ -79,12 +82,13 @@ loop-again c =
     let d = turn .d in
     let from = Old.desksStart + Old.deskSize * d in
     ⊎-elim
-    (λ w.
-    (omega arith,
-    rw (w .8)
-    (desk-laid old (turn .new) rowCount d (turn .inv .1) _ _ (omega arith)
-    (desk-copied old right (c .before .before .before .before .before .shared-slice-known .given) d (from + openedAt - usedWordSize) (from + Old.workedAt - usedWordSize) (omega arith) (ne-eqb _ _ (w .0 .taken)) (omega arith) (omega arith) _ _ (w .1 .ensures) (w .2 .ensures))
-    (w .5 .ensures))))
+    (λ w. (
+      omega arith,
+      rw (w .8)
+          (desk-laid old (turn .new) rowCount d (turn .inv .1) _ _ (omega arith)
+          (desk-copied old right (c .before .before .before .before .before .shared-slice-known .given) d (from + openedAt - usedWordSize) (from + Old.workedAt - usedWordSize) (omega arith) (ne-eqb _ _ (w .0 .taken)) (omega arith) (omega arith) _ _ (w .1 .ensures) (w .2 .ensures))
+          (w .5 .ensures)),
+    ))
     (λ w. (omega arith, rw (w .1) (closed-laid old (turn .new) rowCount d (turn .inv .1) (eq-eqb _ _ (w .0 .left)))))
     (c .if1 .came)
 
@@ -92,7 +96,7 @@ same-length : tie.Need-same-length Inv-loop μ-loop
 same-length c = search needs
 
 returns : tie.Need-returns Inv-loop μ-loop
-returns c = 
+returns c =
     let e : c .before .loop .d ≡ deskCount = omega arith in
     rw e at (c .before .loop .inv .1)
 

@@ -39,11 +39,12 @@ add-write-row : tie.Need-add-write-row Inv-loop μ-loop
 add-write-row c = omega (arith, few (c .before .before .before .before .before .before .args .old .now) (c .before .before .before .before .before .before .pre .0 .0), long (c .before .before .before .before .before .before .args .old .now) (c .before .before .before .before .before .before .pre .0 .0), c .before .before .before .before .before .before .pre .0 .1)
 
 write-row-requires : tie.Need-write-row-requires Inv-loop μ-loop
-write-row-requires c κs = 
+write-row-requires c κs =
     let turn = c .before .before .before .loop in
-    let old = c .before .before .before .before .before .before .args .old .now in
-    (omega (arith, turn .inv .1 .long, few (c .before .before .before .before .before .before .args .old .now) (c .before .before .before .before .before .before .pre .0 .0), long (c .before .before .before .before .before .before .args .old .now) (c .before .before .before .before .before .before .pre .0 .0), c .before .before .before .before .before .before .pre .0 .1),
-    value-ticks old _ _ (omega (arith, few (c .before .before .before .before .before .before .args .old .now) (c .before .before .before .before .before .before .pre .0 .0), long (c .before .before .before .before .before .before .args .old .now) (c .before .before .before .before .before .before .pre .0 .0), c .before .before .before .before .before .before .pre .0 .1)) (c .before .read-row .ensures))
+    let old = c .before .before .before .before .before .before .args .old .now in (
+      omega (arith, turn .inv .1 .long, few (c .before .before .before .before .before .before .args .old .now) (c .before .before .before .before .before .before .pre .0 .0), long (c .before .before .before .before .before .before .args .old .now) (c .before .before .before .before .before .before .pre .0 .0), c .before .before .before .before .before .before .pre .0 .1),
+      value-ticks old _ _ (omega (arith, few (c .before .before .before .before .before .before .args .old .now) (c .before .before .before .before .before .before .pre .0 .0), long (c .before .before .before .before .before .before .args .old .now) (c .before .before .before .before .before .before .pre .0 .0), c .before .before .before .before .before .before .pre .0 .1)) (c .before .read-row .ensures),
+    )
 
 add-i : tie.Need-add-i Inv-loop μ-loop
 add-i c = omega arith
@@ -52,22 +53,23 @@ loop-less : tie.Need-loop-less Inv-loop μ-loop
 loop-less c = omega arith
 
 loop-again : tie.Need-loop-again Inv-loop μ-loop
-loop-again c = 
+loop-again c =
     let start = c .before .before .before .before .before .before .before .before .before in
     let turn = c .before .before .before .before .before .before .loop in
     let old = start .args .old .now in
     let right = start .pre .0 .0 in
-    let i = turn .i in
-    (omega arith,
-    row-laid old (turn .new) i 0 (turn .inv .1) _ _ (omega (arith, few old right, start .pre .0 .1))
-    (row-copied old right (c .before .before .before .before .before .before .before .before .shared-slice-known .given) i (rowsStart + Old.rowSize * i - usedWordSize) (omega (arith, start .pre .0 .1)) (omega arith) _ (c .before .before .before .before .read-row .ensures))
-    (c .before .before .write-row .ensures))
+    let i = turn .i in (
+      omega arith,
+      row-laid old (turn .new) i 0 (turn .inv .1) _ _ (omega (arith, few old right, start .pre .0 .1))
+          (row-copied old right (c .before .before .before .before .before .before .before .before .shared-slice-known .given) i (rowsStart + Old.rowSize * i - usedWordSize) (omega (arith, start .pre .0 .1)) (omega arith) _ (c .before .before .before .before .read-row .ensures))
+          (c .before .before .write-row .ensures),
+    )
 
 same-length : tie.Need-same-length Inv-loop μ-loop
 same-length c = search needs
 
 returns : tie.Need-returns Inv-loop μ-loop
-returns c = 
+returns c =
     let start = c .before .before .before .before in
     let e : c .before .loop .i ≡ Old.used (start .args .old .now) = omega (arith, start .pre .0 .1) in
     rows-laid _ _ 0 (rw e at (c .before .loop .inv .1))

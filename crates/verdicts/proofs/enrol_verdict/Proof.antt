@@ -69,10 +69,15 @@ returns-5 c =
     let number = new .before .before in
     let valid = number .before .before in
     let right = valid .before .before in
-    rw
-    (passed (right .before .is-sheet .ensures) (right .if1 .left), passed (valid .before .valid .ensures) (valid .if2 .left),
-    passed (number .before .is-number .ensures) (number .if3 .left), ← new .before .has-key .ensures, new .if4 .left,
-    ← c .before .free-row .ensures, eq-eqb _ _ (c .if5 .taken))
+    rw (
+      passed (right .before .is-sheet .ensures) (right .if1 .left),
+      passed (valid .before .valid .ensures) (valid .if2 .left),
+      passed (number .before .is-number .ensures) (number .if3 .left),
+      ← new .before .has-key .ensures,
+      new .if4 .left,
+      ← c .before .free-row .ensures,
+      eq-eqb _ _ (c .if5 .taken),
+    )
 
 returns-6 : tie.Need-returns-6
 unfolding verdictWords judge
@@ -81,10 +86,15 @@ returns-6 c =
     let number = new .before .before in
     let valid = number .before .before in
     let right = valid .before .before in
-    rw
-    (passed (right .before .is-sheet .ensures) (right .if1 .left), passed (valid .before .valid .ensures) (valid .if2 .left),
-    passed (number .before .is-number .ensures) (number .if3 .left), ← new .before .has-key .ensures, new .if4 .left,
-    ← c .before .free-row .ensures, ne-eqb _ _ (c .if5 .left))
+    rw (
+      passed (right .before .is-sheet .ensures) (right .if1 .left),
+      passed (valid .before .valid .ensures) (valid .if2 .left),
+      passed (number .before .is-number .ensures) (number .if3 .left),
+      ← new .before .has-key .ensures,
+      new .if4 .left,
+      ← c .before .free-row .ensures,
+      ne-eqb _ _ (c .if5 .left),
+    )
 
 pub enrol-verdict-spec : {M : Type 1} → statement M
 enrol-verdict-spec =

@@ -28,9 +28,11 @@ unfolding verdictWords judge
 returns-3 c =
     let desk = c .before .before in
     let right = desk .before in
-    rw
-    (passed (right .before .is-sheet .ensures) (right .if1 .left), lt-ltb _ _ (desk .if2 .left),
-    failed (c .before .is-row .ensures) (c .if3 .taken))
+    rw (
+      passed (right .before .is-sheet .ensures) (right .if1 .left),
+      lt-ltb _ _ (desk .if2 .left),
+      failed (c .before .is-row .ensures) (c .if3 .taken),
+    )
 
 is-closed-requires : tie.Need-is-closed-requires
 is-closed-requires c κs =
@@ -44,9 +46,12 @@ returns-4 c =
     let there = c .before .before in
     let desk = there .before .before in
     let right = desk .before in
-    rw
-    (passed (right .before .is-sheet .ensures) (right .if1 .left), lt-ltb _ _ (desk .if2 .left),
-    passed (there .before .is-row .ensures) (there .if3 .left), failed (c .before .is-closed .ensures) (c .if4 .taken))
+    rw (
+      passed (right .before .is-sheet .ensures) (right .if1 .left),
+      lt-ltb _ _ (desk .if2 .left),
+      passed (there .before .is-row .ensures) (there .if3 .left),
+      failed (c .before .is-closed .ensures) (c .if4 .taken),
+    )
 
 returns-5 : tie.Need-returns-5
 unfolding verdictWords judge
@@ -54,9 +59,12 @@ returns-5 c =
     let there = c .before .before in
     let desk = there .before .before in
     let right = desk .before in
-    rw
-    (passed (right .before .is-sheet .ensures) (right .if1 .left), lt-ltb _ _ (desk .if2 .left),
-    passed (there .before .is-row .ensures) (there .if3 .left), passed (c .before .is-closed .ensures) (c .if4 .left))
+    rw (
+      passed (right .before .is-sheet .ensures) (right .if1 .left),
+      lt-ltb _ _ (desk .if2 .left),
+      passed (there .before .is-row .ensures) (there .if3 .left),
+      passed (c .before .is-closed .ensures) (c .if4 .left),
+    )
 
 pub open-verdict-spec : {M : Type 1} → statement M
 open-verdict-spec = tie.close (tie.spec is-sheet-requires returns returns-2 is-row-requires returns-3 is-closed-requires returns-4 returns-5)

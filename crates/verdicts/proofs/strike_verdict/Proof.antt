@@ -33,18 +33,22 @@ unfolding verdictWords judge
 returns-3 c =
     let there = c .before .before in
     let right = there .before .before in
-    rw
-    (passed (right .before .is-sheet .ensures) (right .if1 .left), passed (there .before .is-row .ensures) (there .if2 .left),
-    failed (c .before .is-idle .ensures) (c .if3 .taken))
+    rw (
+      passed (right .before .is-sheet .ensures) (right .if1 .left),
+      passed (there .before .is-row .ensures) (there .if2 .left),
+      failed (c .before .is-idle .ensures) (c .if3 .taken),
+    )
 
 returns-4 : tie.Need-returns-4
 unfolding verdictWords judge
 returns-4 c =
     let there = c .before .before in
     let right = there .before .before in
-    rw
-    (passed (right .before .is-sheet .ensures) (right .if1 .left), passed (there .before .is-row .ensures) (there .if2 .left),
-    passed (c .before .is-idle .ensures) (c .if3 .left))
+    rw (
+      passed (right .before .is-sheet .ensures) (right .if1 .left),
+      passed (there .before .is-row .ensures) (there .if2 .left),
+      passed (c .before .is-idle .ensures) (c .if3 .left),
+    )
 
 pub strike-verdict-spec : {M : Type 1} → statement M
 strike-verdict-spec = tie.close (tie.spec is-sheet-requires returns is-row-requires returns-2 is-idle-requires returns-3 returns-4)

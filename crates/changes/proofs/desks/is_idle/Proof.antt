@@ -33,13 +33,13 @@ loop-less : tie.Need-loop-less Inv-loop μ-loop
 loop-less c = omega arith
 
 loop-again : tie.Need-loop-again Inv-loop μ-loop
-loop-again c = 
+loop-again c =
     let at = c .before .before .before .loop in
     (omega arith, rw (all-next, ← at .inv .1, ← c .before .is-closed .ensures, ← c .desk-row .ensures))
 
 returns : tie.Need-returns Inv-loop μ-loop
 unfolding noneHasOpen
-returns c = 
+returns c =
     let e : c .before .loop .d ≡ deskCount = omega arith in
     rw e at (c .before .loop .inv .1)
 

@@ -26,7 +26,7 @@ write-row-requires : tie.Need-write-row-requires
 write-row-requires c κs = search needs
 
 add-write-be : tie.Need-add-write-be
-add-write-be c = 
+add-write-be c =
     omega (arith, number-lt (c .before .before .before .before .before .before .before .before .before .before .before .args .s .now) usedAt headerNumberSize (c .before .before .before .before .before .before .before .before .before .before .slice-known .given), c .before .before .before .before .before .before .rows-used .ensures)
 
 write-be-requires : tie.Need-write-be-requires
@@ -39,7 +39,7 @@ same-length : tie.Need-same-length
 same-length c = search needs
 
 returns : tie.Need-returns
-returns c = 
+returns c =
     let row = c .before .before .before .before .before .before in
     let found = row .before .before .before .before .before .free-row .ensures in
     let used = row .before .before .before .rows-used .ensures in

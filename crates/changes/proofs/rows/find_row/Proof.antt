@@ -22,7 +22,7 @@ is-row-of-requires c κs = omega arith
 
 returns : tie.Need-returns Inv-loop μ-loop
 unfolding rowWith
-returns c = 
+returns c =
     let at = c .before .before .before .loop in
     sym (lowest-here _ (at .i) _ (omega arith) (at .inv .1) (sym (c .before .is-row-of .ensures) ∙ c .if1 .taken))
 
@@ -33,13 +33,13 @@ loop-less : tie.Need-loop-less Inv-loop μ-loop
 loop-less c = omega arith
 
 loop-again : tie.Need-loop-again Inv-loop μ-loop
-loop-again c = 
+loop-again c =
     let at = c .before .before .before .loop in
     (omega arith, each-more _ _ (at .i) (at .inv .1) (sym (c .before .is-row-of .ensures) ∙ c .if1 .left))
 
 returns-2 : tie.Need-returns-2 Inv-loop μ-loop
 unfolding rowWith
-returns-2 c = 
+returns-2 c =
     let e : c .before .loop .i ≡ rowCount = omega arith in
     sym (lowest-none _ _ (rw e at (c .before .loop .inv .1)))
 

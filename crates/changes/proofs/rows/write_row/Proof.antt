@@ -36,7 +36,7 @@ same-length : tie.Need-same-length
 same-length c = search needs
 
 returns : tie.Need-returns
-returns c = 
+returns c =
     let first = c .before .before .before .before .before .before .before in
     let key = first .before .before .before .before .before in
     let word = key .before .before .before .before in

@@ -22,14 +22,19 @@ rsr-key-of-requires c κs = search needs
 
 returns : tie.Need-returns
 returns c =
-    let g = c .before .before .before .before .before .args in
-    let s = g .s .now in
-    let one = c .before .before .before .read-source .ensures in
-    let two = c .before .before .read-signal .ensures in
-    let three = c .before .read-time .ensures in
-    let f = c .before .before .before .read-source .result in
-    same-accepted Rsr _ _ (primaryWords (g .primary)) _ (sourceWords f ++ signalWords (c .before .before .read-signal .result) ++ timeWords (c .before .read-time .result)) (fieldsOf Rsr s) _ _ (c .before .before .before .before .before .pre .0) (c .before .before .before .before .before .pre .1)
-    (joined (sourceWords f) _ (signalWords _) _ (timeWords _) _ one two three) (rsr-key s f _ one (c .rsr-key-of .ensures))
+    let timed = c .before in
+    let signalled = timed .before in
+    let sourced = signalled .before in
+    let start = sourced .before .before in
+    let s = start .args .s .now in
+    let from = sourced .read-source in
+    let signal = signalled .read-signal in
+    let time = timed .read-time in
+    let fields = sourceWords (from .result) ++ signalWords (signal .result) ++ timeWords (time .result) in
+    let same = joined (sourceWords (from .result)) _ (signalWords _) _ (timeWords _) _ (from .ensures) (signal .ensures) (time .ensures) in
+    let key = rsr-key s (from .result) _ (from .ensures) (c .rsr-key-of .ensures) in
+    same-accepted Rsr _ _ (primaryWords (start .args .primary)) _ fields (fieldsOf Rsr s) _ _ _ _ (start .pre .0) (start .pre .1) same key
+    (start .pre .3)
 
 pub read-fields-spec : {M : Type 1} → statement M
 read-fields-spec =

@@ -4,7 +4,7 @@ use Rattle.sfdu.proofs.Labels.{all-right, one-wrong}
 use Rattle.headers.specs.Ranges.{fault, fieldRules}
 use Rattle.sfdu.specs.declared.Kind.the-variants.{Telemetry}
 use Rattle.sfdu.specs.Read.{primaryWords}
-use Rattle.headers.specs.Headers.{outOfRange, telemetryFieldWords}
+use Rattle.headers.specs.Headers.{outOfRange, telemetryFieldWords, receivedWords}
 use Rattle.headers.proofs.Accept.{same-accepted, telemetry-key}
 use borrow.Author.Needs.{needs}
 use Rattle.headers.proofs.telemetry.fields.Statement.{statement}
@@ -31,16 +31,24 @@ read-fields-requires c κs = search needs
 telemetry-key-of-requires : tie.Need-telemetry-key-of-requires
 telemetry-key-of-requires c κs = search needs
 
+read-received-requires : tie.Need-read-received-requires
+read-received-requires c κs = search needs
+
 returns-2 : tie.Need-returns-2
 unfolding fault
 returns-2 c =
-    let g = c .before .before .before .before .before .before .args in
-    let s = g .s .now in
-    let f = c .before .read-fields .result in
-    let pre = c .before .before .before .before .before .before .pre in
-    same-accepted Telemetry _ _ (primaryWords (g .primary)) _ (telemetryFieldWords f) _ _ _ (pre .0) (pre .1) (c .before .read-fields .ensures)
-    (telemetry-key s f _ (c .before .read-fields .ensures) (c .telemetry-key-of .ensures))
-    ∙ sym (all-right outOfRange (fieldRules Telemetry s) _ (sym (c .before .before .before .before .band-fault .ensures) ∙ c .before .before .enum-told .given .1))
+    let keyed = c .before in
+    let read = keyed .before in
+    let passed = read .before in
+    let judged = passed .before .before in
+    let start = judged .before .before in
+    let s = start .args .s .now in
+    let f = read .read-fields in
+    let key = telemetry-key s (f .result) _ (f .ensures) (keyed .telemetry-key-of .ensures) in
+    let right = sym (judged .band-fault .ensures) ∙ passed .enum-told .given .1 in
+    same-accepted Telemetry _ _ (primaryWords (start .args .primary)) _ (telemetryFieldWords (f .result)) _ _ _
+    (receivedWords (c .read-received .result)) _ (start .pre .0) (start .pre .1) (f .ensures) key (c .read-received .ensures)
+    ∙ sym (all-right outOfRange (fieldRules Telemetry s) _ right)
 
 pub fields-spec : {M : Type 1} → statement M
 fields-spec =
@@ -52,4 +60,5 @@ fields-spec =
     enum-told
     read-fields-requires
     telemetry-key-of-requires
+    read-received-requires
     returns-2)

@@ -46,7 +46,7 @@ loop-less : tie.Need-loop-less Inv-loop μ-loop
 loop-less c = omega arith
 
 loop-again : tie.Need-loop-again Inv-loop μ-loop
-loop-again c = 
+loop-again c =
     let turn = c .before .before .before .loop in
     ⊎-elim
     (λ w. (omega arith, rw (w .4) (omega arith), rw (w .3, w .4, w .1 .ensures, w .2 .ensures) (open-judged _ (turn .right) (turn .zeros) (turn .d) (turn .inv .2) (turn .inv .1))))
@@ -60,7 +60,7 @@ is-long-zero-requires-2 : tie.Need-is-long-zero-requires-2 Inv-loop μ-loop
 is-long-zero-requires-2 c κs = search needs
 
 returns : tie.Need-returns Inv-loop μ-loop
-returns c = 
+returns c =
     let e : c .before .before .loop .d ≡ deskCount = omega arith in
     let h = c .before .before .loop .inv .2 in
     rw (c .is-long-zero2 .ensures) (rw e at h)

@@ -61,10 +61,11 @@ loop-again c =
     let turn = c .before .before .before .loop in
     let word = c .before .is-used .ensures in
     ⊎-elim
-    (λ w.
-    (omega arith,
-    rw (w .7, w .8, w .9, w .10, w .11)
-    (used-read _ _ _ _ _ _ _ (turn .inv .1) _ _ _ _ _ (omega arith) (sym word ∙ w .0 .taken) (w .1 .ensures) (w .3 .ensures) (w .2 .ensures) (w .6 .ensures) (w .4 .ensures))))
+    (λ w. (
+      omega arith,
+      rw (w .7, w .8, w .9, w .10, w .11)
+          (used-read _ _ _ _ _ _ _ (turn .inv .1) _ _ _ _ _ (omega arith) (sym word ∙ w .0 .taken) (w .1 .ensures) (w .3 .ensures) (w .2 .ensures) (w .6 .ensures) (w .4 .ensures)),
+    ))
     (λ w. (omega arith, rw (w .1, w .2, w .3, w .4, w .5) (free-read _ _ _ _ _ _ _ (turn .inv .1) (sym word ∙ w .0 .left))))
     (c .if1 .came)
 

@@ -43,7 +43,7 @@ loop-less : tie.Need-loop-less Inv-loop μ-loop
 loop-less c = omega arith
 
 loop-again : tie.Need-loop-again Inv-loop μ-loop
-loop-again c = 
+loop-again c =
     let turn = c .before .before .before .loop in
     let word = c .before .is-used .ensures in
     ⊎-elim
@@ -52,7 +52,7 @@ loop-again c =
     (c .if1 .came)
 
 returns : tie.Need-returns Inv-loop μ-loop
-returns c = 
+returns c =
     let e : c .before .loop .i ≡ rowCount = omega arith in
     rows-judged _ _ _ (rw e at (c .before .loop .inv .2)) (rw e at (c .before .loop .inv .1))
 

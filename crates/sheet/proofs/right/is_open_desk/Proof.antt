@@ -69,7 +69,7 @@ is-same-requires-2 : tie.Need-is-same-requires-2
 is-same-requires-2 c κs = omega (arith, named (c .before .before .before .before .before .before .before .args .s .now) (c .before .before .before .before .before .before .before .args .d) (passed (c .before .before .before .before .is-row .ensures) (c .before .before .before .if1 .left)))
 
 returns-2 : tie.Need-returns-2
-returns-2 c = 
+returns-2 c =
     let start = c .before .before .before .before .before .before .before in
     let row = passed (c .before .before .before .before .before .is-row .ensures) (c .before .before .before .before .if1 .left) in
     rw (← open-desk _ _ (start .before .pre .1 .1), row, ← c .before .before .is-zero .ensures, ← c .before .is-same .ensures, ← c .is-same2 .ensures, and-assoc)

@@ -1,0 +1,40 @@
+-- `date_of` meets its contract: the date is that of the year found. Assumes nothing.
+use Prim.Native.Nat.{_+_, _-_, _≤_}
+use native.Mathlib.Omega.{arith}
+use mathlib.Core.Path.{sym}
+use borrow.Author.Needs.{needs}
+use Rattle.dates.proofs.Laws.{year-length, day-within, date-within, refused}
+use Rattle.dates.proofs.date_of.Statement.{statement}
+use Rattle.dates.proofs.date_of.Tie as tie
+
+returns : tie.Need-returns
+returns c = sym (refused _ (c .if1 .taken))
+
+year-of-requires : tie.Need-year-of-requires
+year-of-requires c κs = search needs
+
+new-year-requires : tie.Need-new-year-requires
+new-year-requires c κs = search needs
+
+sub-past : tie.Need-sub-past
+sub-past c = search needs
+
+-- The day found is one that its year has.
+short : (c : tie.After-new-year) → c .before .before .before .args .count - c .new-year .result + 1 ≤ 366
+short c =
+    let y = c .before .year-of in
+    rw (c .new-year .ensures) (omega (arith, day-within _ _ (y .ensures) .within, year-length (y .result) .1))
+
+cast-day : tie.Need-cast-day
+cast-day c = omega (arith, short c)
+
+add-day : tie.Need-add-day
+add-day c = omega (arith, short c)
+
+returns-2 : tie.Need-returns-2
+returns-2 c = rw (c .new-year .ensures) (sym (date-within _ _ (c .before .year-of .ensures)))
+
+pub date-of-spec : {M : Type 1} → statement M
+date-of-spec =
+    tie.close
+    (tie.spec returns year-of-requires new-year-requires sub-past cast-day add-day returns-2)

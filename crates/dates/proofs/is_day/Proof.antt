@@ -1,0 +1,15 @@
+-- `is_day` meets its contract. Assumes nothing.
+use borrow.Author.Needs.{needs}
+use Rattle.dates.specs.Calendar.{isDay}
+use Rattle.dates.proofs.is_day.Statement.{statement}
+use Rattle.dates.proofs.is_day.Tie as tie
+
+days-in-requires : tie.Need-days-in-requires
+days-in-requires c κs = search needs
+
+returns : tie.Need-returns
+unfolding isDay
+returns c = rw (c .days-in .ensures)
+
+pub is-day-spec : {M : Type 1} → statement M
+is-day-spec = tie.close (tie.spec days-in-requires returns)
