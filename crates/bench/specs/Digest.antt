@@ -5,9 +5,9 @@ use mathlib.Core.List.{List, [], _∷_}
 use lib.Bits.{bitXor}
 use lib.Dec.{eqb, ltb}
 use lib.ListN.{length, getD}
-use Rattle.sheet.specs.Sheet.{sheetSize, rowCount, rowAt}
-use Rattle.changes.specs.Bytes.{reportWords}
-use Rattle.headers.specs.Words.{Word, number, signed, none}
+use Rattle.ledger_sheet.specs.Sheet.{sheetSize, rowCount, rowAt}
+use Rattle.ledger_changes.specs.Bytes.{reportWords}
+use Rattle.sfdu_headers.specs.Words.{Word, number, signed, none}
 
 -- What a word adds to a number. A signed word and none add nothing.
 abbrev pub value : Word → ℕ

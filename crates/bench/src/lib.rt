@@ -2,31 +2,31 @@
 pub mod calendar;
 pub mod tapes;
 
-use headers::Band;
-use headers::Headers;
-use headers::ReceivedTime;
-use headers::RsrSignal;
-use headers::RsrSource;
-use headers::RsrTime;
-use headers::TelemetryFields;
+use ledger_sheet::Answer;
+use ledger_sheet::ROWS;
+use ledger_sheet::ReportAnswer;
+use ledger_sheet::SHEET;
 use sfdu::Fault;
 use sfdu::Primary;
-use sheet::Answer;
-use sheet::ROWS;
-use sheet::ReportAnswer;
-use sheet::SHEET;
+use sfdu_headers::Band;
+use sfdu_headers::Headers;
+use sfdu_headers::ReceivedTime;
+use sfdu_headers::RsrSignal;
+use sfdu_headers::RsrSource;
+use sfdu_headers::RsrTime;
+use sfdu_headers::TelemetryFields;
 ghost use mathlib.Core.Path.{_≡_};
 ghost use mathlib.Core.List.{[], _∷_, _++_, map};
 ghost use Prim.Native.Nat.{_+_, _*_, _^_};
 ghost use lib.ListN.{getD};
-ghost use Rattle.sheet.specs.Words.{answerWords, reportAnswerWords};
+ghost use Rattle.ledger_sheet.specs.Words.{answerWords, reportAnswerWords};
 ghost use Rattle.sfdu.specs.Read.{primaryWords, faultWords};
-ghost use Rattle.headers.specs.Words.{number};
-ghost use Rattle.headers.specs.Headers.{readHeaders, bandWord, telemetryFieldWords, sourceWords, signalWords, timeWords, receivedWords};
-ghost use Rattle.stream.specs.Listing.{walked};
-ghost use Rattle.sheet.specs.Sheet.{right};
-ghost use Rattle.model.specs.Step.{Tick, Untick, Ask, RowReport};
-ghost use Rattle.layout.specs.Layout.{call, onSheet};
+ghost use Rattle.sfdu_headers.specs.Words.{number};
+ghost use Rattle.sfdu_headers.specs.Headers.{readHeaders, bandWord, telemetryFieldWords, sourceWords, signalWords, timeWords, receivedWords};
+ghost use Rattle.sfdu_stream.specs.Listing.{walked};
+ghost use Rattle.ledger_sheet.specs.Sheet.{right};
+ghost use Rattle.ledger_model.specs.Step.{Tick, Untick, Ask, RowReport};
+ghost use Rattle.ledger_layout.specs.Layout.{call, onSheet};
 ghost use Rattle.bench.specs.Digest.{value, onto, digest, flag, counts, counted};
 
 // The words of an accepted answer that the kinds begin with, and that of a kind not asked for; and what adds nothing to a number.
@@ -45,7 +45,7 @@ const NOTHING: u64 = 0;
 pub extern "C" fn bench_read_headers(s: &[u8], wanted: u32) -> u64
     ensures { λ r. ⌜ r ≡ digest (readHeaders wanted (now (s .entry))) ⌝ }
 {
-    let found = headers::read_headers(s, wanted);
+    let found = sfdu_headers::read_headers(s, wanted);
     match found {
         Headers::Telemetry {
             size,
@@ -153,7 +153,7 @@ fn time_onto(f: RsrTime, rest: u64) -> u64
 pub extern "C" fn bench_walk(s: &[u8]) -> u64
     ensures { λ r. ⌜ r ≡ getD (walked (now (s .entry))) 0 0 ⌝ }
 {
-    let found = stream::walk(s);
+    let found = sfdu_stream::walk(s);
     found.count as u64
 }
 
@@ -161,7 +161,7 @@ pub extern "C" fn bench_walk(s: &[u8]) -> u64
 pub extern "C" fn bench_is_sheet(s: &[u8]) -> u64
     ensures { λ r. ⌜ r ≡ flag (right (now (s .entry))) ⌝ }
 {
-    if sheet::right::is_sheet(s) {
+    if ledger_sheet::right::is_sheet(s) {
         return 1;
     }
     0
@@ -209,7 +209,7 @@ pub extern "C" fn bench_count(s: &[u8], row: u32) -> u64
     if row >= ROWS {
         return NOTHING;
     }
-    reported(counts::row_report(s, row))
+    reported(ledger_counts::row_report(s, row))
 }
 
 fn reported(answer: ReportAnswer) -> u64

@@ -1,7 +1,7 @@
 // The medium band record, read.
 ghost use mathlib.Core.Path.{_≡_};
 ghost use mathlib.Core.List.{_++_, map};
-ghost use Rattle.headers.specs.Words.{number};
+ghost use Rattle.sfdu_headers.specs.Words.{number};
 ghost use Rattle.idr.specs.Read.{readRecord, originWords, timeWords, recorderWords, reductionWords, statusWords, countWords};
 ghost use Rattle.bench.specs.Digest.{onto, digest};
 use crate::ACCEPTED;

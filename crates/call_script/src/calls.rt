@@ -1,7 +1,7 @@
 // The call of a frame, by its op. Where the frame is bad its line has no words.
 use crate::sheets;
-use lines::Frame;
-use lines::line::Line;
+use call_lines::Frame;
+use call_lines::line::Line;
 
 // The first op on the sheet. After it the sheet is as long as the frame's first run.
 pub const NEW_SHEET: u32 = 19;
@@ -11,7 +11,7 @@ pub const CONVERT: u32 = 31;
 
 pub fn call(f: Frame, a: &[u8], b: &[u8], sheet: &mut [u8], n: usize) -> Line {
     if f.op < NEW_SHEET {
-        return lines::on_bytes(f, a, b);
+        return call_lines::on_bytes(f, a, b);
     }
     if f.op == NEW_SHEET {
         return sheets::new_sheet(a, sheet);

@@ -1,6 +1,6 @@
 // A frame of the script on standard input.
+use call_lines::Frame;
 use libc::STDIN_FILENO;
-use lines::Frame;
 use octets::read_be;
 use octets::read_u32;
 

@@ -6,13 +6,13 @@ mod frame;
 mod sheets;
 mod text;
 
+use call_lines::Frame;
+use call_lines::line::Line;
 use frame::MOST_RUNS;
 use frame::Next;
 use frame::behind;
 use frame::first;
 use libc::STDOUT_FILENO;
-use lines::Frame;
-use lines::line::Line;
 
 // The most bytes of the sheet and of the text.
 const MOST_SHEET: usize = 8192;
@@ -49,7 +49,7 @@ fn main() {
 
 fn run(runs: &mut [u8], sheet: &mut [u8], out: &mut [u8]) {
     let mut s = State {
-        sheet: sheet::SHEET,
+        sheet: ledger_sheet::SHEET,
         text: 0,
         on: true,
     };

@@ -1,11 +1,11 @@
 // The lines of the calls on the ledger sheet.
-use lines::Frame;
-use lines::crc::crc;
-use lines::line::Line;
-use sheet::Answer;
-use sheet::GapAnswer;
-use sheet::ReportAnswer;
-use sheet::RowAnswer;
+use call_lines::Frame;
+use call_lines::crc::crc;
+use call_lines::line::Line;
+use ledger_sheet::Answer;
+use ledger_sheet::GapAnswer;
+use ledger_sheet::ReportAnswer;
+use ledger_sheet::RowAnswer;
 
 // The sheet becomes the bytes of a.
 pub fn new_sheet(a: &[u8], room: &mut [u8]) -> Line {

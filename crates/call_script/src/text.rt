@@ -1,9 +1,9 @@
 // The text of a line. Each function lays its words out from index `at` on, a space behind each, and answers where they end. The
 // text has room for many of the longest lines; a word that finds none is left out.
-use lines::line::Form;
-use lines::line::Line;
-use lines::line::MOST_WORDS;
-use lines::line::Word;
+use call_lines::line::Form;
+use call_lines::line::Line;
+use call_lines::line::MOST_WORDS;
+use call_lines::line::Word;
 
 const SPACE: u8 = b' ';
 

@@ -6,16 +6,16 @@ use native.Mathlib.Omega.{arith}
 use mathlib.Core.Bool.{true, false, not}
 use mathlib.Core.Path.{_≡_, sym, ap, _∙_}
 use Rattle.refusals.specs.Judge.{Rule, _when_}
-use Rattle.model.specs.Step.{Find, RowReport, FirstGap, Call, Enrol, Ask, Open, Mark, Save, Drop, Strike}
+use Rattle.ledger_model.specs.Step.{Find, RowReport, FirstGap, Call, Enrol, Ask, Open, Mark, Save, Drop, Strike}
 use Rattle.octets.proofs.Laws.{Bytes}
-use Rattle.sheet.specs.Sheet.{rowCount, rowAt, right}
-use Rattle.changes.specs.Bytes.{Outcome, done, rowWith, freeRow, enrolAt, strikeAt, openAt, clearDesk, markDesk, saveAt, reportWords, gapFrom}
-use Rattle.verdicts.specs.Calls.{enrolCall, findCall, openCall, markCall, saveCall, dropCall, reportCall, gapCall, strikeCall}
-use Rattle.changes.proofs.Calls.{refuses, passes, accepts}
-use Rattle.layout.specs.Layout.{call, onSheet}
-use Rattle.layout.proofs.Sheets.{call-law}
-use Rattle.verdicts.proofs.Judged.{Law}
-use Rattle.verdicts.specs.Verdicts.{enrolRows, findRows, openRows, deskRows, reportRows, strikeRows}
+use Rattle.ledger_sheet.specs.Sheet.{rowCount, rowAt, right}
+use Rattle.ledger_changes.specs.Bytes.{Outcome, done, rowWith, freeRow, enrolAt, strikeAt, openAt, clearDesk, markDesk, saveAt, reportWords, gapFrom}
+use Rattle.ledger_verdicts.specs.Calls.{enrolCall, findCall, openCall, markCall, saveCall, dropCall, reportCall, gapCall, strikeCall}
+use Rattle.ledger_changes.proofs.Calls.{refuses, passes, accepts}
+use Rattle.ledger_layout.specs.Layout.{call, onSheet}
+use Rattle.ledger_layout.proofs.Sheets.{call-law}
+use Rattle.ledger_verdicts.proofs.Judged.{Law}
+use Rattle.ledger_verdicts.specs.Verdicts.{enrolRows, findRows, openRows, deskRows, reportRows, strikeRows}
 
 abbrev pub rowsOf : Call → List ℕ → List (Rule ℕ)
 rowsOf (Enrol key first) s = enrolRows key first s

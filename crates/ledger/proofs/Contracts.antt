@@ -6,9 +6,9 @@ use mathlib.Core.Path.{_≡_}
 use contract.Lifetimes.{Lfts}
 use denote.Triple.Clauses.{AtExit}
 use borrow.Fn.Kinds.{PK, RK, Out, Dens, GoodsP, resT, endedOf}
-use Rattle.model.specs.Step.{Enrol, Ask, Find, RowReport, FirstGap, Open, Tick, Untick, Save, Drop, Strike}
-use Rattle.sheet.specs.declared.Answer.the-variants as A
-use Rattle.layout.specs.Demand3.{answerOf, rowAnswerOf, reportAnswerOf, gapAnswerOf}
+use Rattle.ledger_model.specs.Step.{Enrol, Ask, Find, RowReport, FirstGap, Open, Tick, Untick, Save, Drop, Strike}
+use Rattle.ledger_sheet.specs.declared.Answer.the-variants as A
+use Rattle.ledger_layout.specs.Demand3.{answerOf, rowAnswerOf, reportAnswerOf, gapAnswerOf}
 use Rattle.ledger.specs.Demand3.{MadeFresh, Promised, enrolled, found, reported, gapped, opened, ticked, unticked, saved, dropped, struck}
 use Rattle.ledger.proofs.fresh.Reads as fresh
 use Rattle.ledger.proofs.fresh.Kinds as fresh-kinds

@@ -5,15 +5,15 @@ use mathlib.Core.List.{List, [], _∷_}
 use mathlib.Core.Path.{_≡_, refl, sym, ap, _∙_}
 use lib.Dec.{eqb}
 use lib.ListN.{length}
-use Rattle.model.specs.Book.{fresh}
-use Rattle.model.specs.Step.{Call, Answer, Entry}
-use Rattle.model.specs.Chain.{Chain, stop, next}
-use Rattle.sheet.specs.Sheet.{sheetSize}
-use Rattle.changes.specs.Bytes.{Outcome, freshSheet}
-use Rattle.layout.specs.Layout.{layout, freshOn}
-use Rattle.layout.specs.Demand3 as Layout
-use Rattle.layout.proofs.Demand3.{answer-meets, row-answer-meets, report-answer-meets, gap-answer-meets, demand3}
-use Rattle.layout.proofs.Sheets.{fresh-layout}
+use Rattle.ledger_model.specs.Book.{fresh}
+use Rattle.ledger_model.specs.Step.{Call, Answer, Entry}
+use Rattle.ledger_model.specs.Chain.{Chain, stop, next}
+use Rattle.ledger_sheet.specs.Sheet.{sheetSize}
+use Rattle.ledger_changes.specs.Bytes.{Outcome, freshSheet}
+use Rattle.ledger_layout.specs.Layout.{layout, freshOn}
+use Rattle.ledger_layout.specs.Demand3 as Layout
+use Rattle.ledger_layout.proofs.Demand3.{answer-meets, row-answer-meets, report-answer-meets, gap-answer-meets, demand3}
+use Rattle.ledger_layout.proofs.Sheets.{fresh-layout}
 use Rattle.ledger.specs.Demand3.{MadeFresh, Promised, enrolled, found, reported, gapped, opened, ticked, unticked, saved, dropped, struck, Demand3}
 
 -- each contract's equation is the promise that the claim asks for

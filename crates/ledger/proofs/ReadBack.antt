@@ -7,18 +7,18 @@ use mathlib.Core.Path.{_≡_, refl, sym, ap, _∙_}
 use lib.Dec.{eqb}
 use borrow.Author.Tests.{eqb-true}
 use Rattle.refusals.specs.Judge.{Rule, verdict}
-use Rattle.model.specs.Step.{Enrol}
+use Rattle.ledger_model.specs.Step.{Enrol}
 use Rattle.octets.proofs.Laws.{Bytes}
-use Rattle.sheet.specs.Sheet.{keySize, firstSize, rowAt}
-use Rattle.changes.specs.Rows.{rowValueAt, blankRow}
-use Rattle.changes.specs.Bytes.{Outcome, judged, freeRow, enrolAt}
-use Rattle.sheet.specs.Words.{rowWords}
-use Rattle.sheet.specs.declared.Answer.the-variants as A
-use Rattle.sheet.specs.declared.RowAnswer.the-variants as R
-use Rattle.changes.proofs.ReadBack.{enrolled-blank}
-use Rattle.layout.specs.Layout.{call, onSheet}
-use Rattle.verdicts.specs.Verdicts.{enrolRows, verdictWords}
-use Rattle.verdicts.proofs.Judged.{enrol-fine}
+use Rattle.ledger_sheet.specs.Sheet.{keySize, firstSize, rowAt}
+use Rattle.ledger_changes.specs.Rows.{rowValueAt, blankRow}
+use Rattle.ledger_changes.specs.Bytes.{Outcome, judged, freeRow, enrolAt}
+use Rattle.ledger_sheet.specs.Words.{rowWords}
+use Rattle.ledger_sheet.specs.declared.Answer.the-variants as A
+use Rattle.ledger_sheet.specs.declared.RowAnswer.the-variants as R
+use Rattle.ledger_changes.proofs.ReadBack.{enrolled-blank}
+use Rattle.ledger_layout.specs.Layout.{call, onSheet}
+use Rattle.ledger_verdicts.specs.Verdicts.{enrolRows, verdictWords}
+use Rattle.ledger_verdicts.proofs.Judged.{enrol-fine}
 use Rattle.ledger.proofs.Calls.{by-rows}
 
 pub enrol-reads-back : (s t : List ℕ) (key first row : ℕ) → Bytes s → key < 256 ^ keySize → first < 256 ^ firstSize

@@ -4,18 +4,18 @@
 use Prim.Native.Nat.{ℕ}
 use mathlib.Core.Path.{_≡_}
 use mathlib.Core.List.{List, map}
-use Rattle.model.specs.Step.{Find, RowReport, FirstGap, Call, Enrol, Ask, Open, Tick, Untick, Save, Drop, Strike, Answer, Entry, callOf}
-use Rattle.model.specs.History.{serial}
-use Rattle.model.specs.Chain.{Chain}
-use Rattle.model.specs.Claim.{Claim}
-use Rattle.sheet.specs.Words.{answerWords, rowWords, reportAnswerWords, gapWords}
-use Rattle.sheet.specs.declared.Answer as Sheet
-use Rattle.sheet.specs.declared.Answer.the-variants as A
-use Rattle.sheet.specs.declared.RowAnswer.{RowAnswer}
-use Rattle.sheet.specs.declared.ReportAnswer.{ReportAnswer}
-use Rattle.sheet.specs.declared.GapAnswer.{GapAnswer}
-use Rattle.layout.specs.Layout.{layout, call, onSheet, freshOn}
-use Rattle.layout.specs.Demand3.{answerOf, rowAnswerOf, reportAnswerOf, gapAnswerOf, headerAndRows}
+use Rattle.ledger_model.specs.Step.{Find, RowReport, FirstGap, Call, Enrol, Ask, Open, Tick, Untick, Save, Drop, Strike, Answer, Entry, callOf}
+use Rattle.ledger_model.specs.History.{serial}
+use Rattle.ledger_model.specs.Chain.{Chain}
+use Rattle.ledger_model.specs.Claim.{Claim}
+use Rattle.ledger_sheet.specs.Words.{answerWords, rowWords, reportAnswerWords, gapWords}
+use Rattle.ledger_sheet.specs.declared.Answer as Sheet
+use Rattle.ledger_sheet.specs.declared.Answer.the-variants as A
+use Rattle.ledger_sheet.specs.declared.RowAnswer.{RowAnswer}
+use Rattle.ledger_sheet.specs.declared.ReportAnswer.{ReportAnswer}
+use Rattle.ledger_sheet.specs.declared.GapAnswer.{GapAnswer}
+use Rattle.ledger_layout.specs.Layout.{layout, call, onSheet, freshOn}
+use Rattle.ledger_layout.specs.Demand3.{answerOf, rowAnswerOf, reportAnswerOf, gapAnswerOf, headerAndRows}
 
 -- What `fresh` promises where it answers done: called on the slice s it left the sheet `start`.
 abbrev pub MadeFresh : (s start : List ℕ) → Type 0

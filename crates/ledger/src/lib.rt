@@ -1,32 +1,32 @@
 // The receipt ledger: the public calls on a lent sheet (document 01, "The ledger sheet"; document 02, requests 03 and 10). Each contract has one shape: the words
 // of the answer, and the sheet as it is left, are the model's call on the book that the sheet holds, laid out again. What is
 // not a right sheet is refused with 20 and left as it was.
-use changes::desks::clear_desk;
-use changes::desks::make_fresh;
-use changes::desks::open_desk;
-use changes::desks::save_desk;
-use changes::rows::enrol_row;
-use changes::rows::find_row;
-use changes::rows::strike_row;
-use changes::ticks::mark_desk;
+use ledger_changes::desks::clear_desk;
+use ledger_changes::desks::make_fresh;
+use ledger_changes::desks::open_desk;
+use ledger_changes::desks::save_desk;
+use ledger_changes::rows::enrol_row;
+use ledger_changes::rows::find_row;
+use ledger_changes::rows::strike_row;
+use ledger_changes::ticks::mark_desk;
+use ledger_sheet::Answer;
+use ledger_sheet::GapAnswer;
+use ledger_sheet::ReportAnswer;
+use ledger_sheet::RowAnswer;
+use ledger_sheet::SHEET;
+use ledger_sheet::right::is_sheet;
+use ledger_verdicts::desk_verdict;
+use ledger_verdicts::enrol_verdict;
+use ledger_verdicts::find_verdict;
+use ledger_verdicts::open_verdict;
+use ledger_verdicts::report_verdict;
+use ledger_verdicts::strike_verdict;
 use refusals::Refusal;
-use sheet::Answer;
-use sheet::GapAnswer;
-use sheet::ReportAnswer;
-use sheet::RowAnswer;
-use sheet::SHEET;
-use sheet::right::is_sheet;
-use verdicts::desk_verdict;
-use verdicts::enrol_verdict;
-use verdicts::find_verdict;
-use verdicts::open_verdict;
-use verdicts::report_verdict;
-use verdicts::strike_verdict;
 ghost use mathlib.Core.Path.{_≡_};
 ghost use mathlib.Core.Bool.{true, false};
-ghost use Rattle.model.specs.Step.{Enrol, Ask, Find, RowReport, FirstGap, Open, Mark, Tick, Untick, Save, Drop, Strike};
-ghost use Rattle.sheet.specs.Words.{answerWords, rowWords, reportAnswerWords, gapWords};
-ghost use Rattle.layout.specs.Layout.{call, onSheet, freshOn};
+ghost use Rattle.ledger_model.specs.Step.{Enrol, Ask, Find, RowReport, FirstGap, Open, Mark, Tick, Untick, Save, Drop, Strike};
+ghost use Rattle.ledger_sheet.specs.Words.{answerWords, rowWords, reportAnswerWords, gapWords};
+ghost use Rattle.ledger_layout.specs.Layout.{call, onSheet, freshOn};
 
 // Makes the slice a fresh sheet. Only its length is judged.
 pub fn fresh(s: &mut [u8]) -> Answer
@@ -141,7 +141,7 @@ pub fn row_report(s: &[u8], row: u32) -> ReportAnswer
     if let Answer::Refused(why) = verdict {
         return ReportAnswer::Refused(why);
     }
-    counts::row_report(s, row as usize)
+    ledger_counts::row_report(s, row as usize)
 }
 
 // Finds the first missing number and its row.
@@ -151,5 +151,5 @@ pub fn first_gap(s: &[u8]) -> GapAnswer
     if !is_sheet(s) {
         return GapAnswer::Refused(Refusal::NotSheet);
     }
-    counts::first_gap(s)
+    ledger_counts::first_gap(s)
 }

@@ -7,13 +7,13 @@ use mathlib.Core.Path.{_≡_, refl, sym, ap, _∙_}
 use lib.Dec.{eqb}
 use lib.ListN.{length}
 use borrow.Author.Tests.{ne-eqb}
-use Rattle.model.specs.Book.{Book}
+use Rattle.ledger_model.specs.Book.{Book}
 use Rattle.octets.proofs.Laws.{and-split}
-use Rattle.sheet.specs.Sheet.{sheetSize, right}
-use Rattle.changes.specs.Bytes.{Outcome}
-use Rattle.layout.specs.Layout.{layout, bookOf, call, onSheet}
-use Rattle.layout.proofs.Right.{reads-back}
-use Rattle.layout.proofs.Sheets.{on-layout}
+use Rattle.ledger_sheet.specs.Sheet.{sheetSize, right}
+use Rattle.ledger_changes.specs.Bytes.{Outcome}
+use Rattle.ledger_layout.specs.Layout.{layout, bookOf, call, onSheet}
+use Rattle.ledger_layout.proofs.Right.{reads-back}
+use Rattle.ledger_layout.proofs.Sheets.{on-layout}
 use Rattle.ledger_convert.specs.Old as Old
 use Rattle.ledger_convert.specs.Convert.{oldBookOf, convertOn}
 use Rattle.ledger_convert.specs.Laws.{AnswersAsBefore}

@@ -10,23 +10,23 @@ use lib.Dec.{eqb, ltb}
 use lib.ListN.{length, getD, set, replicate, length-append, length-replicate, getD-replicate, length-set}
 use lib.Seq.{ext-getD}
 use borrow.Author.Tests.{ltb-true, ltb-false, lt-ltb, le-ltb}
-use Rattle.model.specs.Book.{Place, free, row, Desk, closed, working, place, isFree, withTicks}
+use Rattle.ledger_model.specs.Book.{Place, free, row, Desk, closed, working, place, isFree, withTicks}
 use Rattle.octets.specs.Octets.{bytesOf, part, put}
 use Rattle.octets.proofs.Laws.{Bytes, length-bytesOf, length-part, part-at, length-put}
 use Rattle.octets.proofs.Parts.{part-join, part-whole, part-first, part-second}
 use Rattle.octets.proofs.Puts.{put-next, set-put}
-use Rattle.sheet.specs.Sheet.{sheetSize, usedWordSize, rowSize, rowCount, rowsStart, ticksSize, deskSize, deskCount, deskRowAt, deskZerosAt, deskZerosSize, openedAt, workedAt, desksStart, headerNumberSize, usedAt, rowAt, deskAt, count}
-use Rattle.sheet.specs.declared.Row.{Row}
-use Rattle.changes.specs.Rows.{table, rowBytes, rowValueAt}
-use Rattle.changes.specs.Bytes.{headerBytes, freshSheet, openDesk}
-use Rattle.changes.proofs.Puts.{put-outside, part-put}
-use Rattle.changes.proofs.ReadBack.{length-row}
-use Rattle.changes.proofs.Written.{length-header}
-use Rattle.layout.specs.Layout.{placeBytes, deskBytes, countUsed, layout}
-use Rattle.layout.proofs.Chunks.{length-table, getD-table, laid-table}
-use Rattle.layout.proofs.Rows.{length-place}
-use Rattle.layout.proofs.Places.{header-put, length-desk}
-use Rattle.layout.proofs.Used.{count-law}
+use Rattle.ledger_sheet.specs.Sheet.{sheetSize, usedWordSize, rowSize, rowCount, rowsStart, ticksSize, deskSize, deskCount, deskRowAt, deskZerosAt, deskZerosSize, openedAt, workedAt, desksStart, headerNumberSize, usedAt, rowAt, deskAt, count}
+use Rattle.ledger_sheet.specs.declared.Row.{Row}
+use Rattle.ledger_changes.specs.Rows.{table, rowBytes, rowValueAt}
+use Rattle.ledger_changes.specs.Bytes.{headerBytes, freshSheet, openDesk}
+use Rattle.ledger_changes.proofs.Puts.{put-outside, part-put}
+use Rattle.ledger_changes.proofs.ReadBack.{length-row}
+use Rattle.ledger_changes.proofs.Written.{length-header}
+use Rattle.ledger_layout.specs.Layout.{placeBytes, deskBytes, countUsed, layout}
+use Rattle.ledger_layout.proofs.Chunks.{length-table, getD-table, laid-table}
+use Rattle.ledger_layout.proofs.Rows.{length-place}
+use Rattle.ledger_layout.proofs.Places.{header-put, length-desk}
+use Rattle.ledger_layout.proofs.Used.{count-law}
 use Rattle.ledger_convert.specs.Old as Old
 use Rattle.ledger_convert.specs.Convert.{oldPlaceIn, oldDeskIn, oldBookOf, oldTicksOf}
 use Rattle.ledger_convert.specs.Laid.{Laid}

@@ -11,20 +11,20 @@ use lib.Dec.{eqb, ltb, leb}
 use lib.ListN.{length, getD, List·getD-eq-default}
 use borrow.Author.Tests.{ltb-true, ltb-false, lt-ltb, le-ltb, leb-true, eqb-true, eqb-false, not-true}
 use Rattle.keys.specs.Key.{validKey}
-use Rattle.model.specs.Positions.{rowLength}
-use Rattle.model.specs.Book.{Place, free, row, closed, Book, place, desk, isFree, withTicks}
-use Rattle.model.specs.WellFormed.{IsSet, PlaceOk, DeskOk, keyOf, WellFormed}
+use Rattle.ledger_model.specs.Positions.{rowLength}
+use Rattle.ledger_model.specs.Book.{Place, free, row, closed, Book, place, desk, isFree, withTicks}
+use Rattle.ledger_model.specs.WellFormed.{IsSet, PlaceOk, DeskOk, keyOf, WellFormed}
 use Rattle.octets.specs.Octets.{numberAt, part}
 use Rattle.octets.proofs.Laws.{Bytes, and-split, all-at, length-part}
 use Rattle.octets.proofs.Parts.{same-part}
-use Rattle.sheet.specs.Sheet.{usedWordSize, rowSize, ticksAt, ticksSize}
-use Rattle.sheet.specs.Sheet as New
-use Rattle.sheet.specs.declared.Row.{Row}
-use Rattle.changes.specs.Rows.{table, tickedAt, ticksOf, rowBytes, rowValueAt}
-use Rattle.layout.specs.Layout.{tickBytes, placeBytes}
-use Rattle.layout.proofs.Parts.{number-within}
-use Rattle.layout.proofs.Chunks.{length-table, getD-table, table-is}
-use Rattle.layout.proofs.Ticks.{ticks-bytes}
+use Rattle.ledger_sheet.specs.Sheet.{usedWordSize, rowSize, ticksAt, ticksSize}
+use Rattle.ledger_sheet.specs.Sheet as New
+use Rattle.ledger_sheet.specs.declared.Row.{Row}
+use Rattle.ledger_changes.specs.Rows.{table, tickedAt, ticksOf, rowBytes, rowValueAt}
+use Rattle.ledger_layout.specs.Layout.{tickBytes, placeBytes}
+use Rattle.ledger_layout.proofs.Parts.{number-within}
+use Rattle.ledger_layout.proofs.Chunks.{length-table, getD-table, table-is}
+use Rattle.ledger_layout.proofs.Ticks.{ticks-bytes}
 use Rattle.ledger_convert.specs.Old.{sheetSize, keySize, firstAt, firstSize, rowCount, deskSize, deskCount, openedAt, workedAt, rowAt, deskAt, used, keyAt, firstNumberAt, deskByte, deskRow, isClosed, carries, validKeys, differentKeys, firstNumbers, closedZero, deskMarked, openNames, deskRight, right}
 use Rattle.ledger_convert.specs.Old as Old
 use Rattle.ledger_convert.specs.Convert.{oldTickedAt, oldTicksOf, oldPlaceIn, oldDeskIn, oldBookOf}

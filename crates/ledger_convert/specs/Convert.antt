@@ -5,12 +5,12 @@ use mathlib.Core.Bool.{Bool, cond, _&&_}
 use mathlib.Core.List.{List, [], _∷_}
 use lib.Dec.{eqb, ltb}
 use lib.ListN.{length, getD}
-use Rattle.model.specs.Positions.{rowLength, Positions}
-use Rattle.model.specs.Book.{Place, free, row, Desk, closed, working, Book}
-use Rattle.sheet.specs.Sheet.{sheetSize}
-use Rattle.changes.specs.Rows.{table}
-use Rattle.changes.specs.Bytes.{Outcome}
-use Rattle.layout.specs.Layout.{layout}
+use Rattle.ledger_model.specs.Positions.{rowLength, Positions}
+use Rattle.ledger_model.specs.Book.{Place, free, row, Desk, closed, working, Book}
+use Rattle.ledger_sheet.specs.Sheet.{sheetSize}
+use Rattle.ledger_changes.specs.Rows.{table}
+use Rattle.ledger_changes.specs.Bytes.{Outcome}
+use Rattle.ledger_layout.specs.Layout.{layout}
 use Rattle.ledger_convert.specs.Old.{ticksAt, byteBits, rowCount, openedAt, workedAt, deskCount, rowAt, deskAt, used, keyAt, firstNumberAt, deskRow, isClosed, right}
 
 -- "Position i is bit i mod 8, counted from the lowest, of tick byte i div 8." The old row or copy stands at offset a.

@@ -2,8 +2,8 @@
 use Prim.Native.Nat.{ℕ}
 use mathlib.Core.List.{List}
 use mathlib.Core.Path.{_≡_}
-use Rattle.model.specs.Step.{Call}
-use Rattle.layout.specs.Layout.{bookOf, call, laidOut, onSheet}
+use Rattle.ledger_model.specs.Step.{Call}
+use Rattle.ledger_layout.specs.Layout.{bookOf, call, laidOut, onSheet}
 use Rattle.ledger_convert.specs.Convert.{oldBookOf}
 
 pub record AnswersAsBefore (old new : List ℕ) : Type 0 where

@@ -7,12 +7,12 @@ use mathlib.Core.Path.{_≡_, refl, sym, ap, _∙_, subst}
 use lib.Dec.{lit<, lit≤}
 use lib.ListN.{length, take, drop, length-drop}
 use lib.Seq.{take-add, length-take-le}
-use Rattle.listing.specs.declared.State.{State}
-use Rattle.listing.specs.Text.{heading}
-use Rattle.listing.specs.Listing.{bufferSize}
-use Rattle.listing.specs.Window.{Puts, mostText, Ready, Lists}
-use Rattle.listing.specs.Run.{Run, begins, lists, writes, begun, emptied}
-use Rattle.listing.proofs.Promised.{grown}
+use Rattle.sfdu_listing.specs.declared.State.{State}
+use Rattle.sfdu_listing.specs.Text.{heading}
+use Rattle.sfdu_listing.specs.Listing.{bufferSize}
+use Rattle.sfdu_listing.specs.Window.{Puts, mostText, Ready, Lists}
+use Rattle.sfdu_listing.specs.Run.{Run, begins, lists, writes, begun, emptied}
+use Rattle.sfdu_listing.proofs.Promised.{grown}
 use Rattle.sfdu_list.specs.declared.Piece.{Piece}
 use Rattle.sfdu_list.specs.declared.Turn.{Turn}
 use Rattle.sfdu_list.specs.Turn.{Going, Behind, Stands, Turns, Ends}

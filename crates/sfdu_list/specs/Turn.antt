@@ -5,10 +5,10 @@ use mathlib.Core.Bool.{Bool, true, false}
 use mathlib.Core.List.{List}
 use mathlib.Core.Path.{_≡_}
 use lib.ListN.{length, take}
-use Rattle.listing.specs.declared.State.{State}
-use Rattle.listing.specs.Listing.{bufferSize}
-use Rattle.listing.specs.Window.{mostText}
-use Rattle.listing.specs.Run.{Run}
+use Rattle.sfdu_listing.specs.declared.State.{State}
+use Rattle.sfdu_listing.specs.Listing.{bufferSize}
+use Rattle.sfdu_listing.specs.Window.{mostText}
+use Rattle.sfdu_listing.specs.Run.{Run}
 use Rattle.sfdu_list.specs.declared.Turn.{Turn}
 use Rattle.sfdu_list.specs.declared.Piece.{Piece}
 

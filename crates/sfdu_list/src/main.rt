@@ -3,13 +3,13 @@
 ghost use mathlib.Core.Path.{_≡_};
 ghost use Prim.Native.Nat.{_≤_, _<_};
 ghost use lib.ListN.{length};
-ghost use Rattle.listing.specs.Listing.{bufferSize};
-ghost use Rattle.listing.specs.Run.{emptied};
+ghost use Rattle.sfdu_listing.specs.Listing.{bufferSize};
+ghost use Rattle.sfdu_listing.specs.Run.{emptied};
 ghost use Rattle.sfdu_list.specs.Turn.{Going, Behind, Turns, Ends};
 use libc::STDERR_FILENO;
 use libc::STDIN_FILENO;
 use libc::STDOUT_FILENO;
-use listing::State;
+use sfdu_listing::State;
 
 // Text is written once there is more of it than this: then its buffer has room for that of another window.
 const ENOUGH: usize = 32768;
@@ -57,7 +57,7 @@ fn take_turn(fd: i32, name: &[u8], w: &mut [u8], out: &mut [u8], s: State) -> Tu
             failed: true,
         };
     }
-    let listed = listing::list_piece(w, out, s, piece.got);
+    let listed = sfdu_listing::list_piece(w, out, s, piece.got);
     if listed.text <= ENOUGH {
         return Turn {
             state: listed,
@@ -93,7 +93,7 @@ fn list_stream(fd: i32, name: &[u8], w: &mut [u8], out: &mut [u8]) -> Turn
     requires { ⌜ (length (now w) ≡ bufferSize) × (length (now out) ≡ bufferSize) ⌝ }
     ensures { λ r. ⌜ Ends (now (w .exit)) (now (out .exit)) r ⌝ }
 {
-    let mut s = listing::begin(out);
+    let mut s = sfdu_listing::begin(out);
     let mut turns = TURNS;
     while 0 < turns {
         let t = take_turn(fd, name, w, out, s);

@@ -2,14 +2,14 @@
 use Prim.Native.Nat.{ℕ}
 use mathlib.Core.List.{List, [], _∷_, map}
 use mathlib.Core.Path.{_≡_, refl, ap, _∙_}
-use Rattle.model.specs.Book.{Book, fresh}
-use Rattle.model.specs.Step.{Call, answerWords, step, Entry, _⇒_, run}
-use Rattle.model.specs.WellFormed.{WellFormed}
-use Rattle.model.proofs.Outcome.{outcome}
-use Rattle.model.proofs.WellFormed.{well-formed, fresh-well-formed}
-use Rattle.changes.specs.Bytes.{freshSheet}
-use Rattle.layout.specs.Layout.{layout, call}
-use Rattle.layout.proofs.Sheets.{on-layout, fresh-layout}
+use Rattle.ledger_model.specs.Book.{Book, fresh}
+use Rattle.ledger_model.specs.Step.{Call, answerWords, step, Entry, _⇒_, run}
+use Rattle.ledger_model.specs.WellFormed.{WellFormed}
+use Rattle.ledger_model.proofs.Outcome.{outcome}
+use Rattle.ledger_model.proofs.WellFormed.{well-formed, fresh-well-formed}
+use Rattle.ledger_changes.specs.Bytes.{freshSheet}
+use Rattle.ledger_layout.specs.Layout.{layout, call}
+use Rattle.ledger_layout.proofs.Sheets.{on-layout, fresh-layout}
 use Rattle.worked.specs.Calls.{answersOn, sheetAfter}
 
 abbrev pub wordsIn : Entry → List ℕ

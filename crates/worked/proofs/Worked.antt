@@ -7,23 +7,23 @@ use Rattle.refusals.specs.Judge.{judge}
 use Rattle.octets.specs.Octets.{numberAt, bytesOf, part, put, all, sameAt}
 use Rattle.sfdu.specs.Read.{hasKind, kindOf, labelLength, recordLength, blockType, blockLength, lengthInRange, accepts, readOne, dataPart}
 use Rattle.sfdu_write.specs.Write.{labelBytes, block, primaryBlock, headBytes, recordBytes}
-use Rattle.headers.specs.Words.{number}
-use Rattle.headers.specs.Fields.{signedByte, recordNumber}
+use Rattle.sfdu_headers.specs.Words.{number}
+use Rattle.sfdu_headers.specs.Fields.{signedByte, recordNumber}
 use Rattle.dates.specs.Calendar.{isLeap, yearLength, isYear, isDay}
-use Rattle.headers.specs.Ranges.{isRsrBand, isBand, inRange, judgedBytes, fault}
-use Rattle.headers.specs.Headers.{readHeaders}
+use Rattle.sfdu_headers.specs.Ranges.{isRsrBand, isBand, inRange, judgedBytes, fault}
+use Rattle.sfdu_headers.specs.Headers.{readHeaders}
 use Rattle.keys.specs.Key.{validKey, telemetryKeyCall}
 use Rattle.keys.specs.Numbers.{modulus}
-use Rattle.model.specs.Positions.{position, noTicks, same, size, anyTicked, missing, least}
-use Rattle.model.specs.Positions.{numberAt as numberAtPosition}
-use Rattle.model.specs.Book.{fresh, hasKey, placeWith, allUsed, lowestFree}
-use Rattle.model.specs.Step.{RowReport, Call, Ask, refusals, asked, effect, afterRefusal, step, run}
-use Rattle.model.proofs.WellFormed.{run-well-formed}
-use Rattle.sheet.specs.Sheet.{rowAt, ticksAt}
-use Rattle.changes.specs.Rows.{rowBytes}
-use Rattle.changes.specs.Bytes.{headerBytes}
-use Rattle.layout.specs.Layout.{bitsValue, tickBytes, placeBytes, countUsed, laid, layout, call, onSheet}
-use Rattle.layout.proofs.Sheets.{on-layout}
+use Rattle.ledger_model.specs.Positions.{position, noTicks, same, size, anyTicked, missing, least}
+use Rattle.ledger_model.specs.Positions.{numberAt as numberAtPosition}
+use Rattle.ledger_model.specs.Book.{fresh, hasKey, placeWith, allUsed, lowestFree}
+use Rattle.ledger_model.specs.Step.{RowReport, Call, Ask, refusals, asked, effect, afterRefusal, step, run}
+use Rattle.ledger_model.proofs.WellFormed.{run-well-formed}
+use Rattle.ledger_sheet.specs.Sheet.{rowAt, ticksAt}
+use Rattle.ledger_changes.specs.Rows.{rowBytes}
+use Rattle.ledger_changes.specs.Bytes.{headerBytes}
+use Rattle.ledger_layout.specs.Layout.{bitsValue, tickBytes, placeBytes, countUsed, laid, layout, call, onSheet}
+use Rattle.ledger_layout.proofs.Sheets.{on-layout}
 use Rattle.worked.specs.Worked.{Agree, table, p7, p8-empty, p8, p9-stale, p9, p10, verdicts, reportAfter, tickByteAfter}
 use Rattle.worked.proofs.Sheet.{wordsIn, answers-fresh, after-fresh}
 

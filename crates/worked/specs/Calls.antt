@@ -2,8 +2,8 @@
 -- Assumes nothing.
 use Prim.Native.Nat.{ℕ}
 use mathlib.Core.List.{List, [], _∷_}
-use Rattle.model.specs.Step.{Call}
-use Rattle.layout.specs.Layout.{call, onSheet}
+use Rattle.ledger_model.specs.Step.{Call}
+use Rattle.ledger_layout.specs.Layout.{call, onSheet}
 
 -- The words that the calls answer.
 unfoldable pub answersOn : List Call → List ℕ → List (List ℕ)

@@ -7,14 +7,14 @@ use lib.IntN.{pos, negsuc}
 use lib.ListN.{length, getD, take, drop}
 use Rattle.sfdu.specs.declared.Kind.the-variants.{Telemetry, Rsr}
 use Rattle.sfdu.specs.Read.{readOne, dataPart}
-use Rattle.headers.specs.Words.{Word, number, signed}
-use Rattle.headers.specs.Headers.{readHeaders}
+use Rattle.sfdu_headers.specs.Words.{Word, number, signed}
+use Rattle.sfdu_headers.specs.Headers.{readHeaders}
 use Rattle.keys.specs.Key.{telemetryKeyCall}
-use Rattle.model.specs.Positions.{position}
-use Rattle.model.specs.Step.{Call, Enrol, Ask, RowReport, Open, Tick, Untick, Save}
-use Rattle.sheet.specs.Sheet.{rowAt, ticksAt}
-use Rattle.changes.specs.Bytes.{freshSheet}
-use Rattle.layout.specs.Layout.{call, onSheet}
+use Rattle.ledger_model.specs.Positions.{position}
+use Rattle.ledger_model.specs.Step.{Call, Enrol, Ask, RowReport, Open, Tick, Untick, Save}
+use Rattle.ledger_sheet.specs.Sheet.{rowAt, ticksAt}
+use Rattle.ledger_changes.specs.Bytes.{freshSheet}
+use Rattle.ledger_layout.specs.Layout.{call, onSheet}
 use Rattle.worked.specs.Calls.{answersOn, sheetAfter}
 use Rattle.worked.specs.Records.{plain, relabelled, p4, p6}
 

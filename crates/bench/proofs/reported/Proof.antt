@@ -2,7 +2,7 @@
 use mathlib.Core.Path.{ap, sym, _∙_}
 use borrow.Author.Tests.{ne-eqb}
 use Rattle.refusals.proofs.Laws.{number-positive}
-use Rattle.sheet.specs.Words.{reportAnswerWords}
+use Rattle.ledger_sheet.specs.Words.{reportAnswerWords}
 use Rattle.bench.specs.Digest.{counts}
 use borrow.Author.Needs.{needs}
 use Rattle.bench.proofs.reported.Statement.{statement}

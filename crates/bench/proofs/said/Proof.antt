@@ -2,7 +2,7 @@
 use Prim.Native.Nat.{ℕ}
 use mathlib.Core.List.{[], _∷_}
 use mathlib.Core.Path.{ap, sym, _∙_}
-use Rattle.sheet.specs.Words.{answerWords}
+use Rattle.ledger_sheet.specs.Words.{answerWords}
 use borrow.Author.Needs.{needs}
 use Rattle.bench.proofs.said.Statement.{statement}
 use Rattle.bench.proofs.said.Tie as tie

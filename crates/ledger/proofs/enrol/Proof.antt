@@ -1,6 +1,6 @@
 -- `enrol` meets its contract. Assumes nothing.
-use Rattle.model.specs.Step.{Enrol}
-use Rattle.verdicts.proofs.Judged.{refused-is, accepted-is, enrol-fine}
+use Rattle.ledger_model.specs.Step.{Enrol}
+use Rattle.ledger_verdicts.proofs.Judged.{refused-is, accepted-is, enrol-fine}
 use Rattle.ledger.proofs.Calls.{by-rows}
 use borrow.Author.Needs.{needs}
 use Rattle.ledger.proofs.enrol.Statement.{statement}

@@ -1,7 +1,7 @@
 -- `find` meets its contract. Assumes nothing.
 use native.Mathlib.Omega.{arith}
-use Rattle.model.specs.Step.{Ask, Find}
-use Rattle.verdicts.proofs.Judged.{refused-is, accepted-is, find-fine}
+use Rattle.ledger_model.specs.Step.{Ask, Find}
+use Rattle.ledger_verdicts.proofs.Judged.{refused-is, accepted-is, find-fine}
 use Rattle.ledger.proofs.Calls.{by-rows}
 use borrow.Author.Needs.{needs}
 use Rattle.ledger.proofs.find.Statement.{statement}

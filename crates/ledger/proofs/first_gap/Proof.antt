@@ -1,7 +1,7 @@
 -- `first_gap` meets its contract. Assumes nothing.
 use mathlib.Core.Path.{ap, _∙_}
 use Rattle.octets.proofs.Laws.{failed, passed}
-use Rattle.sheet.proofs.Clauses.{right-parts}
+use Rattle.ledger_sheet.proofs.Clauses.{right-parts}
 use Rattle.ledger.proofs.Calls.{gap-not-right, gap-right}
 use borrow.Author.Needs.{needs}
 use Rattle.ledger.proofs.first_gap.Statement.{statement}

@@ -2,9 +2,9 @@
 use native.Mathlib.Omega.{arith}
 use lib.ListN.{length}
 use borrow.Author.Tests.{eq-eqb, ne-eqb}
-use Rattle.sheet.specs.Sheet.{sheetSize}
-use Rattle.layout.specs.Layout.{freshOn}
-use Rattle.layout.proofs.Sheets.{fresh-layout}
+use Rattle.ledger_sheet.specs.Sheet.{sheetSize}
+use Rattle.ledger_layout.specs.Layout.{freshOn}
+use Rattle.ledger_layout.proofs.Sheets.{fresh-layout}
 use borrow.Author.Needs.{needs}
 use Rattle.ledger.proofs.fresh.Statement.{statement}
 use Rattle.ledger.proofs.fresh.Tie as tie

@@ -1,7 +1,7 @@
 -- `mark` meets its contract. Assumes nothing.
 use mathlib.Core.Path.{_∙_}
-use Rattle.model.specs.Step.{Mark}
-use Rattle.verdicts.proofs.Judged.{refused-is, accepted-is, desk-fine}
+use Rattle.ledger_model.specs.Step.{Mark}
+use Rattle.ledger_verdicts.proofs.Judged.{refused-is, accepted-is, desk-fine}
 use Rattle.ledger.proofs.Calls.{by-rows}
 use borrow.Author.Needs.{needs}
 use Rattle.ledger.proofs.mark.Statement.{statement}

@@ -1,9 +1,9 @@
 -- `open` meets its contract. Assumes nothing.
 use native.Mathlib.Omega.{arith}
 use mathlib.Core.Path.{ap, _∙_}
-use Rattle.changes.specs.Bytes.{done}
-use Rattle.model.specs.Step.{Open}
-use Rattle.verdicts.proofs.Judged.{refused-is, accepted-is, open-fine}
+use Rattle.ledger_changes.specs.Bytes.{done}
+use Rattle.ledger_model.specs.Step.{Open}
+use Rattle.ledger_verdicts.proofs.Judged.{refused-is, accepted-is, open-fine}
 use Rattle.ledger.proofs.Calls.{by-rows}
 use borrow.Author.Needs.{needs}
 use Rattle.ledger.proofs.open.Statement.{statement}

@@ -1,8 +1,8 @@
 -- `row_report` meets its contract. Assumes nothing.
 use native.Mathlib.Omega.{arith}
 use mathlib.Core.Path.{ap, _∙_}
-use Rattle.model.specs.Step.{Ask, RowReport}
-use Rattle.verdicts.proofs.Judged.{refused-is, accepted-is, report-fine}
+use Rattle.ledger_model.specs.Step.{Ask, RowReport}
+use Rattle.ledger_verdicts.proofs.Judged.{refused-is, accepted-is, report-fine}
 use Rattle.ledger.proofs.Calls.{by-rows}
 use borrow.Author.Needs.{needs}
 use Rattle.ledger.proofs.row_report.Statement.{statement}

@@ -1,9 +1,9 @@
 -- `strike` meets its contract. Assumes nothing.
 use native.Mathlib.Omega.{arith}
 use mathlib.Core.Path.{ap, _∙_}
-use Rattle.changes.specs.Bytes.{done}
-use Rattle.model.specs.Step.{Strike}
-use Rattle.verdicts.proofs.Judged.{refused-is, accepted-is, strike-fine}
+use Rattle.ledger_changes.specs.Bytes.{done}
+use Rattle.ledger_model.specs.Step.{Strike}
+use Rattle.ledger_verdicts.proofs.Judged.{refused-is, accepted-is, strike-fine}
 use Rattle.ledger.proofs.Calls.{by-rows}
 use borrow.Author.Needs.{needs}
 use Rattle.ledger.proofs.strike.Statement.{statement}

@@ -4,7 +4,7 @@ use mathlib.Core.Path.{_≡_}
 use mathlib.Core.Logic.{⊎-elim}
 use native.Mathlib.Omega.{arith}
 use borrow.Author.Tests.{eq-eqb, ne-eqb}
-use Rattle.sheet.specs.Sheet.{usedWordSize, rowCount, deskCount, openedAt}
+use Rattle.ledger_sheet.specs.Sheet.{usedWordSize, rowCount, deskCount, openedAt}
 use Rattle.ledger_convert.specs.Old as Old
 use Rattle.ledger_convert.specs.Laid.{Laid}
 use Rattle.ledger_convert.proofs.Read.{long, value-ticks}

@@ -2,7 +2,7 @@
 use Prim.Native.Nat.{_≤_, _-_, _*_, _+_}
 use mathlib.Core.Path.{_≡_}
 use native.Mathlib.Omega.{arith}
-use Rattle.sheet.specs.Sheet.{usedWordSize, rowsStart}
+use Rattle.ledger_sheet.specs.Sheet.{usedWordSize, rowsStart}
 use Rattle.ledger_convert.specs.Old as Old
 use Rattle.ledger_convert.specs.Laid.{Laid}
 use Rattle.ledger_convert.proofs.Read.{few, long, value-ticks}

@@ -2,7 +2,7 @@
 -- measure is the number of turns that are left. Assumes nothing.
 use borrow.Author.Needs.{needs}
 use lib.Dec.{lit≤}
-use Rattle.listing.specs.Text.{heading}
+use Rattle.sfdu_listing.specs.Text.{heading}
 use Rattle.sfdu_list.proofs.Onward.{Round, round-begins, round-going, round-goes, round-ends, round-gives-up}
 use Rattle.sfdu_list.proofs.list_stream.Statement.{statement}
 use Rattle.sfdu_list.proofs.list_stream.Tie as tie

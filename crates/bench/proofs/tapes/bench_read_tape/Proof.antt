@@ -2,7 +2,7 @@
 use Prim.Native.Nat.{ℕ}
 use mathlib.Core.List.{List, map}
 use mathlib.Core.Path.{sym, ap, _∙_}
-use Rattle.headers.specs.Words.{number}
+use Rattle.sfdu_headers.specs.Words.{number}
 use Rattle.idr.specs.Read.{wordsOf}
 use Rattle.bench.specs.Digest.{digest}
 use borrow.Author.Needs.{needs}

@@ -1,7 +1,7 @@
 -- `bench::tapes::counted` meets its contract. Assumes nothing.
 use mathlib.Core.List.{map}
 use mathlib.Core.Path.{sym, ap}
-use Rattle.headers.specs.Words.{number}
+use Rattle.sfdu_headers.specs.Words.{number}
 use Rattle.idr.specs.declared.Count.{Count}
 use Rattle.idr.specs.Read.{countWords}
 use Rattle.bench.specs.Digest.{digest}

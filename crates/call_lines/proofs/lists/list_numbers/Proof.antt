@@ -1,0 +1,103 @@
+-- `call_lines::lists::list_numbers` is safe. Assumes nothing.
+use mathlib.Core.Path.{sym}
+use lib.Seq.{length-take-le}
+use borrow.Author.Needs.{needs}
+use Rattle.call_lines.proofs.lists.list_numbers.Statement.{statement}
+use Rattle.call_lines.proofs.lists.list_numbers.Tie as tie
+
+cast-x : tie.Need-cast-x
+cast-x c = search needs
+
+cast-y : tie.Need-cast-y
+cast-y c = search needs
+
+cast-z : tie.Need-cast-z
+cast-z c = search needs
+
+cast-w : tie.Need-cast-w
+cast-w c = search needs
+
+empty-requires : tie.Need-empty-requires
+empty-requires c κs = search needs
+
+returns : tie.Need-returns
+returns c = search needs
+
+array-borrow-prefix-places : tie.Need-array-borrow-prefix-places
+array-borrow-prefix-places c = search needs
+
+slice-aggregate-list-numbers : tie.Need-slice-aggregate-list-numbers
+slice-aggregate-list-numbers c = sym (length-take-le _ _ (array-borrow-prefix-places (c .before)))
+
+array-borrow-prefix-lengths : tie.Need-array-borrow-prefix-lengths
+array-borrow-prefix-lengths c = search needs
+
+slice-aggregate-list-numbers-2 : tie.Need-slice-aggregate-list-numbers-2
+slice-aggregate-list-numbers-2 c = sym (length-take-le _ _ (array-borrow-prefix-lengths (c .before)))
+
+array-borrow-prefix-kinds : tie.Need-array-borrow-prefix-kinds
+array-borrow-prefix-kinds c = search needs
+
+slice-aggregate-list-numbers-3 : tie.Need-slice-aggregate-list-numbers-3
+slice-aggregate-list-numbers-3 c = sym (length-take-le _ _ (array-borrow-prefix-kinds (c .before)))
+
+array-borrow-prefix-numbers : tie.Need-array-borrow-prefix-numbers
+array-borrow-prefix-numbers c = search needs
+
+slice-aggregate-list-numbers-4 : tie.Need-slice-aggregate-list-numbers-4
+slice-aggregate-list-numbers-4 c = sym (length-take-le _ _ (array-borrow-prefix-numbers (c .before)))
+
+list-numbers-requires : tie.Need-list-numbers-requires
+list-numbers-requires c κs = search needs
+
+stopped-requires : tie.Need-stopped-requires
+stopped-requires c κs = search needs
+
+list-requires : tie.Need-list-requires
+list-requires c κs = search needs
+
+list-requires-2 : tie.Need-list-requires-2
+list-requires-2 c κs = search needs
+
+wide-list-requires : tie.Need-wide-list-requires
+wide-list-requires c κs = search needs
+
+list-requires-3 : tie.Need-list-requires-3
+list-requires-3 c κs = search needs
+
+wide-list-requires-2 : tie.Need-wide-list-requires-2
+wide-list-requires-2 c κs = search needs
+
+list-requires-4 : tie.Need-list-requires-4
+list-requires-4 c κs = search needs
+
+returns-2 : tie.Need-returns-2
+returns-2 c = search needs
+
+pub list-numbers-spec : {M : Type 1} → statement M
+list-numbers-spec =
+    tie.close
+    (tie.spec
+    cast-x
+    cast-y
+    cast-z
+    cast-w
+    empty-requires
+    returns
+    array-borrow-prefix-places
+    slice-aggregate-list-numbers
+    array-borrow-prefix-lengths
+    slice-aggregate-list-numbers-2
+    array-borrow-prefix-kinds
+    slice-aggregate-list-numbers-3
+    array-borrow-prefix-numbers
+    slice-aggregate-list-numbers-4
+    list-numbers-requires
+    stopped-requires
+    list-requires
+    list-requires-2
+    wide-list-requires
+    list-requires-3
+    wide-list-requires-2
+    list-requires-4
+    returns-2)

@@ -1,0 +1,58 @@
+-- `rows::find_row` meets its contract. The invariant: none of the first i rows has the key. Assumes nothing.
+use Prim.Native.Nat.{_≤_, _-_}
+use mathlib.Core.Path.{_≡_, sym, _∙_}
+use native.Mathlib.Omega.{arith}
+use Rattle.ledger_sheet.specs.Sheet.{rowCount}
+use Rattle.ledger_changes.specs.Bytes.{isRowOf, rowWith}
+use Rattle.ledger_changes.proofs.Scans.{Fails, each-none, each-more, lowest-here, lowest-none}
+use Rattle.ledger_changes.proofs.rows.find_row.Statement.{statement}
+use Rattle.ledger_changes.proofs.rows.find_row.Tie as tie
+
+abbrev Inv-loop : tie.InvT-loop
+Inv-loop s key i₀ i = (i ≤ rowCount) × Fails (isRowOf s key) i
+
+abbrev μ-loop : tie.MeasureT-loop
+μ-loop s key i₀ i = rowCount - i
+
+loop-holds : tie.Need-loop-holds Inv-loop μ-loop
+loop-holds c = (omega arith, each-none _ _)
+
+is-row-of-requires : tie.Need-is-row-of-requires Inv-loop μ-loop
+is-row-of-requires c κs = omega arith
+
+returns : tie.Need-returns Inv-loop μ-loop
+unfolding rowWith
+returns c =
+    let at = c .before .before .before .loop in
+    sym (lowest-here _ (at .i) _ (omega arith) (at .inv .1) (sym (c .before .is-row-of .ensures) ∙ c .if1 .taken))
+
+add-i : tie.Need-add-i Inv-loop μ-loop
+add-i c = omega arith
+
+loop-less : tie.Need-loop-less Inv-loop μ-loop
+loop-less c = omega arith
+
+loop-again : tie.Need-loop-again Inv-loop μ-loop
+loop-again c =
+    let at = c .before .before .before .loop in
+    (omega arith, each-more _ _ (at .i) (at .inv .1) (sym (c .before .is-row-of .ensures) ∙ c .if1 .left))
+
+returns-2 : tie.Need-returns-2 Inv-loop μ-loop
+unfolding rowWith
+returns-2 c =
+    let e : c .before .loop .i ≡ rowCount = omega arith in
+    sym (lowest-none _ _ (rw e at (c .before .loop .inv .1)))
+
+pub find-row-spec : {M : Type 1} → statement M
+find-row-spec =
+    tie.close
+    (tie.spec
+    Inv-loop
+    μ-loop
+    loop-holds
+    is-row-of-requires
+    returns
+    add-i
+    loop-less
+    loop-again
+    returns-2)

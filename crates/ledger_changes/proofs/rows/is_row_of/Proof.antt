@@ -1,0 +1,30 @@
+-- `rows::is_row_of` meets its contract. Assumes nothing.
+use Rattle.octets.proofs.Laws.{failed, passed}
+use Rattle.ledger_changes.specs.Bytes.{isRowOf}
+use borrow.Author.Needs.{needs}
+use Rattle.ledger_changes.proofs.rows.is_row_of.Statement.{statement}
+use Rattle.ledger_changes.proofs.rows.is_row_of.Tie as tie
+
+is-used-requires : tie.Need-is-used-requires
+is-used-requires c κs = search needs
+
+returns : tie.Need-returns
+unfolding isRowOf
+returns c = rw (failed (c .before .is-used .ensures) (c .if1 .taken))
+
+mul-key-at : tie.Need-mul-key-at
+mul-key-at c = search needs
+
+add-key-at : tie.Need-add-key-at
+add-key-at c = search needs
+
+key-at-requires : tie.Need-key-at-requires
+key-at-requires c κs = search needs
+
+returns-2 : tie.Need-returns-2
+unfolding isRowOf
+returns-2 c = rw (passed (c .before .before .is-used .ensures) (c .before .if1 .left), c .key-at .ensures)
+
+pub is-row-of-spec : {M : Type 1} → statement M
+is-row-of-spec =
+    tie.close (tie.spec is-used-requires returns mul-key-at add-key-at key-at-requires returns-2)

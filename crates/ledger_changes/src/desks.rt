@@ -1,0 +1,141 @@
+// Desks, and the sheet as a whole: made fresh, opened, saved, cleared.
+use ledger_sheet::Answer;
+use ledger_sheet::CLOSED;
+use ledger_sheet::DESK;
+use ledger_sheet::DESK_COUNT_AT;
+use ledger_sheet::DESK_ROW_AT;
+use ledger_sheet::DESK_ZEROS;
+use ledger_sheet::DESK_ZEROS_AT;
+use ledger_sheet::DESKS;
+use ledger_sheet::DESKS_AT;
+use ledger_sheet::DESKS_START_AT;
+use ledger_sheet::LENGTH_AT;
+use ledger_sheet::NUMBER;
+use ledger_sheet::OPEN;
+use ledger_sheet::OPENED_AT;
+use ledger_sheet::ROW;
+use ledger_sheet::ROW_COUNT_AT;
+use ledger_sheet::ROWS;
+use ledger_sheet::ROWS_AT;
+use ledger_sheet::ROWS_START_AT;
+use ledger_sheet::SHEET;
+use ledger_sheet::USED_AT;
+use ledger_sheet::WORKED_AT;
+use octets::clear;
+use octets::copy;
+use octets::is_same;
+use octets::write_be;
+use refusals::Refusal;
+ghost use mathlib.Core.Path.{_≡_};
+ghost use Prim.Native.Nat.{_+_, _≤_, _<_};
+ghost use lib.ListN.{length};
+ghost use Rattle.octets.specs.Octets.{put};
+ghost use Rattle.ledger_sheet.specs.Sheet.{sheetSize, rowsStart, rowCount, deskCount, deskRow, isClosed};
+ghost use Rattle.ledger_changes.specs.Bytes.{headerBytes, freshSheet, noneHasOpen, openAt, clearDesk, isCurrent, stored, saveAt};
+ghost use Rattle.ledger_sheet.specs.Words.{answerWords};
+
+// Makes a slice of a sheet's length a fresh sheet.
+pub fn make_fresh(s: &mut [u8])
+    requires { ⌜ length (now s) ≡ sheetSize ⌝ }
+    ensures { λ _. ⌜ now (s .exit) ≡ freshSheet ⌝ }
+{
+    write_header(s, 0);
+    clear(s, ROWS_AT, SHEET - ROWS_AT);
+}
+
+// Writes the header of a sheet with so many rows used.
+fn write_header(s: &mut [u8], used: u64)
+    requires { ⌜ rowsStart ≤ length (now s) ⌝ }
+    ensures { λ _. ⌜ now (s .exit) ≡ put (now (s .entry)) 0 (headerBytes used) ⌝ }
+{
+    write_be(s, LENGTH_AT, NUMBER, SHEET as u64);
+    write_be(s, USED_AT, NUMBER, used);
+    write_be(s, ROW_COUNT_AT, NUMBER, ROWS as u64);
+    write_be(s, ROWS_START_AT, NUMBER, ROWS_AT as u64);
+    write_be(s, DESK_COUNT_AT, NUMBER, DESKS as u64);
+    write_be(s, DESKS_START_AT, NUMBER, DESKS_AT as u64);
+}
+
+// Whether desk d is closed.
+pub fn is_closed(s: &[u8], d: usize) -> bool
+    requires { ⌜ (length (now s) ≡ sheetSize) × (d < deskCount) ⌝ }
+    ensures { λ r. ⌜ r ≡ isClosed (now (s .entry)) d ⌝ }
+{
+    s[DESKS_AT + DESK * d] == CLOSED
+}
+
+// Whether no desk has the row open.
+pub fn is_idle(s: &[u8], row: usize) -> bool
+    requires { ⌜ length (now s) ≡ sheetSize ⌝ }
+    ensures { λ r. ⌜ r ≡ noneHasOpen (now (s .entry)) row ⌝ }
+{
+    let mut idle = true;
+    for d in 0..DESKS {
+        idle &= is_closed(s, d) | (desk_row(s, d) != row);
+    }
+    idle
+}
+
+// The row that desk d names.
+fn desk_row(s: &[u8], d: usize) -> usize
+    requires { ⌜ (length (now s) ≡ sheetSize) × (d < deskCount) ⌝ }
+    ensures { λ r. ⌜ r ≡ deskRow (now (s .entry)) d ⌝ }
+{
+    s[DESKS_AT + DESK * d + DESK_ROW_AT] as usize
+}
+
+// Opens a row at desk d: both copies become the row.
+pub fn open_desk(s: &mut [u8], d: usize, row: usize)
+    requires { ⌜ (length (now s) ≡ sheetSize) × (d < deskCount) × (row < rowCount) ⌝ }
+    ensures { λ _. ⌜ now (s .exit) ≡ openAt d row (now (s .entry)) ⌝ }
+{
+    let a = DESKS_AT + DESK * d;
+    let from = ROWS_AT + ROW * row;
+    s[a] = OPEN;
+    s[a + DESK_ROW_AT] = row as u8;
+    clear(s, a + DESK_ZEROS_AT, DESK_ZEROS);
+    copy(s, from, a + OPENED_AT, ROW);
+    copy(s, from, a + WORKED_AT, ROW);
+}
+
+// Clears desk d.
+pub fn clear_desk(s: &mut [u8], d: usize)
+    requires { ⌜ (length (now s) ≡ sheetSize) × (d < deskCount) ⌝ }
+    ensures { λ _. ⌜ now (s .exit) ≡ clearDesk d (now (s .entry)) ⌝ }
+{
+    clear(s, DESKS_AT + DESK * d, DESK);
+}
+
+// Saves desk d: where its row is still as it was opened, the worked copy becomes the row; the desk is cleared.
+pub fn save_desk(s: &mut [u8], d: usize) -> Answer
+    requires { ⌜ (length (now s) ≡ sheetSize) × (d < deskCount) × (deskRow (now s) d < rowCount) ⌝ }
+    ensures { λ r. ⌜ (answerWords r, now (s .exit)) ≡ saveAt d (now (s .entry)) ⌝ }
+{
+    if !is_current(s, d) {
+        clear_desk(s, d);
+        return Answer::Refused(Refusal::Stale);
+    }
+    store(s, d);
+    clear_desk(s, d);
+    Answer::Done
+}
+
+// Whether the row that desk d has open equals the opened copy.
+fn is_current(s: &[u8], d: usize) -> bool
+    requires { ⌜ (length (now s) ≡ sheetSize) × (d < deskCount) × (deskRow (now s) d < rowCount) ⌝ }
+    ensures { λ r. ⌜ r ≡ isCurrent d (now (s .entry)) ⌝ }
+{
+    let a = DESKS_AT + DESK * d;
+    let row = s[a + DESK_ROW_AT] as usize;
+    is_same(s, ROWS_AT + ROW * row, s, a + OPENED_AT, ROW)
+}
+
+// The row that desk d has open becomes the worked copy.
+fn store(s: &mut [u8], d: usize)
+    requires { ⌜ (length (now s) ≡ sheetSize) × (d < deskCount) × (deskRow (now s) d < rowCount) ⌝ }
+    ensures { λ _. ⌜ now (s .exit) ≡ stored d (now (s .entry)) ⌝ }
+{
+    let a = DESKS_AT + DESK * d;
+    let row = s[a + DESK_ROW_AT] as usize;
+    copy(s, a + WORKED_AT, ROWS_AT + ROW * row, ROW);
+}

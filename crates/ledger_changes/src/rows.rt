@@ -1,0 +1,149 @@
+// Rows: as values, by their key, enrolled and struck.
+use ledger_sheet::FIRST;
+use ledger_sheet::FIRST_AT;
+use ledger_sheet::KEY;
+use ledger_sheet::KEY_AT;
+use ledger_sheet::NUMBER;
+use ledger_sheet::ROW;
+use ledger_sheet::ROWS;
+use ledger_sheet::ROWS_AT;
+use ledger_sheet::Row;
+use ledger_sheet::TICKS;
+use ledger_sheet::TICKS_AT;
+use ledger_sheet::USED;
+use ledger_sheet::USED_AT;
+use ledger_sheet::USED_WORD;
+use ledger_sheet::right::first_at;
+use ledger_sheet::right::is_used;
+use ledger_sheet::right::key_at;
+use ledger_sheet::right::rows_used;
+use octets::clear;
+use octets::write_be;
+ghost use mathlib.Core.Path.{_≡_};
+ghost use Prim.Native.Nat.{_+_, _≤_, _<_};
+ghost use lib.ListN.{length};
+ghost use Rattle.octets.specs.Octets.{part, put};
+ghost use Rattle.ledger_sheet.specs.Sheet.{sheetSize, rowSize, rowCount, ticksSize, used};
+ghost use Rattle.ledger_changes.specs.Rows.{rowBytes, rowValueAt, blankRow};
+ghost use Rattle.ledger_changes.specs.Bytes.{isRowOf, rowWith, hasKey, freeRow, enrolAt, strikeAt};
+
+// A row with no ticks: the blank map is an array of zeros.
+pub fn blank_row(key: u64, first: u32) -> Row
+    ensures { λ r. ⌜ r ≡ blankRow key first ⌝ }
+{
+    Row {
+        key,
+        first,
+        ticks: [0; TICKS],
+    }
+}
+
+// The row or the copy at offset a, as a value.
+pub fn read_row(s: &[u8], a: usize) -> Row
+    requires { ⌜ a + rowSize ≤ length (now s) ⌝ }
+    ensures { λ r. ⌜ r ≡ rowValueAt (now (s .entry)) a ⌝ }
+{
+    let key = key_at(s, a);
+    let first = first_at(s, a);
+    let ticks = read_ticks(s, a + TICKS_AT);
+    Row { key, first, ticks }
+}
+
+fn read_ticks(s: &[u8], a: usize) -> [u8; TICKS]
+    requires { ⌜ a + ticksSize ≤ length (now s) ⌝ }
+    ensures { λ r. ⌜ r ≡ part (now (s .entry)) a ticksSize ⌝ }
+{
+    let mut ticks = [0u8; TICKS];
+    for i in 0..TICKS {
+        ticks[i] = s[a + i];
+    }
+    ticks
+}
+
+// Writes a row at offset a.
+pub fn write_row(s: &mut [u8], a: usize, row: Row)
+    requires { ⌜ (a + rowSize ≤ length (now s)) × (length (row .ticks) ≡ ticksSize) ⌝ }
+    ensures { λ _. ⌜ now (s .exit) ≡ put (now (s .entry)) a (rowBytes (row .key) (row .first) (row .ticks)) ⌝ }
+{
+    let ticks = row.ticks;
+    write_be(s, a, USED_WORD, USED);
+    write_be(s, a + KEY_AT, KEY, row.key);
+    write_be(s, a + FIRST_AT, FIRST, row.first as u64);
+    write_ticks(s, a + TICKS_AT, &ticks);
+}
+
+fn write_ticks(s: &mut [u8], a: usize, ticks: &[u8])
+    requires { ⌜ (a + ticksSize ≤ length (now s)) × (length (now ticks) ≡ ticksSize) ⌝ }
+    ensures { λ _. ⌜ now (s .exit) ≡ put (now (s .entry)) a (now (ticks .entry)) ⌝ }
+{
+    for i in 0..TICKS {
+        s[a + i] = ticks[i];
+    }
+}
+
+// The used row with the key, or 32 where there is none.
+pub fn find_row(s: &[u8], key: u64) -> usize
+    requires { ⌜ length (now s) ≡ sheetSize ⌝ }
+    ensures { λ r. ⌜ r ≡ rowWith (now (s .entry)) key ⌝ }
+{
+    for i in 0..ROWS {
+        if is_row_of(s, key, i) {
+            return i;
+        }
+    }
+    ROWS
+}
+
+// Whether row i is used and has the key.
+fn is_row_of(s: &[u8], key: u64, i: usize) -> bool
+    requires { ⌜ (length (now s) ≡ sheetSize) × (i < rowCount) ⌝ }
+    ensures { λ r. ⌜ r ≡ isRowOf (now (s .entry)) key i ⌝ }
+{
+    if !is_used(s, i) {
+        return false;
+    }
+    key_at(s, ROWS_AT + ROW * i) == key
+}
+
+// Whether a used row has the key.
+pub fn has_key(s: &[u8], key: u64) -> bool
+    requires { ⌜ length (now s) ≡ sheetSize ⌝ }
+    ensures { λ r. ⌜ r ≡ hasKey (now (s .entry)) key ⌝ }
+{
+    find_row(s, key) < ROWS
+}
+
+// The lowest free row, or 32 where there is none.
+pub fn free_row(s: &[u8]) -> usize
+    requires { ⌜ length (now s) ≡ sheetSize ⌝ }
+    ensures { λ r. ⌜ r ≡ freeRow (now (s .entry)) ⌝ }
+{
+    for i in 0..ROWS {
+        if !is_used(s, i) {
+            return i;
+        }
+    }
+    ROWS
+}
+
+// Enrols a stream in the lowest free row, and answers the row.
+pub fn enrol_row(s: &mut [u8], key: u64, first: u32) -> u32
+    requires { ⌜ (length (now s) ≡ sheetSize) × (freeRow (now s) < rowCount) ⌝ }
+    ensures { λ r. ⌜ (r ≡ freeRow (now (s .entry))) × (now (s .exit) ≡ enrolAt (freeRow (now (s .entry))) key first (now (s .entry))) ⌝ }
+{
+    let row = free_row(s);
+    let used = rows_used(s) as u64;
+    write_row(s, ROWS_AT + ROW * row, blank_row(key, first));
+    write_be(s, USED_AT, NUMBER, used + 1);
+    row as u32
+}
+
+// Strikes a row: it is all zero, and the header counts one less.
+pub fn strike_row(s: &mut [u8], row: usize)
+    requires { ⌜ (length (now s) ≡ sheetSize) × (row < rowCount) × (0 < used (now s)) ⌝ }
+    ensures { λ _. ⌜ now (s .exit) ≡ strikeAt row (now (s .entry)) ⌝ }
+{
+    let used = rows_used(s) as u64;
+    clear(s, ROWS_AT + ROW * row, ROW);
+    write_be(s, USED_AT, NUMBER, used - 1);
+}

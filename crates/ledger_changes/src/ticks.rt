@@ -1,0 +1,83 @@
+// Ticks in a row or a desk's copy of one.
+use ledger_sheet::Answer;
+use ledger_sheet::BYTE_BITS;
+use ledger_sheet::DESK;
+use ledger_sheet::DESKS_AT;
+use ledger_sheet::ROW;
+use ledger_sheet::TICKS;
+use ledger_sheet::TICKS_AT;
+use ledger_sheet::WORKED_AT;
+use ledger_sheet::right::first_at;
+use ledger_sheet::right::key_at;
+use refusals::Refusal;
+ghost use mathlib.Core.Path.{_≡_};
+ghost use Prim.Native.Nat.{_+_, _≤_, _<_, _^_};
+ghost use lib.ListN.{length};
+ghost use Rattle.ledger_model.specs.Positions.{rowLength};
+ghost use Rattle.ledger_sheet.specs.Sheet.{sheetSize, rowSize, byteBits, deskCount};
+ghost use Rattle.ledger_changes.specs.Rows.{tickedAt};
+ghost use Rattle.ledger_changes.specs.Bytes.{markRow, markPosition, markDesk};
+ghost use Rattle.ledger_sheet.specs.Words.{answerWords};
+
+// How many positions a row has.
+pub const POSITIONS: usize = BYTE_BITS * TICKS;
+
+// Ticks or unticks number n in the worked copy of desk d, which is lent on as that middle part of the sheet.
+pub fn mark_desk(s: &mut [u8], d: usize, n: u32, on: bool) -> Answer
+    requires { ⌜ (length (now s) ≡ sheetSize) × (d < deskCount) ⌝ }
+    ensures { λ r. ⌜ (answerWords r, now (s .exit)) ≡ markDesk on d n (now (s .entry)) ⌝ }
+{
+    let a = DESKS_AT + DESK * d + WORKED_AT;
+    let e = a + ROW;
+    mark_row(&mut s[a..e], n, on)
+}
+
+// Ticks or unticks number n in a row.
+fn mark_row(row: &mut [u8], n: u32, on: bool) -> Answer
+    requires { ⌜ length (now row) ≡ rowSize ⌝ }
+    ensures { λ r. ⌜ (answerWords r, now (row .exit)) ≡ markRow on n (now (row .entry)) ⌝ }
+{
+    let key = key_at(row, 0);
+    let first = first_at(row, 0);
+    mark_position(row, ledger_model::position(key, first, n) as usize, on)
+}
+
+// Ticks or unticks position i in a row.
+fn mark_position(row: &mut [u8], i: usize, on: bool) -> Answer
+    requires { ⌜ length (now row) ≡ rowSize ⌝ }
+    ensures { λ r. ⌜ (answerWords r, now (row .exit)) ≡ markPosition on i (now (row .entry)) ⌝ }
+{
+    if i >= POSITIONS {
+        return Answer::Refused(Refusal::OutsideRow);
+    }
+    let ticked = is_ticked(row, 0, i);
+    let at = TICKS_AT + i / BYTE_BITS;
+    let bit = tick_bit(i % BYTE_BITS);
+    if on {
+        if ticked {
+            return Answer::Refused(Refusal::AlreadyTicked);
+        }
+        row[at] += bit;
+        return Answer::Done;
+    }
+    if !ticked {
+        return Answer::Refused(Refusal::NotTicked);
+    }
+    row[at] -= bit;
+    Answer::Done
+}
+
+// Whether position i of the row or the copy at offset a is ticked.
+pub fn is_ticked(s: &[u8], a: usize, i: usize) -> bool
+    requires { ⌜ (a + rowSize ≤ length (now s)) × (i < rowLength) ⌝ }
+    ensures { λ r. ⌜ r ≡ tickedAt (now (s .entry)) a i ⌝ }
+{
+    s[a + TICKS_AT + i / BYTE_BITS] / tick_bit(i % BYTE_BITS) % 2 == 1
+}
+
+fn tick_bit(k: usize) -> u8
+    requires { ⌜ k < byteBits ⌝ }
+    ensures { λ r. ⌜ r ≡ 2 ^ k ⌝ }
+{
+    1u8 << k
+}

@@ -1,0 +1,205 @@
+-- Counts of a number's bits: its ones, its zeros above and below; and what those of a word of ticks say of its 64 positions.
+-- Assumes nothing.
+use Prim.Native.Nat.{ℕ, zero, suc, _+_, _-_, _*_, _/_, _%_, _^_, _≤_, _<_}
+use native.Mathlib.Nat.{add-zero, mod-lt, div-one, pow-succ', div-div-eq-div-mul, div-eq-of-lt, div-eq-of-lt-le, lt-of-lt-of-le, zero-lt-suc}
+use native.Mathlib.Omega.{arith}
+use mathlib.Core.Bool.{Bool, true, false, not, cond}
+use mathlib.Core.List.{List, _∷_}
+use mathlib.Core.Path.{_≡_, refl, sym, ap, _∙_, fun-ext}
+use borrow.Author.Tests.{ltb-true, ltb-false}
+use lib.Count.{ones, ones-step, leadingZeros, leading-of-zero, leading-top, trailingZeros, trailing-of-zero, trailing-le, under}
+use lib.Dec.{eqb, ltb}
+use lib.Pow.{pow-pos, pow-mono}
+use Rattle.ledger_model.specs.Positions.{size}
+use Rattle.ledger_changes.specs.Rows.{tickedAt, table}
+use Rattle.ledger_changes.specs.Bytes.{lowest, pastHighest}
+use Rattle.ledger_changes.proofs.Scans.{Fails, top-of, past-here, past-skip, past-none, lowest-fails, lowest-holds}
+use Rattle.ledger_counts.specs.Words.{wordBits, bitOf, IsWord}
+use Rattle.ledger_counts.proofs.Missing.{size-cons, size-none, size-more}
+
+-- ---- the ones of a number
+
+digit : (d : ℕ) → d < 2 → cond (eqb d 1) 1 0 ≡ d
+digit zero l = refl
+digit (suc zero) l = refl
+digit (suc (suc d)) l = absurd (omega arith)
+
+-- bit k + 1 is bit k of the half
+bit-half : (x k : ℕ) → bitOf x (suc k) ≡ bitOf (x / 2) k
+bit-half x k = rw (pow-succ', ← div-div-eq-div-mul)
+
+pub bits-ones : (k x : ℕ) → x < 2 ^ k → size (table k (bitOf x)) ≡ ones x
+unfolding table ones
+bits-ones zero x l = let e : x ≡ 0 = omega arith in rw e (size-none (bitOf 0))
+bits-ones (suc k) x l =
+    let rest = bits-ones k (x / 2) (omega (arith, pow-succ' 2 k)) in
+    let halved = fun-ext (bit-half x) in
+    size-cons (bitOf x 0) (table k (λ j. bitOf x (suc j))) ∙ rw (halved, rest, div-one, digit (x % 2) (mod-lt x (zero-lt-suc 1))) (sym (ones-step x))
+
+-- ---- the zeros above its highest one
+
+bit-above : (x i : ℕ) → x < 2 ^ i → bitOf x i ≡ false
+bit-above x i l = rw (div-eq-of-lt l)
+
+bit-top : (x j : ℕ) → 2 ^ j ≤ x → x < 2 ^ suc j → bitOf x j ≡ true
+bit-top x j l h = let e : x / 2 ^ j ≡ 1 = div-eq-of-lt-le (2 ^ j) (omega arith) (omega (arith, pow-succ' 2 j)) in rw e
+
+pub leading-past : (k x : ℕ) → x < 2 ^ k → k - leadingZeros k x ≡ pastHighest k (bitOf x)
+leading-past k zero l =
+    let up : 0 + k ≡ k = omega arith in
+    let none = past-skip k 0 (bitOf 0) (λ i h q. bit-above 0 i (pow-pos i)) in
+    omega (arith, leading-of-zero k, rw up at none, past-none (bitOf 0))
+leading-past k (suc n) l =
+    let t = leading-top k (suc n) (zero-lt-suc n) l in
+    let j = t .0 in
+    let sum = t .1 in
+    let up : suc j + (k - suc j) ≡ k = omega arith in
+    let one : suc j - 1 ≡ j = omega arith in
+    let above = past-skip (k - suc j) (suc j) (bitOf (suc n)) (λ i h q. bit-above (suc n) i (lt-of-lt-of-le (t .3) (pow-mono h))) in
+    let here = past-here (suc j) (bitOf (suc n)) (zero-lt-suc j) (rw one (bit-top (suc n) j (t .2) (t .3))) in
+    omega (arith, rw up at above, here)
+
+-- ---- the zeros below its lowest one
+
+under-cond : (d t : ℕ) → d < 2 → under d t ≡ cond (eqb d 1) 0 (suc t)
+under-cond zero t l = refl
+under-cond (suc zero) t l = refl
+under-cond (suc (suc d)) t l = absurd (omega arith)
+
+pub trailing-lowest : (k x : ℕ) → trailingZeros k x ≡ lowest k (bitOf x)
+unfolding trailingZeros lowest
+trailing-lowest zero x = refl
+trailing-lowest (suc k) x =
+    let rest = trailing-lowest k (x / 2) in
+    let halved = fun-ext (bit-half x) in
+    rw (halved, div-one, ← rest) (under-cond (x % 2) (trailingZeros k (x / 2)) (mod-lt x (zero-lt-suc 1)))
+
+-- only 0 has no one among its bits
+trailing-all : (k x : ℕ) → x < 2 ^ k → trailingZeros k x ≡ k → x ≡ 0
+unfolding trailingZeros
+trailing-all zero x l e = omega arith
+trailing-all (suc k) x l e = by (x % 2) refl (trailing-all k (x / 2) (omega (arith, pow-succ' 2 k))) e
+  where
+    t : ℕ
+    t = trailingZeros k (x / 2)
+
+    by : (d : ℕ) → x % 2 ≡ d → (t ≡ k → x / 2 ≡ 0) → under d t ≡ suc k → x ≡ 0
+    by zero q rest h = let half = rest (omega arith) in omega arith
+    by (suc d) q rest h = absurd (omega arith)
+
+-- ---- the bits of a complement
+
+flip : (d e : ℕ) → d + e ≡ 1 → eqb d 1 ≡ not (eqb e 1)
+flip d zero h = let one : d ≡ 1 = omega arith in rw one
+flip d (suc zero) h = let none : d ≡ 0 = omega arith in rw none
+flip d (suc (suc e)) h = absurd (omega arith)
+
+not-bit : (k x i : ℕ) → x < 2 ^ k → i < k → bitOf (2 ^ k - 1 - x) i ≡ not (bitOf x i)
+not-bit zero x i l h = absurd (omega arith)
+not-bit (suc k) x zero l h =
+    let double = pow-succ' 2 k in
+    flip ((2 ^ suc k - 1 - x) / 2 ^ 0 % 2) (x / 2 ^ 0 % 2) (rw (div-one, div-one) (omega arith))
+not-bit (suc k) x (suc i) l h =
+    let double = pow-succ' 2 k in
+    let half : (2 ^ suc k - 1 - x) / 2 ≡ 2 ^ k - 1 - x / 2 = omega arith in
+    bit-half (2 ^ suc k - 1 - x) i ∙ rw half (not-bit k (x / 2) i (omega arith) (omega arith)) ∙ ap not (sym (bit-half x i))
+
+-- ---- tables
+
+size-split : (n k : ℕ) (p : ℕ → Bool) → size (table (n + k) p) ≡ size (table n p) + size (table k (λ j. p (n + j)))
+size-split n zero p = rw (add-zero, size-none, add-zero)
+size-split n (suc k) p =
+    let next : n + suc k ≡ n + k + 1 = omega arith in
+    let one : suc k ≡ k + 1 = omega arith in
+    let here = size-more (n + k) p in
+    let there = size-more k (λ j. p (n + j)) in
+    rw (next, one) (omega (arith, here, there, size-split n k p))
+
+table-alike : (k : ℕ) (p q : ℕ → Bool) → ((j : ℕ) → j < k → p j ≡ q j) → table k p ≡ table k q
+unfolding table
+table-alike zero p q h = refl
+table-alike (suc k) p q h =
+    rw (h 0 (zero-lt-suc k)) (ap (λ (l : List Bool). q 0 ∷ l) (table-alike k (λ j. p (suc j)) (λ j. q (suc j)) (λ j l. h (suc j) (omega arith))))
+
+-- ---- a word of ticks
+
+module _ (s : List ℕ) (a k w : ℕ) (word : IsWord s a k w) (fits : w < 2 ^ wordBits) where
+  next : wordBits * (k + 1) ≡ wordBits * k + wordBits
+  next = omega arith
+
+  -- as many positions are ticked as the word has ones
+  pub word-count : size (table (wordBits * (k + 1)) (tickedAt s a)) ≡ size (table (wordBits * k) (tickedAt s a)) + ones w
+  word-count =
+      let bits = table-alike wordBits (λ i. tickedAt s a (wordBits * k + i)) (bitOf w) (λ i l. sym (word i l)) in
+      rw next (size-split (wordBits * k) wordBits (tickedAt s a) ∙ rw (bits, bits-ones wordBits w fits))
+
+  -- the end of the ticks, where it lies in the word, or below it
+  abbrev end : ℕ
+  end = pastHighest wordBits (bitOf w)
+
+  word-past : pastHighest (wordBits * (k + 1)) (tickedAt s a) ≡ pastHighest (wordBits * k + end) (tickedAt s a)
+  word-past =
+      let top = top-of wordBits (bitOf w) in
+      let within = top .within in
+      let up : wordBits * (k + 1) ≡ wordBits * k + end + (wordBits - end) = omega arith in
+      rw up (past-skip (wordBits - end) (wordBits * k + end) (tickedAt s a) (λ i h l.
+      let j = i - wordBits * k in
+      let here : wordBits * k + j ≡ i = omega arith in
+      rw here at (sym (word j (omega arith)) ∙ top .above j (omega arith) (omega arith))))
+
+  pub word-none : w ≡ 0 → pastHighest (wordBits * (k + 1)) (tickedAt s a) ≡ pastHighest (wordBits * k) (tickedAt s a)
+  word-none e =
+      let none = rw e at (leading-past wordBits w fits) in
+      let here : wordBits * k + end ≡ wordBits * k = omega (arith, none, leading-of-zero wordBits, ap (λ (x : ℕ). pastHighest wordBits (bitOf x)) e) in
+      word-past ∙ rw here refl
+
+  pub word-end : 0 < w → pastHighest (wordBits * (k + 1)) (tickedAt s a) ≡ wordBits * (k + 1) - leadingZeros wordBits w
+  word-end l =
+      let t = leading-top wordBits w l fits in
+      let sum = t .1 in
+      let past = leading-past wordBits w fits in
+      let top = top-of wordBits (bitOf w) in
+      let j = end - 1 in
+      let here : wordBits * k + j ≡ wordBits * k + end - 1 = omega arith in
+      let ticked = rw here at (sym (word j (omega arith)) ∙ top .last j (omega arith)) in
+      word-past ∙ past-here (wordBits * k + end) (tickedAt s a) (omega arith) ticked ∙ omega arith
+
+  -- the lowest unticked position, where it lies in the word
+  abbrev unticked : ℕ → Bool
+  unticked i = not (tickedAt s a i)
+
+  abbrev low : ℕ
+  low = trailingZeros wordBits (2 ^ wordBits - 1 - w)
+
+  unticked-bit : (i : ℕ) → i < wordBits → bitOf (2 ^ wordBits - 1 - w) i ≡ unticked (wordBits * k + i)
+  unticked-bit i l = not-bit wordBits w i fits l ∙ ap not (word i l)
+
+  pub word-below : Fails unticked (wordBits * k) → Fails unticked (wordBits * k + low)
+  word-below h i l = by (ltb i (wordBits * k)) refl
+    where
+      by : (f : Bool) → ltb i (wordBits * k) ≡ f → unticked i ≡ false
+      by true q = h i (ltb-true i (wordBits * k) q)
+      by false q =
+          let above = ltb-false i (wordBits * k) q in
+          let within = trailing-le wordBits (2 ^ wordBits - 1 - w) in
+          let low-is = trailing-lowest wordBits (2 ^ wordBits - 1 - w) in
+          let j = i - wordBits * k in
+          let here : wordBits * k + j ≡ i = omega arith in
+          rw here at (sym (unticked-bit j (omega arith)) ∙ lowest-fails wordBits (bitOf (2 ^ wordBits - 1 - w)) j (omega arith))
+
+  pub word-full : 2 ^ wordBits - 1 - w ≡ 0 → low ≡ wordBits
+  word-full e = rw e (trailing-of-zero wordBits)
+
+  pub word-lowest : 0 < 2 ^ wordBits - 1 - w → unticked (wordBits * k + low) ≡ true
+  word-lowest l = by (ltb low wordBits) refl
+    where
+      by : (f : Bool) → ltb low wordBits ≡ f → unticked (wordBits * k + low) ≡ true
+      by true q =
+          let low-is = trailing-lowest wordBits (2 ^ wordBits - 1 - w) in
+          let within = ltb-true low wordBits q in
+          sym (unticked-bit low within) ∙ rw low-is (lowest-holds wordBits (bitOf (2 ^ wordBits - 1 - w)) (omega arith))
+      by false q =
+          let within = trailing-le wordBits (2 ^ wordBits - 1 - w) in
+          let above = ltb-false low wordBits q in
+          let none = trailing-all wordBits (2 ^ wordBits - 1 - w) (omega arith) (omega arith) in
+          absurd (omega arith)

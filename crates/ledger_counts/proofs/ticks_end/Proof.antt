@@ -1,0 +1,84 @@
+-- `ledger_counts::ticks_end` meets its contract. The invariant: no position of a word from `words` on is ticked. Assumes nothing.
+use Prim.Native.Nat.{_+_, _*_, _-_, _^_, _≤_, _<_}
+use mathlib.Core.Path.{_≡_, refl, sym, _∙_}
+use native.Mathlib.Omega.{arith}
+use lib.Count.{leading-le}
+use Rattle.ledger_model.specs.Positions.{rowLength}
+use Rattle.ledger_changes.specs.Rows.{tickedAt}
+use Rattle.ledger_changes.specs.Bytes.{pastHighest}
+use Rattle.ledger_changes.proofs.Scans.{past-none}
+use Rattle.ledger_counts.specs.Words.{wordBits, wordCount}
+use Rattle.ledger_counts.proofs.WordCounts.{word-none, word-end}
+use Rattle.ledger_counts.proofs.ticks_end.Statement.{statement}
+use Rattle.ledger_counts.proofs.ticks_end.Tie as tie
+
+abbrev Inv-loop : tie.InvT-loop
+Inv-loop s a words₀ words = (words ≤ wordCount) × (pastHighest rowLength (tickedAt s a) ≡ pastHighest (wordBits * words) (tickedAt s a))
+
+abbrev μ-loop : tie.MeasureT-loop
+μ-loop s a words₀ words = words
+
+loop-holds : tie.Need-loop-holds Inv-loop μ-loop
+loop-holds c = (omega arith, refl)
+
+sub-tick-word : tie.Need-sub-tick-word Inv-loop μ-loop
+sub-tick-word c = omega arith
+
+tick-word-requires : tie.Need-tick-word-requires Inv-loop μ-loop
+tick-word-requires c κs = omega arith
+
+mul-result : tie.Need-mul-result Inv-loop μ-loop
+mul-result c = omega arith
+
+cast-result : tie.Need-cast-result Inv-loop μ-loop
+cast-result c = let few = leading-le wordBits (c .before .tick-word .result) in omega arith
+
+sub-result : tie.Need-sub-result Inv-loop μ-loop
+sub-result c = let few = leading-le wordBits (c .before .tick-word .result) in omega arith
+
+returns : tie.Need-returns Inv-loop μ-loop
+returns c =
+    let g = c .before .before .before .before .before .args in
+    let at = c .before .before .before .loop in
+    let w = c .before .tick-word .result in
+    let up : at .words - 1 + 1 ≡ at .words = omega arith in
+    let some = c .if1 .taken in
+    sym (at .inv .1 ∙ rw up at (word-end (g .s .now) (g .a) (at .words - 1) w (c .before .tick-word .ensures) (omega arith) (omega arith)))
+
+sub-words : tie.Need-sub-words Inv-loop μ-loop
+sub-words c = omega arith
+
+loop-less : tie.Need-loop-less Inv-loop μ-loop
+loop-less c = omega arith
+
+loop-again : tie.Need-loop-again Inv-loop μ-loop
+loop-again c =
+    let g = c .before .before .before .before .before .args in
+    let at = c .before .before .before .loop in
+    let w = c .before .tick-word .result in
+    let up : at .words - 1 + 1 ≡ at .words = omega arith in
+    (omega arith, at .inv .1 ∙ rw up at (word-none (g .s .now) (g .a) (at .words - 1) w (c .before .tick-word .ensures) (omega arith) (c .if1 .left)))
+
+returns-2 : tie.Need-returns-2 Inv-loop μ-loop
+returns-2 c =
+    let at = c .before .loop in
+    let e : at .words ≡ 0 = omega arith in
+    sym (rw e at (at .inv .1) ∙ past-none _)
+
+pub ticks-end-spec : {M : Type 1} → statement M
+ticks-end-spec =
+    tie.close
+    (tie.spec
+    Inv-loop
+    μ-loop
+    loop-holds
+    sub-tick-word
+    tick-word-requires
+    mul-result
+    cast-result
+    sub-result
+    returns
+    sub-words
+    loop-less
+    loop-again
+    returns-2)

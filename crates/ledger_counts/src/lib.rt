@@ -1,0 +1,183 @@
+// Row report and first gap, on the bytes of a sheet.
+use ledger_changes::ticks::is_ticked;
+use ledger_sheet::BYTE_BITS;
+use ledger_sheet::GapAnswer;
+use ledger_sheet::ROW;
+use ledger_sheet::ROWS;
+use ledger_sheet::ROWS_AT;
+use ledger_sheet::ReportAnswer;
+use ledger_sheet::TICKS;
+use ledger_sheet::TICKS_AT;
+use ledger_sheet::right::first_at;
+use ledger_sheet::right::is_used;
+use ledger_sheet::right::key_at;
+ghost use mathlib.Core.Path.{_≡_};
+ghost use mathlib.Core.Bool.{not, cond};
+ghost use Prim.Native.Nat.{_+_, _≤_, _<_};
+ghost use lib.ListN.{length};
+ghost use Rattle.ledger_model.specs.Positions.{rowLength, size};
+ghost use Rattle.ledger_sheet.specs.Sheet.{sheetSize, rowSize, rowCount, rowAt, isUsed};
+ghost use Rattle.ledger_changes.specs.Rows.{tickedAt, ticksOf};
+ghost use Rattle.ledger_changes.specs.Bytes.{lowest, pastHighest, numberAtPosition, reportWords, gapFrom};
+ghost use Rattle.ledger_sheet.specs.Words.{reportAnswerWords, gapWords};
+ghost use Rattle.ledger_counts.specs.Words.{wordCount, littleAt, IsWord};
+
+// A word of ticks, in bytes and in positions, and how many of them a row has.
+const WORD: usize = 8;
+
+const WORD_BITS: usize = BYTE_BITS * WORD;
+
+const WORDS: usize = TICKS / WORD;
+
+const HALF: usize = 4;
+
+const QUARTER: usize = 2;
+
+// The ticks of the 64 positions from 64 k on, as one number: bit i of it is position 64 k + i.
+fn tick_word(s: &[u8], a: usize, k: usize) -> u64
+    requires { ⌜ (a + rowSize ≤ length (now s)) × (k < wordCount) ⌝ }
+    ensures { λ r. ⌜ IsWord (now (s .entry)) a k r ⌝ }
+{
+    read_word(s, a + TICKS_AT + WORD * k)
+}
+
+// The little-endian number in the eight bytes from index b, by halves, and in four and in two. LLVM makes one load of it.
+fn read_word(s: &[u8], b: usize) -> u64
+    requires { ⌜ b + 8 ≤ length (now s) ⌝ }
+    ensures { λ r. ⌜ r ≡ littleAt (now (s .entry)) b 8 ⌝ }
+{
+    let low = read_half(s, b);
+    let high = read_half(s, b + HALF);
+    low as u64 + 4294967296 * high as u64
+}
+
+fn read_half(s: &[u8], b: usize) -> u32
+    requires { ⌜ b + 4 ≤ length (now s) ⌝ }
+    ensures { λ r. ⌜ r ≡ littleAt (now (s .entry)) b 4 ⌝ }
+{
+    let low = read_quarter(s, b);
+    let high = read_quarter(s, b + QUARTER);
+    low as u32 + 65536 * high as u32
+}
+
+fn read_quarter(s: &[u8], b: usize) -> u16
+    requires { ⌜ b + 2 ≤ length (now s) ⌝ }
+    ensures { λ r. ⌜ r ≡ littleAt (now (s .entry)) b 2 ⌝ }
+{
+    let low = s[b];
+    let high = s[b + 1];
+    low as u16 + 256 * high as u16
+}
+
+// How many positions of the row at offset a are ticked: the ones of its words.
+fn ticked_count(s: &[u8], a: usize) -> u32
+    requires { ⌜ a + rowSize ≤ length (now s) ⌝ }
+    ensures { λ r. ⌜ r ≡ size (ticksOf (now (s .entry)) a) ⌝ }
+{
+    let mut count: u32 = 0;
+    for k in 0..WORDS {
+        count += u64::count_ones(tick_word(s, a, k));
+    }
+    count
+}
+
+// One past the highest ticked position of the row at offset a, or 0. What is unticked below it is missing.
+fn ticks_end(s: &[u8], a: usize) -> usize
+    requires { ⌜ a + rowSize ≤ length (now s) ⌝ }
+    ensures { λ r. ⌜ r ≡ pastHighest rowLength (tickedAt (now (s .entry)) a) ⌝ }
+{
+    let mut words = WORDS;
+    while 0 < words {
+        let word = tick_word(s, a, words - 1);
+        if word != 0 {
+            return WORD_BITS * words - u64::leading_zeros(word) as usize;
+        }
+        words -= 1;
+    }
+    0
+}
+
+// The lowest unticked position below end of the row at offset a, or end.
+fn lowest_unticked(s: &[u8], a: usize, end: usize) -> usize
+    requires { ⌜ (a + rowSize ≤ length (now s)) × (end ≤ rowLength) ⌝ }
+    ensures { λ r. ⌜ r ≡ lowest end (λ i. not (tickedAt (now (s .entry)) a i)) ⌝ }
+{
+    let mut k = 0;
+    while WORD_BITS * k < end {
+        let unticked = !tick_word(s, a, k);
+        if unticked != 0 {
+            let at = WORD_BITS * k + u64::trailing_zeros(unticked) as usize;
+            if at < end {
+                return at;
+            }
+            return end;
+        }
+        k += 1;
+    }
+    end
+}
+
+// The number at position i of the row at offset a.
+fn number_in(s: &[u8], a: usize, i: usize) -> u32
+    requires { ⌜ (a + rowSize ≤ length (now s)) × (i < rowLength) ⌝ }
+    ensures { λ r. ⌜ r ≡ numberAtPosition (now (s .entry)) a i ⌝ }
+{
+    let key = key_at(s, a);
+    let first = first_at(s, a);
+    ledger_model::number_at(key, first, i as u32)
+}
+
+// Reports on a row.
+pub fn row_report(s: &[u8], row: usize) -> ReportAnswer
+    requires { ⌜ (length (now s) ≡ sheetSize) × (row < rowCount) ⌝ }
+    ensures { λ r. ⌜ reportAnswerWords r ≡ reportWords (now (s .entry)) (rowAt row) ⌝ }
+{
+    let a = ROWS_AT + ROW * row;
+    let end = ticks_end(s, a);
+    if end == 0 {
+        return ReportAnswer::Whole { ticked: 0 };
+    }
+    let ticked = ticked_count(s, a);
+    let at = lowest_unticked(s, a, end);
+    if at >= end {
+        return ReportAnswer::Whole { ticked };
+    }
+    ReportAnswer::Gaps {
+        ticked,
+        missing: end as u32 - ticked,
+        lowest: number_in(s, a, at),
+    }
+}
+
+// The end of the ticks of the row at place `row`, 0 where the place is free.
+fn row_end(s: &[u8], row: usize) -> usize
+    requires { ⌜ (length (now s) ≡ sheetSize) × (row < rowCount) ⌝ }
+    ensures { λ r. ⌜ r ≡ cond (isUsed (now (s .entry)) row) (pastHighest rowLength (tickedAt (now (s .entry)) (rowAt row))) 0 ⌝ }
+{
+    if !is_used(s, row) {
+        return 0;
+    }
+    ticks_end(s, ROWS_AT + ROW * row)
+}
+
+// The first missing number and its row: rows in order, positions in order.
+pub fn first_gap(s: &[u8]) -> GapAnswer
+    requires { ⌜ length (now s) ≡ sheetSize ⌝ }
+    ensures { λ r. ⌜ gapWords r ≡ gapFrom (now (s .entry)) 0 rowCount ⌝ }
+{
+    let mut gap = GapAnswer::Nothing;
+    'rows: for row in 0..ROWS {
+        let a = ROWS_AT + ROW * row;
+        let end = row_end(s, row);
+        for i in 0..end {
+            if !is_ticked(s, a, i) {
+                gap = GapAnswer::Gap {
+                    number: number_in(s, a, i),
+                    row: row as u32,
+                };
+                break 'rows;
+            }
+        }
+    }
+    gap
+}

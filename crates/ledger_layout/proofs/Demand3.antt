@@ -1,0 +1,100 @@
+-- Demand 3 of every list of calls on a fresh sheet. Assumes nothing.
+use Prim.Native.Nat.{ℕ}
+use native.Mathlib.Omega.{arith}
+use mathlib.Core.List.{List, [], _∷_, map}
+use mathlib.Core.Logic.{_≢_}
+use mathlib.Core.Path.{_≡_, refl, sym, ap, _∙_}
+use Rattle.refusals.specs.Table.{numberOf}
+use Rattle.refusals.proofs.Laws.{number-positive}
+use Rattle.ledger_model.specs.Book.{Book, idle, fresh}
+use Rattle.ledger_model.specs.Step.{Call, Answer, gave, done, atRow, refused, answerWords, step, Entry, callOf, run, bookAfter}
+use Rattle.ledger_model.specs.WellFormed.{WellFormed}
+use Rattle.ledger_model.specs.Chain.{Chain, stop, next}
+use Rattle.ledger_model.proofs.Outcome.{outcome}
+use Rattle.ledger_model.proofs.WellFormed.{well-formed, fresh-well-formed, run-well-formed}
+use Rattle.ledger_model.proofs.Laws.{Proper, words-injective, step-proper}
+use Rattle.ledger_model.proofs.Claim.{chain-claim}
+use Rattle.ledger_changes.specs.Bytes.{freshSheet}
+use Rattle.ledger_sheet.specs.Words as Words
+use Rattle.ledger_sheet.specs.declared.Answer as sheet
+use Rattle.ledger_sheet.specs.declared.Answer.the-variants as A
+use Rattle.ledger_sheet.specs.declared.RowAnswer.{RowAnswer}
+use Rattle.ledger_sheet.specs.declared.RowAnswer.the-variants as R
+use Rattle.ledger_sheet.specs.declared.ReportAnswer.{ReportAnswer}
+use Rattle.ledger_sheet.specs.declared.ReportAnswer.the-variants as Report
+use Rattle.ledger_sheet.specs.declared.GapAnswer.{GapAnswer}
+use Rattle.ledger_sheet.specs.declared.GapAnswer.the-variants as G
+use Rattle.ledger_layout.specs.Layout.{layout, call, onSheet}
+use Rattle.ledger_layout.specs.Demand3.{answerOf, rowAnswerOf, reportAnswerOf, gapAnswerOf, Meets, headerAndRows, Demand3}
+use Rattle.ledger_layout.proofs.Places.{shape, front-part}
+use Rattle.ledger_layout.proofs.Sheets.{fresh-layout, on-layout}
+
+-- ---- one call
+
+proper : (a : Answer) → a ≢ refused 0 → Proper a
+proper (gave words) h = tt
+proper (refused number) h = λ e. h (ap refused e)
+
+-- a call that keeps its promise on the layout of a well-formed book does what the model does
+each : (c : Call) (b : Book) (a : Answer) (t : List ℕ) → WellFormed b → Meets c (layout b) a t
+    → (a ≡ step c b .answer) × (t ≡ layout (step c b .book))
+each c b a t ok m =
+    let same = m .1 ∙ on-layout (call c) b ok in
+    (words-injective a (step c b .answer) (proper a (m .0)) (step-proper c b) (ap (λ r. r .0) same), ap (λ r. r .1) same)
+
+-- and what the model does keeps the promise
+improper : (a : Answer) → Proper a → a ≢ refused 0
+improper (gave words) h e = let z : _≡_ {A = ℕ} 0 1 = cc in omega arith
+improper (refused number) h e = h (cc)
+
+model-meets : (c : Call) (b : Book) → WellFormed b → Meets c (layout b) (step c b .answer) (layout (step c b .book))
+model-meets c b ok = (improper (step c b .answer) (step-proper c b), sym (on-layout (call c) b ok))
+
+-- What a contract says, with the answer as the function's enum.
+pub answer-meets : (c : Call) (s : List ℕ) (r : sheet.Answer) (t : List ℕ) → (Words.answerWords r, t) ≡ onSheet (call c) s → Meets c s (answerOf r) t
+answer-meets c s A.Done t e = (improper done tt, e)
+answer-meets c s (A.Refused q) t e = (improper (refused (numberOf q)) (number-positive q), e)
+
+pub row-answer-meets : (c : Call) (s : List ℕ) (r : RowAnswer) (t : List ℕ) → (Words.rowWords r, t) ≡ onSheet (call c) s → Meets c s (rowAnswerOf r) t
+row-answer-meets c s (R.Row row) t e = (improper (atRow row) tt, e)
+row-answer-meets c s (R.Refused q) t e = (improper (refused (numberOf q)) (number-positive q), e)
+
+pub report-answer-meets : (c : Call) (s : List ℕ) (r : ReportAnswer) (t : List ℕ) → (Words.reportAnswerWords r, t) ≡ onSheet (call c) s
+    → Meets c s (reportAnswerOf r) t
+report-answer-meets c s (Report.Whole ticked) t e = (improper (gave _) tt, e)
+report-answer-meets c s (Report.Gaps ticked missing lowest) t e = (improper (gave _) tt, e)
+report-answer-meets c s (Report.Refused q) t e = (improper (refused (numberOf q)) (number-positive q), e)
+
+pub gap-answer-meets : (c : Call) (s : List ℕ) (r : GapAnswer) (t : List ℕ) → (Words.gapWords r, t) ≡ onSheet (call c) s → Meets c s (gapAnswerOf r) t
+gap-answer-meets c s G.Nothing t e = (improper (gave _) tt, e)
+gap-answer-meets c s (G.Gap number row) t e = (improper (gave _) tt, e)
+gap-answer-meets c s (G.Refused q) t e = (improper (refused (numberOf q)) (number-positive q), e)
+
+-- ---- a list of calls
+
+chain-from : (calls : List Call) (b : Book) → WellFormed b → Chain Meets (layout b) (run b calls .log) (layout (run b calls .book))
+unfolding run
+chain-from [] b ok = stop
+chain-from (c ∷ calls) b ok =
+    next (model-meets c b ok) (chain-from calls (step c b .book) (well-formed b ok (outcome c b)))
+
+-- Every list of calls has such a chain.
+pub chain-exists : (calls : List Call) → Chain Meets freshSheet (run fresh calls .log) (layout (run fresh calls .book))
+chain-exists calls = rw fresh-layout (chain-from calls fresh fresh-well-formed)
+
+-- ---- the theorem
+
+front-same : (b : Book) → WellFormed b → headerAndRows (layout (idle (b .places))) ≡ headerAndRows (layout b)
+front-same b ok =
+    front-part (idle (b .places)) (record { rows-count = ok .places-count; desks-count = refl }) ∙ sym (front-part b (shape ok))
+
+pub demand3 : {log : List Entry} {last : List ℕ} → Chain Meets freshSheet log last → Demand3 log last
+demand3 {log = log} {last = last} chain =
+    let claim = chain-claim Meets layout each (rw fresh-layout at chain) in
+    record {
+      claim = claim;
+      serial-rows = λ again end other e.
+          ap headerAndRows (claim .serial-store again end other e .1)
+          ∙ front-same (bookAfter log) (run-well-formed (map callOf log))
+          ∙ ap headerAndRows (sym (claim .model-store));
+    }

@@ -1,0 +1,250 @@
+-- The stale rule, over the whole list. Assumes nothing.
+use Prim.Native.Nat.{ℕ}
+use native.Mathlib.Decide.{ℕ-discrete}
+use native.Mathlib.Omega.{arith}
+use mathlib.Core.Path.{_≡_, refl, sym, ap, _∙_}
+use mathlib.Core.Logic.{_≢_, _↔_, _⊎_, inl, inr, ⊎-elim}
+use mathlib.Core.Bool.{true, true≢false, false≢true}
+use mathlib.Core.Option.{Option, none, some}
+use mathlib.Core.List.{List, [], _∷_, _++_, append-assoc, append-nil, map}
+use lib.ListN.{getD, set}
+use lib.Seq.{getD-set-other, append-snoc}
+use borrow.Author.Tests.{ne-eqb, eq-eqb}
+use Rattle.ledger_model.specs.Positions.{Positions, same}
+use Rattle.ledger_model.specs.Book.{Place, free, Desk, closed, working, Book, fresh, place, desk, ticksOf, isDesk}
+use Rattle.ledger_model.specs.Step.{Call, Enrol, Ask, Open, Mark, Save, Drop, Strike, Answer, done, refused, accepted, Reply, step, Entry, _⇒_, callOf, run, bookAfter}
+use Rattle.ledger_model.specs.Stale.{openedBy, later, lastOpened, LastOpen, Overtaken}
+use Rattle.ledger_model.specs.Claim.{AsOpened}
+use Rattle.ledger_model.proofs.Basics.{by-test, same-true, same-refl, not-open, put-all, idle-desk}
+use Rattle.ledger_model.proofs.Steps.{save-step}
+use Rattle.ledger_model.proofs.Outcome.{Outcome, refusal, enrolment, asking, opening, unopened, unmarked, marking, saving, stale, dropping, striking, outcome}
+use Rattle.ledger_model.proofs.Replay.{inLog, Inv, NotOpen, free-not-open, transaction-snoc, good, fresh-inv}
+
+-- ---- one more entry in a log
+
+later-none : (o : Option ℕ) → o ≡ later none o
+later-none none = refl
+later-none (some r) = refl
+
+later-assoc : (o p q : Option ℕ) → later o (later p q) ≡ later (later o p) q
+later-assoc o p none = refl
+later-assoc o p (some r) = refl
+
+lastOpened-append : (d : ℕ) (xs ys : List Entry) → lastOpened d (xs ++ ys) ≡ later (lastOpened d xs) (lastOpened d ys)
+unfolding lastOpened
+lastOpened-append d [] ys = later-none (lastOpened d ys)
+lastOpened-append d (x ∷ xs) ys = rw (lastOpened-append d xs ys) (later-assoc (openedBy d x) (lastOpened d xs) (lastOpened d ys))
+
+-- The row of the last accepted open, and that open as the log grows.
+last-opened : (log : List Entry) (d r : ℕ) → LastOpen log d r → lastOpened d log ≡ some r
+unfolding lastOpened openedBy
+last-opened log d r k =
+    ap (lastOpened d) (k .split) ∙ lastOpened-append d (k .before) _ ∙ rw (k .not-since, k .was-accepted, eq-eqb d d refl)
+
+not-since-snoc : (d : ℕ) (since : List Entry) (e : Entry) → openedBy d e ≡ none → lastOpened d since ≡ none → lastOpened d (since ++ e ∷ []) ≡ none
+unfolding lastOpened
+not-since-snoc d since e n h = lastOpened-append d since (e ∷ []) ∙ rw (h, n)
+
+opened-snoc : (log : List Entry) (e : Entry) (d r : ℕ) (opened : Positions) → openedBy d e ≡ none → AsOpened log d r opened
+    → AsOpened (log ++ e ∷ []) d r opened
+opened-snoc log e d r opened n k =
+    let o = k .opening in
+    record {
+      opening = record {
+        before = o .before;
+        since = o .since ++ e ∷ [];
+        answer = o .answer;
+        split = ap (λ l. l ++ e ∷ []) (o .split) ∙ append-assoc (o .before) _ _;
+        was-accepted = o .was-accepted;
+        not-since = not-since-snoc d (o .since) e n (o .not-since);
+      };
+      was-set = k .was-set;
+    }
+
+overtaken-snoc : (log : List Entry) (e : Entry) (d r : ℕ) → openedBy d e ≡ none → Overtaken log d r → Overtaken (log ++ e ∷ []) d r
+overtaken-snoc log e d r n o =
+    record {
+      before = o .before;
+      since = o .since ++ e ∷ [];
+      other = o .other;
+      split = rw (o .split) (append-assoc (o .before) _ _);
+      is-other = o .is-other;
+      saved-row = o .saved-row;
+      had-opened = o .had-opened;
+      not-since = not-since-snoc d (o .since) e n (o .not-since);
+    }
+
+-- ---- the invariant
+
+-- Desk d has row r open: it is the row of the desk's last accepted open, whose set it had as opened, and if the row's set is not
+-- the opened one, another desk saved the row since.
+pub record Watching (log : List Entry) (ps : List Place) (d r : ℕ) (opened : Positions) : Type 0 where
+  pub is-desk : isDesk d ≡ true
+  pub as-opened : AsOpened log d r opened
+  pub cause : (ticksOf (getD ps r free) ≡ opened) ⊎ Overtaken log d r
+
+abbrev pub Watched : List Entry → List Place → ℕ → Desk → Type 0
+Watched log ps d closed = Unit {0}
+Watched log ps d (working r opened worked) = Watching log ps d r opened
+
+abbrev pub Watch : List Entry → Book → Type 0
+Watch log b = (d : ℕ) → Watched log (b .places) d (desk b d)
+
+-- One more entry that is no accepted open of this desk.
+watched-snoc : (log : List Entry) (e : Entry) (ps : List Place) (d : ℕ) (x : Desk) → openedBy d e ≡ none
+    → Watched log ps d x → Watched (log ++ e ∷ []) ps d x
+watched-snoc log e ps d closed n w = tt
+watched-snoc log e ps d (working r opened worked) n w =
+    record {
+      is-desk = w .is-desk;
+      as-opened = opened-snoc log e d r opened n (w .as-opened);
+      cause = ⊎-elim inl (λ o. inr (overtaken-snoc log e d r n o)) (w .cause);
+    }
+
+-- The places change: the row of an open desk keeps its set, or another desk saved it.
+watched-places : (log : List Entry) (ps qs : List Place) (d : ℕ) (x : Desk)
+    → ((r : ℕ) (opened worked : Positions) → x ≡ working r opened worked
+    → (ticksOf (getD qs r free) ≡ ticksOf (getD ps r free)) ⊎ Overtaken log d r)
+    → Watched log ps d x → Watched log qs d x
+watched-places log ps qs d closed f w = tt
+watched-places log ps qs d (working r opened worked) f w =
+    record { is-desk = w .is-desk; as-opened = w .as-opened; cause = ⊎-elim (λ p. ⊎-elim (λ q. inl (q ∙ p)) inr (f r opened worked refl)) inr (w .cause) }
+
+-- ---- what one call does
+
+refused-opens : (d : ℕ) (c : Call) (number : ℕ) → openedBy d (c ⇒ refused number) ≡ none
+unfolding openedBy
+refused-opens d (Enrol key first) number = refl
+refused-opens d (Ask q) number = refl
+refused-opens d (Open e r) number = refl
+refused-opens d (Mark flag e n) number = refl
+refused-opens d (Save e) number = refl
+refused-opens d (Drop e) number = refl
+refused-opens d (Strike r) number = refl
+
+module _ (log : List Entry) (b : Book) (is : b ≡ bookAfter log) (h : Inv b (inLog log)) (w : Watch log b) where
+  grown : (e : Entry) (d : ℕ) → openedBy d e ≡ none → Watched (log ++ e ∷ []) (b .places) d (desk b d)
+  grown e d n = watched-snoc log e (b .places) d (desk b d) n (w d)
+
+  -- A desk is put that has the same row open as before, or none.
+  desk-watch : (e : Entry) (d : ℕ) (x : Desk) → ((d′ : ℕ) → openedBy d′ e ≡ none) → Watched (log ++ e ∷ []) (b .places) d x
+      → (d′ : ℕ) → Watched (log ++ e ∷ []) (b .places) d′ (getD (set (b .desks) d x) d′ closed)
+  desk-watch e d x n k = put-all closed (Watched _ (b .places)) (b .desks) d x tt k (λ d′ m. grown e d′ (n d′))
+
+  -- A place changes that no desk has open.
+  place-watch : (e : Entry) (r : ℕ) (p : Place) → ((d : ℕ) → openedBy d e ≡ none) → NotOpen b r
+      → (d : ℕ) → Watched (log ++ e ∷ []) (set (b .places) r p) d (desk b d)
+  place-watch e r p none-opened n d =
+      watched-places _ (b .places) _ d (desk b d)
+      (λ r′ opened worked x. inl (ap ticksOf (getD-set-other (b .places) r r′ p free (n d r′ opened worked x))))
+      (grown e d (none-opened d))
+
+  -- Another desk with the saved row open is overtaken.
+  save-watch : (d r : ℕ) (opened worked : Positions) (p : Place) → desk b d ≡ working r opened worked
+      → (e : ℕ) → e ≢ d → Watched (log ++ (Save d ⇒ done) ∷ []) (set (b .places) r p) e (desk b e)
+  unfolding openedBy lastOpened
+  save-watch d r opened worked p x e n =
+      watched-places _ (b .places) _ e (desk b e) (λ r′ opened′ worked′ y. at r′ (ℕ-discrete r′ r) (rw y at (w e))) (grown _ e refl)
+    where
+      saver : Watching log (b .places) d r opened
+      saver = rw x at (w d)
+
+      at : (r′ : ℕ) {opened′ : Positions} → Dec (r′ ≡ r) → Watching log (b .places) e r′ opened′
+          → (ticksOf (getD (set (b .places) r p) r′ free) ≡ ticksOf (getD (b .places) r′ free)) ⊎ Overtaken (log ++ (Save d ⇒ done) ∷ []) e r′
+      at r′ (yes q) k =
+          inr
+          record {
+            before = log;
+            since = [];
+            other = d;
+            split = refl;
+            is-other = λ q′. n (sym q′);
+            saved-row = rw q (last-opened log d r (saver .as-opened .opening));
+            had-opened = last-opened log e r′ (k .as-opened .opening);
+            not-since = refl;
+          }
+      at r′ (no m) k = inl (ap ticksOf (getD-set-other (b .places) r r′ p free m))
+
+  watch : {c : Call} {s : Reply} → Outcome b c s → Watch (log ++ (c ⇒ s .answer) ∷ []) (s .book)
+  unfolding openedBy lastOpened
+  watch (refusal {c = c} number m) = λ d. grown _ d (refused-opens d c number)
+  watch (enrolment a) = place-watch _ _ _ (λ d. refl) (free-not-open b log h _ (a .is-lowest .is-free))
+  watch (asking words) = λ d. grown _ d refl
+  watch (opening {d = d} {r = r} key first s t e x) =
+      put-all closed (Watched _ (b .places)) (b .desks) d _ tt
+      record {
+        is-desk = t;
+        as-opened = record {
+          opening = record { before = log; since = []; answer = done; split = refl; was-accepted = refl; not-since = refl };
+          was-set = sym (ap (λ x. ticksOf (place x r)) is) ∙ ap ticksOf e;
+        };
+        cause = inl (ap ticksOf e);
+      }
+      (λ d′ n. grown _ d′ (rw (ne-eqb d d′ (λ q. n (sym q)))))
+  watch (unopened number f) = λ d. grown _ d refl
+  watch (unmarked r opened worked i number e p q z) = λ d. grown _ d refl
+  watch (marking {flag = flag} {d = d} {n = n} r opened worked i e p q) =
+      desk-watch _ d _ (λ d′. refl) (rw (e .1) at (grown (Mark flag d n ⇒ done) d refl))
+  watch (saving {d = d} r opened worked e t) = put-all closed (Watched _ _) (b .desks) d closed tt tt (save-watch d r opened worked _ (e .1))
+  watch (stale {d = d} r opened worked e t) = desk-watch _ d closed (λ d′. refl) tt
+  watch (dropping {d = d} t x) = desk-watch _ d closed (λ d′. refl) tt
+  watch (striking {r = r} f n) = place-watch _ r free (λ d. refl) (λ d q opened worked. not-open (b .desks) r d q opened worked n)
+
+-- ---- the whole list
+
+book-snoc : (past : List Entry) (b : Book) (c : Call) (a : Answer)
+    → run b (map callOf (past ++ (c ⇒ a) ∷ [])) .book ≡ step c (run b (map callOf past) .book) .book
+unfolding run
+book-snoc [] b c a = refl
+book-snoc ((x ⇒ y) ∷ past) b c a = book-snoc past (step x b .book) c a
+
+watch-run : (calls : List Call) (past : List Entry) (b : Book) → b ≡ bookAfter past → Inv b (inLog past) → Watch past b
+    → Watch (past ++ run b calls .log) (run b calls .book)
+unfolding run
+watch-run [] past b is h w = rw append-nil w
+watch-run (c ∷ calls) past b is h w =
+    rw
+    (← append-snoc past (c ⇒ step c b .answer) (run (step c b .book) calls .log))
+    (watch-run calls _ _ (ap (λ x. step c x .book) is ∙ sym (book-snoc past fresh c _)) (λ d. rw (transaction-snoc d [] past) (good b past h (outcome c b) .inv d)) (watch past b is h w (outcome c b)))
+
+fresh-is : fresh ≡ bookAfter []
+unfolding run
+fresh-is = refl
+
+-- Of a desk with a row open after any list of calls.
+pub watching : (calls : List Call) (d r : ℕ) (opened worked : Positions) → desk (run fresh calls .book) d ≡ working r opened worked
+    → Watching (run fresh calls .log) (run fresh calls .book .places) d r opened
+watching calls d r opened worked e = rw e at (watch-run calls [] fresh fresh-is fresh-inv (λ d′. rw (idle-desk 8 d′) tt) d)
+
+-- An accepted save is by a desk with a row open.
+pub record OpenDesk (b : Book) (d : ℕ) : Type 0 where
+  pub row : ℕ
+  pub opened : Positions
+  pub worked : Positions
+  pub is : desk b d ≡ working row opened worked
+
+pub save-open : (b : Book) (d : ℕ) → accepted (step (Save d) b .answer) ≡ true → OpenDesk b d
+save-open b d = at (outcome (Save d) b)
+  where
+    at : {s : Reply} → Outcome b (Save d) s → accepted (s .answer) ≡ true → OpenDesk b d
+    at (refusal number m) a = absurd (false≢true a)
+    at (saving r opened worked h t) a = record { row = r; opened = opened; worked = worked; is = h .1 }
+    at (stale r opened worked h t) a = absurd (false≢true a)
+
+-- On any book, a save by a desk with a row open is stale exactly when the row's set is not the opened one.
+pub stale-exactly : (b : Book) (d r : ℕ) (opened worked : Positions) → isDesk d ≡ true → desk b d ≡ working r opened worked
+    → (step (Save d) b .answer ≡ refused 31) ↔ (ticksOf (place b r) ≢ opened)
+stale-exactly b d r opened worked t e =
+    rw (save-step b d t r opened worked e)
+    (by-test
+    (λ (s : Reply). (s .answer ≡ refused 31) ↔ (ticksOf (place b r) ≢ opened))
+    (same (ticksOf (place b r)) opened)
+    (λ u. (λ a. absurd (let z : _≡_ {A = ℕ} 0 1 = cc in omega arith), λ n. absurd (n (same-true _ _ u))))
+    (λ u. (λ a p. true≢false (sym (same-refl opened) ∙ (rw p at u)), λ n. refl)))
+
+-- After any list of calls, a stale save has its cause.
+pub stale-cause : (calls : List Call) (d r : ℕ) (opened worked : Positions) → desk (run fresh calls .book) d ≡ working r opened worked
+    → step (Save d) (run fresh calls .book) .answer ≡ refused 31 → Overtaken (run fresh calls .log) d r
+stale-cause calls d r opened worked e a =
+    let k = watching calls d r opened worked e in
+    ⊎-elim (λ p. absurd (stale-exactly (run fresh calls .book) d r opened worked (k .is-desk) e .0 a p)) (λ o. o) (k .cause)

@@ -1,0 +1,125 @@
+-- The state of the model, document 01's "plain book": 32 row places and eight desks, and what is read of them. Assumes nothing.
+use Prim.Native.Nat.{ℕ, zero, suc}
+use mathlib.Core.Bool.{Bool, true, false, cond, _||_}
+use mathlib.Core.List.{List, [], _∷_}
+use lib.Dec.{eqb, ltb}
+use lib.ListN.{getD, set, replicate}
+use Rattle.ledger_model.specs.Positions.{rowLength, position, Positions}
+
+-- ---- the book
+
+-- "A place is free or has a key, a first number and a set of positions."
+pub data Place : Type 0 where
+  free : Place
+  row : (key first : ℕ) (ticks : Positions) → Place
+
+-- "A desk is closed or has a place, an opened set and a worked set."
+pub data Desk : Type 0 where
+  closed : Desk
+  working : (place : ℕ) (opened worked : Positions) → Desk
+
+pub record Book : Type 0 where
+  pub places : List Place
+  pub desks : List Desk
+
+-- "It has 32 row places and eight desks."
+abbrev pub placeCount : ℕ
+placeCount = 32
+
+abbrev pub deskCount : ℕ
+deskCount = 8
+
+-- The book with these places and all desks closed.
+abbrev pub idle : List Place → Book
+idle ps = record { places = ps; desks = replicate deskCount closed }
+
+-- "At first all places are free and all desks closed."
+abbrev pub fresh : Book
+fresh = idle (replicate placeCount free)
+
+-- Place r and desk d. A place that is not there counts as free, a desk as closed.
+abbrev pub place : Book → ℕ → Place
+place b r = getD (b .places) r free
+
+abbrev pub desk : Book → ℕ → Desk
+desk b d = getD (b .desks) d closed
+
+abbrev pub putPlace : ℕ → Place → Book → Book
+putPlace r p b = record { places = set (b .places) r p; desks = b .desks }
+
+abbrev pub putDesk : ℕ → Desk → Book → Book
+putDesk d x b = record { places = b .places; desks = set (b .desks) d x }
+
+-- ---- what is read of places and desks; of a free place and a closed desk, what no call comes to use
+
+abbrev pub isFree : Place → Bool
+isFree free = true
+isFree (row key first ticks) = false
+
+abbrev pub ticksOf : Place → Positions
+ticksOf free = []
+ticksOf (row key first ticks) = ticks
+
+abbrev pub withTicks : Positions → Place → Place
+withTicks s free = free
+withTicks s (row key first ticks) = row key first s
+
+abbrev pub isDesk : ℕ → Bool
+isDesk d = ltb d deskCount
+
+abbrev pub isOpen : Desk → Bool
+isOpen closed = false
+isOpen (working r opened worked) = true
+
+abbrev pub placeOf : Desk → ℕ
+placeOf closed = 0
+placeOf (working r opened worked) = r
+
+abbrev pub openedOf : Desk → Positions
+openedOf closed = []
+openedOf (working r opened worked) = opened
+
+abbrev pub workedOf : Desk → Positions
+workedOf closed = []
+workedOf (working r opened worked) = worked
+
+abbrev pub withWorked : Positions → Desk → Desk
+withWorked s closed = closed
+withWorked s (working r opened worked) = working r opened s
+
+-- The place that desk d has open.
+abbrev pub openPlace : Book → ℕ → Place
+openPlace b d = place b (placeOf (desk b d))
+
+unfoldable pub hasKey : ℕ → List Place → Bool
+hasKey k [] = false
+hasKey k (free ∷ ps) = hasKey k ps
+hasKey k (row key first ticks ∷ ps) = eqb key k || hasKey k ps
+
+-- The place with the key, where there is one.
+unfoldable pub placeWith : ℕ → List Place → ℕ
+placeWith k [] = zero
+placeWith k (free ∷ ps) = suc (placeWith k ps)
+placeWith k (row key first ticks ∷ ps) = cond (eqb key k) zero (suc (placeWith k ps))
+
+unfoldable pub allUsed : List Place → Bool
+allUsed [] = true
+allUsed (free ∷ ps) = false
+allUsed (row key first ticks ∷ ps) = allUsed ps
+
+-- The lowest free place, where there is one.
+unfoldable pub lowestFree : List Place → ℕ
+lowestFree [] = zero
+lowestFree (free ∷ ps) = zero
+lowestFree (row key first ticks ∷ ps) = suc (lowestFree ps)
+
+-- Whether a desk has place r open.
+unfoldable pub anyHasOpen : (r : ℕ) → List Desk → Bool
+anyHasOpen r [] = false
+anyHasOpen r (closed ∷ ds) = anyHasOpen r ds
+anyHasOpen r (working q opened worked ∷ ds) = eqb q r || anyHasOpen r ds
+
+-- The position of number n at a place. In a free place no number has one in the row.
+abbrev pub positionAt : Place → ℕ → ℕ
+positionAt free n = rowLength
+positionAt (row key first ticks) n = position key first n

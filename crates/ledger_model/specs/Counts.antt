@@ -1,0 +1,27 @@
+-- The reports on a book: row report and first gap, as the numbers they answer. A none adds no number. Assumes nothing.
+use Prim.Native.Nat.{ℕ, suc}
+use mathlib.Core.Option.{Option, none, some}
+use mathlib.Core.List.{List, [], _∷_}
+use Rattle.ledger_model.specs.Positions.{size, missing, least, numberAt}
+use Rattle.ledger_model.specs.Book.{Place, free, row}
+
+-- "ticked count; missing count; the number at the lowest missing position, or none"
+abbrev pub lowestNumber : (key first : ℕ) → Option ℕ → List ℕ
+lowestNumber key first none = []
+lowestNumber key first (some i) = numberAt key first i ∷ []
+
+-- Of a free place there is no report.
+abbrev pub placeReport : Place → List ℕ
+placeReport free = []
+placeReport (row key first ticks) = size ticks ∷ size (missing ticks) ∷ lowestNumber key first (least (missing ticks))
+
+-- "scanning rows in order and positions in order, the first missing number and its row, or none"
+abbrev pub gapOr : (key first r : ℕ) → Option ℕ → List ℕ → List ℕ
+gapOr key first r none further = further
+gapOr key first r (some i) further = numberAt key first i ∷ r ∷ []
+
+-- From row r on, in places ps.
+unfoldable pub firstGapFrom : (r : ℕ) → List Place → List ℕ
+firstGapFrom r [] = []
+firstGapFrom r (free ∷ ps) = firstGapFrom (suc r) ps
+firstGapFrom r (row key first ticks ∷ ps) = gapOr key first r (least (missing ticks)) (firstGapFrom (suc r) ps)

@@ -1,0 +1,33 @@
+// The model of the ledger is in specs/; its one twin in code is the arithmetic of positions.
+use keys::RSR_NUMBERS;
+use keys::RSR_START;
+ghost use mathlib.Core.Path.{_≡_};
+ghost use Rattle.ledger_model.specs.Positions as Positions;
+
+// How many positions a row has.
+const ROW_LENGTH: u32 = 1024;
+
+// The position of number n in a row of the stream `key` that starts at `first`. Below 1,024 the number is in the row.
+pub fn position(key: u64, first: u32, n: u32) -> u32
+    ensures { λ r. ⌜ r ≡ Positions.position key first n ⌝ }
+{
+    let difference = std::num::wrapping_sub_u32(n, first);
+    if key < RSR_START {
+        return difference;
+    }
+    if n < RSR_NUMBERS {
+        return difference % RSR_NUMBERS;
+    }
+    ROW_LENGTH
+}
+
+// The number at a position of such a row.
+pub fn number_at(key: u64, first: u32, position: u32) -> u32
+    ensures { λ r. ⌜ r ≡ Positions.numberAt key first position ⌝ }
+{
+    let number = std::num::wrapping_add_u32(first, position);
+    if key < RSR_START {
+        return number;
+    }
+    number % RSR_NUMBERS
+}

@@ -1,0 +1,174 @@
+-- The clauses of `right`: of a desk whose first byte is known, and what a right sheet tells. Assumes nothing.
+use Prim.Native.Nat.{ℕ, zero, suc, _+_, _*_, _-_, _≤_, _<_}
+use native.Mathlib.Nat.{eq-or-lt-of-le}
+use native.Mathlib.Numerals.{add-one}
+use native.Mathlib.Omega.{arith}
+use mathlib.Core.Bool.{Bool, true, false, cond, _&&_, _||_}
+use mathlib.Core.List.{List}
+use mathlib.Core.Logic.{⊎-elim}
+use mathlib.Core.Path.{_≡_, refl, sym, ap, _∙_}
+use lib.Dec.{eqb, ltb, leb}
+use lib.ListN.{length}
+use borrow.Author.Tests.{eq-eqb, ne-eqb, lt-leb, le-leb, eqb-true, eqb-false, ltb-true}
+use Rattle.octets.specs.Octets.{all, zeroAt}
+use Rattle.octets.proofs.Laws.{and-split, and-true, and-assoc, all-at, all-next, zero-join}
+use Rattle.ledger_sheet.specs.Sheet.{sheetSize, rowSize, rowCount, rowsStart, deskSize, deskCount, deskZerosAt, deskZerosSize, openedAt, workedAt, desksStart, rowAt, deskAt, used, isUsed, isRow, deskByte, deskRow, isClosed, carries, count, headerRight, countRight, validKeys, differentKeys, firstNumbers, freeZero, closedZero, deskMarked, openNames, deskRight, right}
+use Rattle.ledger_sheet.specs.Judging.{Zeros}
+use Rattle.ledger_sheet.proofs.Ranges.{zero-within}
+
+module _ (s : List ℕ) (d : ℕ) where
+  -- a closed desk is right exactly when it is zero
+  pub closed-desk : deskByte s d ≡ 0 → zeroAt s (deskAt d) deskSize ≡ deskRight s d
+  unfolding deskRight closedZero deskMarked openNames
+  closed-desk e = by (zeroAt s (deskAt d) deskSize) refl
+    where
+      by : (b : Bool) → zeroAt s (deskAt d) deskSize ≡ b → zeroAt s (deskAt d) deskSize ≡ deskRight s d
+      by true z = rw (z, eq-eqb _ _ e, zero-within s (deskAt d) deskSize (deskAt d + deskZerosAt) deskZerosSize z (omega arith) (omega arith), le-leb (deskByte s d) 1 (omega arith))
+      by false z = rw (z, eq-eqb _ _ e)
+
+  -- any other, when it is marked open and has its zeros, names a used row, and its copies carry that row's word, key and first number
+  marked : (deskByte s d ≡ 0 → ⊥) → leb (deskByte s d) 1 ≡ eqb (deskByte s d) 1
+  marked n = by (eqb (deskByte s d) 1) refl
+    where
+      by : (b : Bool) → eqb (deskByte s d) 1 ≡ b → leb (deskByte s d) 1 ≡ eqb (deskByte s d) 1
+      by true e = let one = eqb-true (deskByte s d) 1 e in rw (e, le-leb (deskByte s d) 1 (omega arith))
+      by false e = let other = eqb-false (deskByte s d) 1 e in rw (e, lt-leb (deskByte s d) 1 (omega arith))
+
+  pub open-desk : (deskByte s d ≡ 0 → ⊥)
+      → (eqb (deskByte s d) 1 && zeroAt s (deskAt d + deskZerosAt) deskZerosSize && (isRow s (deskRow s d) && carries s (deskAt d + openedAt) (deskRow s d) && carries s (deskAt d + workedAt) (deskRow s d)))
+      ≡ deskRight s d
+  unfolding deskRight closedZero deskMarked openNames
+  open-desk n = rw (ne-eqb (deskByte s d) 0 n, marked n)
+
+-- ---- the first rows, of which the free ones are to be zero
+
+-- what is left to say of the bytes from index z up to row i, and what has been said of those before
+abbrev pub RowsJudged : List ℕ → (before : Bool) (z i : ℕ) → Type 0
+RowsJudged s before z i = (before && zeroAt s z (rowAt i - z)) ≡ all i (λ k. isUsed s k || zeroAt s (rowAt k) rowSize)
+
+pub no-row-judged : (s : List ℕ) → RowsJudged s true rowsStart 0
+unfolding zeroAt all
+no-row-judged s = refl
+
+module _ (s : List ℕ) (before : Bool) (z i : ℕ) (h : RowsJudged s before z i) (l : z ≤ rowAt i) where
+  -- a free row makes the range longer
+  pub free-judged : isUsed s i ≡ false → RowsJudged s before z (i + 1)
+  free-judged e =
+      let n : rowAt (i + 1) - z ≡ rowAt i - z + rowSize = omega arith in
+      let m : z + (rowAt i - z) ≡ rowAt i = omega arith in
+      rw (n, zero-join s z (rowAt i - z) rowSize, m, and-assoc, h, all-next, e)
+
+  -- the range ends at any other
+  pub used-judged : isUsed s i ≡ true → RowsJudged s (before && zeroAt s z (rowAt i - z)) (rowAt i + rowSize) (i + 1)
+  unfolding zeroAt all
+  used-judged e =
+      let n : rowAt (i + 1) - (rowAt i + rowSize) ≡ 0 = omega arith in
+      rw (n, and-true, h, all-next, e, and-true)
+
+pub rows-judged : (s : List ℕ) (before : Bool) (z : ℕ) → RowsJudged s before z rowCount → z ≤ rowAt rowCount → Zeros s before z
+unfolding freeZero
+rows-judged s before z h l = record { within = l; says = h }
+
+-- ---- the free rows and the first desks, of which the closed ones are to be zero
+
+-- what is left to say of the bytes from index z up to desk d, and what has been said of those before
+abbrev pub Judged : List ℕ → (before : Bool) (z d : ℕ) → Type 0
+Judged s before z d = (before && zeroAt s z (deskAt d - z)) ≡ (freeZero s && all d (deskRight s))
+
+pub none-judged : (s : List ℕ) (before : Bool) (z : ℕ) → Zeros s before z → Judged s before z 0
+unfolding all
+none-judged s before z h = h .says ∙ sym (and-true _)
+
+module _ (s : List ℕ) (before : Bool) (z d : ℕ) (h : Judged s before z d) (l : z ≤ deskAt d) where
+  -- a closed desk makes the range longer
+  pub closed-judged : deskByte s d ≡ 0 → Judged s before z (d + 1)
+  closed-judged e =
+      let n : deskAt (d + 1) - z ≡ deskAt d - z + deskSize = omega arith in
+      let m : z + (deskAt d - z) ≡ deskAt d = omega arith in
+      rw (n, zero-join s z (deskAt d - z) deskSize, m, closed-desk s d e, all-next, and-assoc, h, and-assoc)
+
+  -- the range ends at any other
+  pub open-judged : Judged s (before && zeroAt s z (deskAt d - z) && deskRight s d) (deskAt d + deskSize) (d + 1)
+  unfolding zeroAt all
+  open-judged =
+      let n : deskAt (d + 1) - (deskAt d + deskSize) ≡ 0 = omega arith in
+      rw (n, and-true, h, all-next, and-assoc)
+
+-- ---- counts
+
+pub count-none : (p : ℕ → Bool) → count 0 p ≡ 0
+unfolding count
+count-none p = refl
+
+pub count-next : (n : ℕ) (p : ℕ → Bool) → count (n + 1) p ≡ count n p + cond (p n) 1 0
+unfolding count
+count-next n p = rw add-one
+
+-- some row that is counted makes the count positive
+pub count-some : (n i : ℕ) (p : ℕ → Bool) → i < n → p i ≡ true → 0 < count n p
+unfolding count
+count-some zero i p l e = absurd (omega arith)
+count-some (suc n) i p l e =
+    ⊎-elim
+    (λ (q : i ≡ n). let one : p n ≡ true = ap p (sym q) ∙ e in rw one (omega arith))
+    (λ (q : i < n). omega (arith, count-some n i p q e))
+    (eq-or-lt-of-le (omega arith))
+
+pub count-most : (n : ℕ) (p : ℕ → Bool) → count n p ≤ n
+unfolding count
+count-most zero p = omega arith
+count-most (suc n) p = by (count n p) (count-most n p) (p n)
+  where
+    by : (c : ℕ) → c ≤ n → (b : Bool) → c + cond b 1 0 ≤ suc n
+    by c l true = omega arith
+    by c l false = omega arith
+
+-- ---- what a right sheet tells
+
+-- its clauses
+pub record Right (s : List ℕ) : Type 0 where
+  pub long : length s ≡ sheetSize
+  pub header : headerRight s ≡ true
+  pub counted : count rowCount (isUsed s) ≡ used s
+  pub valid : validKeys s ≡ true
+  pub different : differentKeys s ≡ true
+  pub firsts : firstNumbers s ≡ true
+  pub free : freeZero s ≡ true
+  pub desks : all deskCount (deskRight s) ≡ true
+
+pub right-parts : (s : List ℕ) → right s ≡ true → Right s
+unfolding right countRight
+right-parts s h =
+    let long = eqb (length s) sheetSize in
+    let rows = countRight s && validKeys s && differentKeys s && firstNumbers s in
+    let h4 = and-split (long && headerRight s && rows && freeZero s) (all deskCount (deskRight s)) h in
+    let h3 = and-split (long && headerRight s && rows) (freeZero s) (h4 .0) in
+    let h2 = and-split (long && headerRight s) rows (h3 .0) in
+    let h1 = and-split long (headerRight s) (h2 .0) in
+    let f = and-split (countRight s && validKeys s && differentKeys s) (firstNumbers s) (h2 .1) in
+    let k = and-split (countRight s && validKeys s) (differentKeys s) (f .0) in
+    let c = and-split (countRight s) (validKeys s) (k .0) in
+    record {
+      long = eqb-true _ _ (h1 .0);
+      header = h1 .1;
+      counted = eqb-true _ _ (c .0);
+      valid = c .1;
+      different = k .1;
+      firsts = f .1;
+      free = h3 .1;
+      desks = h4 .1;
+    }
+
+-- a row that there is: its number, and its word
+pub row-parts : (s : List ℕ) (i : ℕ) → isRow s i ≡ true → (i < rowCount) × (isUsed s i ≡ true)
+row-parts s i h = let p = and-split (ltb i rowCount) (isUsed s i) h in (ltb-true i rowCount (p .0), p .1)
+
+-- a desk that is not closed names a row that there is
+pub open-row : (s : List ℕ) (d : ℕ) → right s ≡ true → d < deskCount → isClosed s d ≡ false → isRow s (deskRow s d) ≡ true
+unfolding deskRight openNames
+open-row s d h l o =
+    let names = and-split (closedZero s d && deskMarked s d) (openNames s d) (all-at deskCount d (deskRight s) (right-parts s h .desks) l) .1 in
+    let row = isRow s (deskRow s d) in
+    let opened = carries s (deskAt d + openedAt) (deskRow s d) in
+    let h1 = and-split (row && opened) (carries s (deskAt d + workedAt) (deskRow s d)) (rw o at names) in
+    and-split row opened (h1 .0) .0

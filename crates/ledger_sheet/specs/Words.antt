@@ -1,0 +1,31 @@
+-- The paper's number and values of each case of an answer: 0 and the values, or the refusal's number. A none adds no number.
+-- Assumes nothing.
+use Prim.Native.Nat.{ℕ}
+use mathlib.Core.List.{List, [], _∷_}
+use Rattle.refusals.specs.Table.{numberOf}
+use Rattle.ledger_sheet.specs.declared.Answer.{Answer}
+use Rattle.ledger_sheet.specs.declared.RowAnswer.{RowAnswer}
+use Rattle.ledger_sheet.specs.declared.ReportAnswer.{ReportAnswer}
+use Rattle.ledger_sheet.specs.declared.GapAnswer.{GapAnswer}
+use Rattle.ledger_sheet.specs.declared.Answer.the-variants as A
+use Rattle.ledger_sheet.specs.declared.RowAnswer.the-variants as R
+use Rattle.ledger_sheet.specs.declared.ReportAnswer.the-variants as Report
+use Rattle.ledger_sheet.specs.declared.GapAnswer.the-variants as G
+
+abbrev pub answerWords : Answer → List ℕ
+answerWords A.Done = 0 ∷ []
+answerWords (A.Refused r) = numberOf r ∷ []
+
+abbrev pub rowWords : RowAnswer → List ℕ
+rowWords (R.Row row) = 0 ∷ row ∷ []
+rowWords (R.Refused r) = numberOf r ∷ []
+
+abbrev pub reportAnswerWords : ReportAnswer → List ℕ
+reportAnswerWords (Report.Whole ticked) = 0 ∷ ticked ∷ 0 ∷ []
+reportAnswerWords (Report.Gaps ticked missing lowest) = 0 ∷ ticked ∷ missing ∷ lowest ∷ []
+reportAnswerWords (Report.Refused r) = numberOf r ∷ []
+
+abbrev pub gapWords : GapAnswer → List ℕ
+gapWords G.Nothing = 0 ∷ []
+gapWords (G.Gap number row) = 0 ∷ number ∷ row ∷ []
+gapWords (G.Refused r) = numberOf r ∷ []

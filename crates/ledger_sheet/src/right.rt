@@ -1,0 +1,220 @@
+// Whether a slice is a right sheet. Every call judges the whole sheet, so bytes and keys are gathered with no early exit
+// and LLVM vectorizes the loops.
+use crate::CLOSED;
+use crate::DESK;
+use crate::DESK_COUNT_AT;
+use crate::DESK_ROW_AT;
+use crate::DESK_ZEROS;
+use crate::DESK_ZEROS_AT;
+use crate::DESKS;
+use crate::DESKS_AT;
+use crate::DESKS_START_AT;
+use crate::FIRST;
+use crate::FIRST_AT;
+use crate::KEY;
+use crate::KEY_AT;
+use crate::LENGTH_AT;
+use crate::NUMBER;
+use crate::OPEN;
+use crate::OPENED_AT;
+use crate::ROW;
+use crate::ROW_COUNT_AT;
+use crate::ROWS;
+use crate::ROWS_AT;
+use crate::ROWS_START_AT;
+use crate::SHEET;
+use crate::TICKS_AT;
+use crate::USED;
+use crate::USED_AT;
+use crate::USED_WORD;
+use crate::WORKED_AT;
+use octets::is_long_zero;
+use octets::is_same;
+use octets::is_zero;
+use octets::read_be;
+ghost use mathlib.Core.Path.{_≡_};
+ghost use mathlib.Core.Bool.{not, _&&_, _||_};
+ghost use Prim.Native.Nat.{_+_, _≤_, _<_};
+ghost use lib.Dec.{eqb};
+ghost use lib.ListN.{length, getD};
+ghost use Rattle.octets.specs.Octets.{all};
+ghost use Rattle.ledger_sheet.specs.Sheet.{sheetSize, rowSize, rowCount, deskCount, used, isUsed, isRow, keyAt, firstNumberAt, deskByte, headerRight, countRight, validKeys, differentKeys, firstNumbers, freeZero, deskRight, right};
+ghost use Rattle.ledger_sheet.specs.Judging.{Zeros};
+
+// What has been judged of the bytes before an index, and where the range of zeros begins that ends there and has yet to be looked at.
+struct Judged {
+    right: bool,
+    zeros: usize,
+}
+
+// Whether a slice is a right sheet.
+pub fn is_sheet(s: &[u8]) -> bool
+    ensures { λ r. ⌜ r ≡ right (now (s .entry)) ⌝ }
+{
+    if s.len() != SHEET {
+        return false;
+    }
+    if !is_header(s) {
+        return false;
+    }
+    let rows = are_rows(s);
+    let rest = is_rest(s);
+    rows & rest
+}
+
+fn is_header(s: &[u8]) -> bool
+    requires { ⌜ length (now s) ≡ sheetSize ⌝ }
+    ensures { λ r. ⌜ r ≡ headerRight (now (s .entry)) ⌝ }
+{
+    let size = read_be(s, LENGTH_AT, NUMBER) == SHEET as u64;
+    let rows = read_be(s, ROW_COUNT_AT, NUMBER) == ROWS as u64;
+    let rows_start = read_be(s, ROWS_START_AT, NUMBER) == ROWS_AT as u64;
+    let desks = read_be(s, DESK_COUNT_AT, NUMBER) == DESKS as u64;
+    let desks_start = read_be(s, DESKS_START_AT, NUMBER) == DESKS_AT as u64;
+    size & rows & rows_start & desks & desks_start
+}
+
+// How many rows are used.
+pub fn rows_used(s: &[u8]) -> usize
+    requires { ⌜ length (now s) ≡ sheetSize ⌝ }
+    ensures { λ r. ⌜ r ≡ used (now (s .entry)) ⌝ }
+{
+    read_be(s, USED_AT, NUMBER) as usize
+}
+
+// Whether the row at place i is used.
+pub fn is_used(s: &[u8], i: usize) -> bool
+    requires { ⌜ (length (now s) ≡ sheetSize) × (i < rowCount) ⌝ }
+    ensures { λ r. ⌜ r ≡ isUsed (now (s .entry)) i ⌝ }
+{
+    read_be(s, ROWS_AT + ROW * i, USED_WORD) == USED
+}
+
+// Whether there is a row with the number i.
+pub fn is_row(s: &[u8], i: usize) -> bool
+    requires { ⌜ length (now s) ≡ sheetSize ⌝ }
+    ensures { λ r. ⌜ r ≡ isRow (now (s .entry)) i ⌝ }
+{
+    if i >= ROWS {
+        return false;
+    }
+    is_used(s, i)
+}
+
+// The key of the row or the copy at offset a.
+pub fn key_at(s: &[u8], a: usize) -> u64
+    requires { ⌜ a + rowSize ≤ length (now s) ⌝ }
+    ensures { λ r. ⌜ r ≡ keyAt (now (s .entry)) a ⌝ }
+{
+    read_be(s, a + KEY_AT, KEY)
+}
+
+// The first number of the row or the copy at offset a.
+pub fn first_at(s: &[u8], a: usize) -> u32
+    requires { ⌜ a + rowSize ≤ length (now s) ⌝ }
+    ensures { λ r. ⌜ r ≡ firstNumberAt (now (s .entry)) a ⌝ }
+{
+    read_be(s, a + FIRST_AT, FIRST) as u32
+}
+
+// Whether the header counts the used rows, and these have valid, different keys and first numbers of their streams. Each key is read
+// once, into an array of those of the used rows.
+fn are_rows(s: &[u8]) -> bool
+    requires { ⌜ length (now s) ≡ sheetSize ⌝ }
+    ensures { λ r. ⌜ r ≡ (countRight (now (s .entry)) && validKeys (now (s .entry)) && differentKeys (now (s .entry)) && firstNumbers (now (s .entry))) ⌝ }
+{
+    let mut keys = [0u64; ROWS];
+    let mut found = 0;
+    let mut valid = true;
+    let mut different = true;
+    let mut numbers = true;
+    for i in 0..ROWS {
+        if is_used(s, i) {
+            let row = ROWS_AT + ROW * i;
+            let key = key_at(s, row);
+            valid &= keys::valid(key);
+            numbers &= keys::is_number(key, first_at(s, row));
+            different &= is_new(&keys, found, key);
+            keys[found] = key;
+            found += 1;
+        }
+    }
+    (found == rows_used(s)) & valid & different & numbers
+}
+
+// Whether none of the first n keys is the key given.
+fn is_new(keys: &[u64; ROWS], n: usize, key: u64) -> bool
+    requires { ⌜ n ≤ rowCount ⌝ }
+    ensures { λ r. ⌜ r ≡ all n (λ j. not (eqb (getD (now (keys .entry)) j 0) key)) ⌝ }
+{
+    let mut new = true;
+    for j in 0..n {
+        new &= keys[j] != key;
+    }
+    new
+}
+
+// Whether the free rows are zero and each desk is right. The desks stand behind the rows, so that free rows that follow one another,
+// and closed desks behind the last ones, are one range of zeros, tested in one go.
+fn is_rest(s: &[u8]) -> bool
+    requires { ⌜ length (now s) ≡ sheetSize ⌝ }
+    ensures { λ r. ⌜ r ≡ (freeZero (now (s .entry)) && all deskCount (deskRight (now (s .entry)))) ⌝ }
+{
+    let judged = free_rows(s);
+    are_desks(s, judged)
+}
+
+// The ranges of free rows, up to the last, whose range goes on with the desks.
+fn free_rows(s: &[u8]) -> Judged
+    requires { ⌜ length (now s) ≡ sheetSize ⌝ }
+    ensures { λ r. ⌜ Zeros (now (s .entry)) (r .right) (r .zeros) ⌝ }
+{
+    let mut right = true;
+    let mut zeros = ROWS_AT;
+    for i in 0..ROWS {
+        if is_used(s, i) {
+            let row = ROWS_AT + ROW * i;
+            right &= is_long_zero(s, zeros, row - zeros);
+            zeros = row + ROW;
+        }
+    }
+    Judged { right, zeros }
+}
+
+// The ranges that end at an open desk, each open desk, and the last range.
+fn are_desks(s: &[u8], judged: Judged) -> bool
+    requires { ⌜ length (now s) ≡ sheetSize ⌝ }
+    requires { ⌜ Zeros (now s) (judged .right) (judged .zeros) ⌝ }
+    ensures { λ r. ⌜ r ≡ (freeZero (now (s .entry)) && all deskCount (deskRight (now (s .entry)))) ⌝ }
+{
+    let mut right = judged.right;
+    let mut zeros = judged.zeros;
+    for d in 0..DESKS {
+        let desk = DESKS_AT + DESK * d;
+        if s[desk] != CLOSED {
+            right &= is_long_zero(s, zeros, desk - zeros);
+            right &= is_open_desk(s, d);
+            zeros = desk + DESK;
+        }
+    }
+    right & is_long_zero(s, zeros, SHEET - zeros)
+}
+
+// Whether a desk that is not closed is marked open, has its two zeros, names a used row, and both its copies carry that row's word, key
+// and first number.
+fn is_open_desk(s: &[u8], d: usize) -> bool
+    requires { ⌜ length (now s) ≡ sheetSize ⌝ }
+    requires { ⌜ (d < deskCount) × (deskByte (now s) d ≡ 0 → ⊥) ⌝ }
+    ensures { λ r. ⌜ r ≡ deskRight (now (s .entry)) d ⌝ }
+{
+    let a = DESKS_AT + DESK * d;
+    let row = s[a + DESK_ROW_AT] as usize;
+    if !is_row(s, row) {
+        return false;
+    }
+    let open = s[a] == OPEN;
+    let zeros = is_zero(s, a + DESK_ZEROS_AT, DESK_ZEROS);
+    let opened = is_same(s, ROWS_AT + ROW * row, s, a + OPENED_AT, TICKS_AT);
+    let worked = is_same(s, ROWS_AT + ROW * row, s, a + WORKED_AT, TICKS_AT);
+    open & zeros & opened & worked
+}

@@ -1,0 +1,47 @@
+-- Each call of the ledger on the bytes of a sheet: judged by its rows of the refusal table, and then what it does to them. The law
+-- between these and the model's calls is in `layout`. Assumes nothing.
+use Prim.Native.Nat.{ℕ}
+use mathlib.Core.Bool.{Bool, not}
+use mathlib.Core.List.{List, [], _∷_}
+use lib.Dec.{eqb}
+use lib.ListN.{length}
+use Rattle.refusals.specs.Judge.{_when_}
+use Rattle.ledger_sheet.specs.Sheet.{sheetSize, rowCount, rowAt, right}
+use Rattle.ledger_changes.specs.Bytes.{Outcome, judged, done, freshSheet, rowWith, freeRow, enrolAt, strikeAt, openAt, clearDesk, markDesk, saveAt, reportWords, gapFrom}
+use Rattle.ledger_verdicts.specs.Verdicts.{enrolRows, findRows, openRows, deskRows, reportRows, strikeRows}
+
+-- "The call that makes a fresh sheet judges only the slice's length (20)."
+unfoldable pub freshCall : List ℕ → Outcome
+freshCall s = judged ((20 when not (eqb (length s) sheetSize)) ∷ []) (done, freshSheet) s
+
+-- "enrol takes the lowest free one"; no ticks; it answers the row.
+unfoldable pub enrolCall : (key first : ℕ) → List ℕ → Outcome
+enrolCall key first s = judged (enrolRows key first s) (0 ∷ freeRow s ∷ [], enrolAt (freeRow s) key first s) s
+
+-- "Find (key): answers the row with it."
+unfoldable pub findCall : (key : ℕ) → List ℕ → Outcome
+findCall key s = judged (findRows key s) (0 ∷ rowWith s key ∷ [], s) s
+
+-- "Open (desk, row): both copies become the row."
+unfoldable pub openCall : (d row : ℕ) → List ℕ → Outcome
+openCall d row s = judged (openRows d row s) (done, openAt d row s) s
+
+-- "Tick, untick (desk, number): change one bit of the desk's worked copy." 28, 29 and 30 are judged there.
+unfoldable pub markCall : Bool → (d n : ℕ) → List ℕ → Outcome
+markCall on d n s = judged (deskRows d s) (markDesk on d n s) s
+
+unfoldable pub saveCall : (d : ℕ) → List ℕ → Outcome
+saveCall d s = judged (deskRows d s) (saveAt d s) s
+
+unfoldable pub dropCall : (d : ℕ) → List ℕ → Outcome
+dropCall d s = judged (deskRows d s) (done, clearDesk d s) s
+
+unfoldable pub reportCall : (row : ℕ) → List ℕ → Outcome
+reportCall row s = judged (reportRows row s) (reportWords s (rowAt row), s) s
+
+unfoldable pub gapCall : List ℕ → Outcome
+gapCall s = judged ((20 when not (right s)) ∷ []) (gapFrom s 0 rowCount, s) s
+
+-- "strike gives 20, 25 .., then 36"; else the row is zeroed, and the header counts one less.
+unfoldable pub strikeCall : (row : ℕ) → List ℕ → Outcome
+strikeCall row s = judged (strikeRows row s) (done, strikeAt row s) s

@@ -1,0 +1,32 @@
+-- Read headers, case by case: read one's refusals first, then 15, then the fields. Assumes nothing.
+use Prim.Native.Nat.{ℕ}
+use native.Mathlib.Omega.{arith}
+use mathlib.Core.Bool.{true}
+use mathlib.Core.List.{List, [], _∷_, map}
+use mathlib.Core.Path.{_≡_, sym, ap, _∙_}
+use borrow.Author.Tests.{eq-eqb, ne-eqb}
+use Rattle.refusals.specs.Judge.{judge}
+use Rattle.refusals.proofs.Judged.{Outcome, none, first, outcome, none-judge, first-judge}
+use Rattle.sfdu.specs.Nesting.{kindNumber}
+use Rattle.sfdu.specs.Read.{kindOf, readRules, accepts, recordWords, readOne}
+use Rattle.sfdu.proofs.Accepted.{none-holds}
+use Rattle.sfdu_headers.specs.Words.{number}
+use Rattle.sfdu_headers.specs.Headers.{wrongKind, judgedFields, readHeaders}
+
+module _ (wanted : ℕ) (s : List ℕ) where
+  pub refused-first : (n m : ℕ) → readOne s ≡ n ∷ m ∷ [] → readHeaders wanted s ≡ number n ∷ number m ∷ []
+  unfolding readHeaders readOne
+  refused-first n m e = by (outcome (readRules s))
+    where
+      by : Outcome (readRules s) → readHeaders wanted s ≡ number n ∷ number m ∷ []
+      by (none h) =
+          let z : _≡_ {A = ℕ} 0 1 = cc (none-judge (λ given. given) (readRules s) (recordWords (kindOf s) s) h, e) in absurd (omega arith)
+      by (first g f) = first-judge (map number) _ f ∙ ap (map number) (sym (first-judge (λ given. given) (recordWords (kindOf s) s) f) ∙ e)
+
+  pub wrong-kind : accepts s ≡ true → (wanted ≡ kindNumber (kindOf s) → ⊥) → readHeaders wanted s ≡ wrongKind
+  unfolding readHeaders judge
+  wrong-kind a h = none-judge (map number) (readRules s) _ (none-holds s a) ∙ rw (ne-eqb _ _ h)
+
+  pub right-kind : accepts s ≡ true → wanted ≡ kindNumber (kindOf s) → readHeaders wanted s ≡ judgedFields (kindOf s) s
+  unfolding readHeaders judge
+  right-kind a e = none-judge (map number) (readRules s) _ (none-holds s a) ∙ rw (eq-eqb _ _ e)

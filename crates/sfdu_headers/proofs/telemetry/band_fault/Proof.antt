@@ -1,0 +1,40 @@
+-- `sfdu_headers::telemetry::band_fault` meets its contract. Assumes nothing.
+use mathlib.Core.Path.{sym, _∙_}
+use Rattle.refusals.specs.Judge.{judge}
+use Rattle.octets.proofs.Laws.{failed, passed}
+use Rattle.sfdu_headers.specs.Ranges.{fault}
+use borrow.Author.Needs.{needs}
+use Rattle.sfdu_headers.proofs.telemetry.band_fault.Statement.{statement}
+use Rattle.sfdu_headers.proofs.telemetry.band_fault.Tie as tie
+
+has-band-requires : tie.Need-has-band-requires
+has-band-requires c κs = search needs
+
+returns : tie.Need-returns
+unfolding fault judge
+returns c = rw (failed (c .before .has-band .ensures) (c .if1 .taken))
+
+shared-slice-read-is-band : tie.Need-shared-slice-read-is-band
+shared-slice-read-is-band c = search needs
+
+is-band-requires : tie.Need-is-band-requires
+is-band-requires c κs = search needs
+
+returns-2 : tie.Need-returns-2
+unfolding fault judge
+returns-2 c = rw (passed (c .before .before .before .before .has-band .ensures) (c .before .before .before .if1 .left), sym (c .before .is-band .ensures) ∙ c .if2 .taken)
+
+returns-3 : tie.Need-returns-3
+unfolding fault judge
+returns-3 c = rw (passed (c .before .before .before .before .has-band .ensures) (c .before .before .before .if1 .left), sym (c .before .is-band .ensures) ∙ c .if2 .left)
+
+pub band-fault-spec : {M : Type 1} → statement M
+band-fault-spec =
+    tie.close
+    (tie.spec
+    has-band-requires
+    returns
+    shared-slice-read-is-band
+    is-band-requires
+    returns-2
+    returns-3)

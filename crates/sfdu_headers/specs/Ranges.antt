@@ -1,0 +1,77 @@
+-- Document 01: which fields are judged, and refusal 12: "a field out of range; it gives the first byte of the lowest such field,
+-- counted from the record's start". Assumes nothing.
+use Prim.Native.Nat.{ℕ, _+_}
+use mathlib.Core.Bool.{Bool, not, _&&_, _||_}
+use mathlib.Core.List.{List, [], _∷_, _++_, map}
+use lib.Dec.{eqb, leb}
+use lib.ListN.{getD}
+use Rattle.refusals.specs.Judge.{Rule, _when_}
+use Rattle.sfdu.specs.declared.Kind.{Kind}
+use Rattle.sfdu.specs.declared.Kind.the-variants.{Telemetry, Rsr}
+use Rattle.sfdu.specs.declared.Checked.{Checked}
+use Rattle.sfdu.specs.Nesting.{primaryValueAt, secondaryAt}
+use Rattle.sfdu.specs.Read.{checked}
+use Rattle.dates.specs.Calendar.{isYear, isDay}
+use Rattle.sfdu_headers.specs.declared.Allowed.{Allowed}
+use Rattle.sfdu_headers.specs.declared.Allowed.the-variants.{Between, Bands}
+use Rattle.sfdu_headers.specs.declared.Judged.{Judged}
+use Rattle.sfdu_headers.specs.Fields.{uplinkAt, uplink, hasBand, year, day, rsrUplinkAt, downlinkAt, rsrModeAt, bandwidthAt, attenuationAt, rmsAt, peakAt, yearAt, dayAt}
+
+-- The letters of the bands: K, S, U, X.
+abbrev pub letterK : ℕ
+letterK = 75
+
+abbrev pub letterS : ℕ
+letterS = 83
+
+abbrev pub letterU : ℕ
+letterU = 85
+
+abbrev pub letterX : ℕ
+letterX = 88
+
+-- RSR: "(S, X, K)". Telemetry: "U, S, X or K".
+unfoldable pub isRsrBand : ℕ → Bool
+isRsrBand b = eqb b letterS || eqb b letterX || eqb b letterK
+
+unfoldable pub isBand : ℕ → Bool
+isBand b = eqb b letterU || isRsrBand b
+
+unfoldable pub inRange : Allowed → ℕ → Bool
+inRange (Between low high) b = leb low b && leb b high
+inRange Bands b = isRsrBand b
+
+-- The judged bytes of an RSR record, from the lowest: the primary's major class, minor class and format; then uplink and
+-- downlink band, mode, bandwidth, attenuation, RMS and peak.
+unfoldable pub judgedBytes : List Judged
+judgedBytes =
+    record { at = primaryValueAt; allowed = Between 21 21 }
+    ∷ record { at = primaryValueAt + 1; allowed = Between 4 4 }
+    ∷ record { at = primaryValueAt + 3; allowed = Between 0 0 }
+    ∷ record { at = secondaryAt + rsrUplinkAt; allowed = Bands }
+    ∷ record { at = secondaryAt + downlinkAt; allowed = Bands }
+    ∷ record { at = secondaryAt + rsrModeAt; allowed = Between 1 3 }
+    ∷ record { at = secondaryAt + bandwidthAt; allowed = Between 1 127 }
+    ∷ record { at = secondaryAt + attenuationAt; allowed = Between 0 63 }
+    ∷ record { at = secondaryAt + rmsAt; allowed = Between 0 128 }
+    ∷ record { at = secondaryAt + peakAt; allowed = Between 0 128 }
+    ∷ []
+
+abbrev pub byteRule : List ℕ → Judged → Rule ℕ
+byteRule s f = (f .at) when not (inRange (f .allowed) (getD s (f .at) 0))
+
+abbrev pub byteRules : List ℕ → List (Rule ℕ)
+byteRules s = map (byteRule s) judgedBytes
+
+-- Year and day of the ADC reading: "year 28-29 (1900 to 3000) and day 30-31"; document 02, Req 01: day 366 in a leap year alone.
+abbrev pub dateRules : List ℕ → List (Rule ℕ)
+dateRules s = ((secondaryAt + yearAt) when not (isYear (year s))) ∷ ((secondaryAt + dayAt) when not (isDay (year s) (day s))) ∷ []
+
+-- Each judged field, from the lowest: its offset, given when it is out of range.
+abbrev pub fieldRules : Kind → List ℕ → List (Rule ℕ)
+fieldRules Telemetry s = ((secondaryAt + uplinkAt) when (hasBand s && not (isBand (uplink s)))) ∷ []
+fieldRules Rsr s = byteRules s ++ dateRules s
+
+-- The lowest field out of range.
+unfoldable pub fault : Kind → List ℕ → Checked
+fault k s = checked (fieldRules k s)

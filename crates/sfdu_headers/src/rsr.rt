@@ -1,0 +1,296 @@
+// The fields of an RSR record.
+ghost use mathlib.Core.Path.{_≡_};
+ghost use mathlib.Core.Bool.{cond};
+ghost use mathlib.Core.List.{[], _∷_};
+ghost use Prim.Native.Nat.{_≤_, _+_};
+ghost use lib.ListN.{length};
+ghost use Rattle.sfdu.specs.declared.Kind.the-variants.{Rsr};
+ghost use Rattle.sfdu.specs.Nesting.{dataValueAt, secondaryAt};
+ghost use Rattle.sfdu.specs.Read.{primaryWords, primaryOf, recordLength, checked};
+ghost use Rattle.dates.specs.Calendar.{isYear};
+ghost use Rattle.sfdu_headers.specs.Dated.{IsDated};
+ghost use Rattle.sfdu_headers.specs.Fields.{recordNumber, signedByte, yearAt, dayAt};
+ghost use Rattle.sfdu_headers.specs.Headers.{wordsOf, acceptedFields, judgedFields, outOfRange, sourceWords, sourceOf, signalWords, signalOf, timeWords, timeOf, addedOf};
+ghost use Rattle.sfdu_headers.specs.Ranges.{inRange, isRsrBand, byteRules};
+ghost use Rattle.sfdu_headers.specs.Words.{number};
+use crate::Allowed;
+use crate::Dated;
+use crate::Headers;
+use crate::Judged;
+use crate::RsrSignal;
+use crate::RsrSource;
+use crate::RsrTime;
+use dates::CountAnswer;
+use octets::read_be;
+use octets::read_u16;
+use refusals::Refusal;
+use sfdu::Checked;
+use sfdu::Fault;
+use sfdu::PRIMARY_VALUE_AT;
+use sfdu::Primary;
+use sfdu::SECONDARY_AT;
+
+// Where the fields stand, from the record's start.
+const SOFTWARE_AT: usize = SECONDARY_AT + 6;
+
+const NUMBER_AT: usize = SECONDARY_AT + 8;
+
+const COMPLEX_AT: usize = SECONDARY_AT + 10;
+
+const STATION_AT: usize = SECONDARY_AT + 11;
+
+const RECEIVER_AT: usize = SECONDARY_AT + 12;
+
+const SUBCHANNEL_AT: usize = SECONDARY_AT + 13;
+
+const SPACECRAFT_AT: usize = SECONDARY_AT + 15;
+
+const PASS_AT: usize = SECONDARY_AT + 16;
+
+const UPLINK_AT: usize = SECONDARY_AT + 18;
+
+const DOWNLINK_AT: usize = SECONDARY_AT + 19;
+
+const MODE_AT: usize = SECONDARY_AT + 20;
+
+const UPLINK_STATION_AT: usize = SECONDARY_AT + 21;
+
+const EXPECTED_AT: usize = SECONDARY_AT + 22;
+
+const BANDWIDTH_AT: usize = SECONDARY_AT + 23;
+
+const OVERRIDDEN_AT: usize = SECONDARY_AT + 24;
+
+const ATTENUATION_AT: usize = SECONDARY_AT + 25;
+
+const RMS_AT: usize = SECONDARY_AT + 26;
+
+const PEAK_AT: usize = SECONDARY_AT + 27;
+
+const YEAR_AT: usize = SECONDARY_AT + 28;
+
+const DAY_AT: usize = SECONDARY_AT + 30;
+
+const FREQUENCY_AT: usize = SECONDARY_AT + 64;
+
+const FREQUENCY: usize = 8;
+
+// The judged bytes, from the lowest.
+const JUDGED: [Judged; 10] = [
+    Judged {
+        at: PRIMARY_VALUE_AT,
+        allowed: Allowed::Between(21, 21),
+    },
+    Judged {
+        at: PRIMARY_VALUE_AT + 1,
+        allowed: Allowed::Between(4, 4),
+    },
+    Judged {
+        at: PRIMARY_VALUE_AT + 3,
+        allowed: Allowed::Between(0, 0),
+    },
+    Judged {
+        at: UPLINK_AT,
+        allowed: Allowed::Bands,
+    },
+    Judged {
+        at: DOWNLINK_AT,
+        allowed: Allowed::Bands,
+    },
+    Judged {
+        at: MODE_AT,
+        allowed: Allowed::Between(1, 3),
+    },
+    Judged {
+        at: BANDWIDTH_AT,
+        allowed: Allowed::Between(1, 127),
+    },
+    Judged {
+        at: ATTENUATION_AT,
+        allowed: Allowed::Between(0, 63),
+    },
+    Judged {
+        at: RMS_AT,
+        allowed: Allowed::Between(0, 128),
+    },
+    Judged {
+        at: PEAK_AT,
+        allowed: Allowed::Between(0, 128),
+    },
+];
+
+// The fields, the key and the day count of a whole RSR record, or the offset of the lowest field out of range.
+pub fn fields(s: &[u8], size: usize, primary: Primary) -> Headers
+    requires { ⌜ (size ≡ recordLength (now s)) × (primaryWords primary ≡ primaryOf (now s)) × (dataValueAt Rsr ≤ length (now s)) ⌝ }
+    ensures { λ r. ⌜ wordsOf r ≡ judgedFields Rsr (now (s .entry)) ⌝ }
+{
+    let bytes = byte_fault(s);
+    if let Checked::Wrong(at) = bytes {
+        return out_of_range(at);
+    }
+    let dated = read_date(s);
+    let date = dated.checked;
+    if let Checked::Wrong(at) = date {
+        return out_of_range(at);
+    }
+    read_fields(s, size, primary, dated.count)
+}
+
+fn out_of_range(at: usize) -> Headers
+    ensures { λ r. ⌜ wordsOf r ≡ outOfRange at ⌝ }
+{
+    Headers::Refused(Fault {
+        refusal: Refusal::FieldRange,
+        at,
+    })
+}
+
+fn read_fields(s: &[u8], size: usize, primary: Primary, count: u32) -> Headers
+    requires { ⌜ (size ≡ recordLength (now s)) × (primaryWords primary ≡ primaryOf (now s)) × (dataValueAt Rsr ≤ length (now s)) × (number count ∷ [] ≡ addedOf Rsr (now s)) ⌝ }
+    ensures { λ r. ⌜ wordsOf r ≡ acceptedFields Rsr (now (s .entry)) ⌝ }
+{
+    let source = read_source(s);
+    let signal = read_signal(s);
+    let time = read_time(s);
+    let key = keys::rsr_key_of(
+        source.spacecraft,
+        source.station,
+        source.receiver,
+        source.subchannel,
+    );
+    Headers::Rsr {
+        size,
+        primary,
+        source,
+        signal,
+        time,
+        key,
+        day_count: count,
+    }
+}
+
+// The lowest judged byte out of range. The table is made once, before the loop: LLVM then unrolls the loop, and each entry is a
+// constant.
+fn byte_fault(s: &[u8]) -> Checked
+    requires { ⌜ dataValueAt Rsr ≤ length (now s) ⌝ }
+    ensures { λ r. ⌜ r ≡ checked (byteRules (now (s .entry))) ⌝ }
+{
+    let table = JUDGED;
+    for i in 0..table.len() {
+        let field = table[i];
+        let at = field.at;
+        let allowed = field.allowed;
+        if !in_range(allowed, s[at]) {
+            return Checked::Wrong(at);
+        }
+    }
+    Checked::Right
+}
+
+fn in_range(allowed: Allowed, b: u8) -> bool
+    ensures { λ r. ⌜ r ≡ inRange allowed b ⌝ }
+{
+    match allowed {
+        Allowed::Between(low, high) => (low <= b) & (b <= high),
+        Allowed::Bands => is_band(b),
+    }
+}
+
+pub fn is_band(b: u8) -> bool
+    ensures { λ r. ⌜ r ≡ isRsrBand b ⌝ }
+{
+    (b == b'S') | (b == b'X') | (b == b'K')
+}
+
+// The year and the day: which of them is out of range, or their day count.
+fn read_date(s: &[u8]) -> Dated
+    requires { ⌜ dataValueAt Rsr ≤ length (now s) ⌝ }
+    ensures { λ r. ⌜ IsDated (now (s .entry)) r ⌝ }
+{
+    let year = read_u16(s, YEAR_AT);
+    let day = read_u16(s, DAY_AT);
+    let answer = dates::day_count(year, day);
+    match answer {
+        CountAnswer::Day(count) => Dated {
+            checked: Checked::Right,
+            count,
+        },
+        CountAnswer::NotADate => Dated {
+            checked: Checked::Wrong(wrong_date_at(year)),
+            count: 0,
+        },
+    }
+}
+
+// Where a year and a day are no date: the year's offset, or the day's where the year is one.
+fn wrong_date_at(year: u16) -> usize
+    ensures { λ r. ⌜ r ≡ cond (isYear year) (secondaryAt + dayAt) (secondaryAt + yearAt) ⌝ }
+{
+    if dates::is_year(year) {
+        return DAY_AT;
+    }
+    YEAR_AT
+}
+
+fn read_source(s: &[u8]) -> RsrSource
+    requires { ⌜ dataValueAt Rsr ≤ length (now s) ⌝ }
+    ensures { λ r. ⌜ sourceWords r ≡ sourceOf (now (s .entry)) ⌝ }
+{
+    RsrSource {
+        software: read_u16(s, SOFTWARE_AT),
+        number: number(s),
+        complex: s[COMPLEX_AT],
+        station: s[STATION_AT],
+        receiver: s[RECEIVER_AT],
+        subchannel: s[SUBCHANNEL_AT],
+        spacecraft: s[SPACECRAFT_AT],
+        pass: read_u16(s, PASS_AT),
+    }
+}
+
+pub fn number(s: &[u8]) -> u16
+    requires { ⌜ dataValueAt Rsr ≤ length (now s) ⌝ }
+    ensures { λ r. ⌜ r ≡ recordNumber Rsr (now (s .entry)) ⌝ }
+{
+    read_u16(s, NUMBER_AT)
+}
+
+fn read_signal(s: &[u8]) -> RsrSignal
+    requires { ⌜ dataValueAt Rsr ≤ length (now s) ⌝ }
+    ensures { λ r. ⌜ signalWords r ≡ signalOf (now (s .entry)) ⌝ }
+{
+    let expected = signed(s[EXPECTED_AT]);
+    RsrSignal {
+        uplink: s[UPLINK_AT],
+        downlink: s[DOWNLINK_AT],
+        mode: s[MODE_AT],
+        uplink_station: s[UPLINK_STATION_AT],
+        expected,
+        bandwidth: s[BANDWIDTH_AT],
+        overridden: s[OVERRIDDEN_AT],
+        attenuation: s[ATTENUATION_AT],
+        rms: s[RMS_AT],
+        peak: s[PEAK_AT],
+    }
+}
+
+// A byte in two's complement.
+fn signed(b: u8) -> i8
+    ensures { λ r. ⌜ r ≡ signedByte b ⌝ }
+{
+    if b < 128 {
+        return b as i8;
+    }
+    (b as i16 - 256) as i8
+}
+
+fn read_time(s: &[u8]) -> RsrTime
+    requires { ⌜ dataValueAt Rsr ≤ length (now s) ⌝ }
+    ensures { λ r. ⌜ timeWords r ≡ timeOf (now (s .entry)) ⌝ }
+{
+    RsrTime {
+        year: read_u16(s, YEAR_AT),
+        day: read_u16(s, DAY_AT),
+        frequency: read_be(s, FREQUENCY_AT, FREQUENCY),
+    }
+}

@@ -1,0 +1,159 @@
+// The fields of a telemetry record.
+ghost use mathlib.Core.Bool.{cond};
+ghost use mathlib.Core.Path.{_≡_};
+ghost use Prim.Native.Nat.{_≤_, _<_};
+ghost use lib.ListN.{length};
+ghost use Rattle.sfdu.specs.declared.Kind.the-variants.{Telemetry};
+ghost use Rattle.sfdu.specs.Nesting.{dataValueAt};
+ghost use Rattle.sfdu.specs.Read.{primaryWords, primaryOf, recordLength};
+ghost use Rattle.sfdu_headers.specs.Fields.{recordNumber, spacecraft, hasBand, uplink};
+ghost use Rattle.sfdu_headers.specs.Headers.{wordsOf, judgedFields, telemetryFieldWords, fieldsOf, bandWord, receivedWords, addedOf};
+ghost use Rattle.sfdu_headers.specs.Ranges.{fault, isBand};
+ghost use Rattle.sfdu_headers.specs.Words.{number, none};
+use crate::Band;
+use crate::Headers;
+use crate::ReceivedTime;
+use crate::TelemetryFields;
+use octets::read_be;
+use octets::read_u16;
+use octets::read_u32;
+use refusals::Refusal;
+use sfdu::Checked;
+use sfdu::Fault;
+use sfdu::Primary;
+use sfdu::SECONDARY_AT;
+
+// Where the fields stand, from the record's start.
+const SPACECRAFT_AT: usize = SECONDARY_AT + 6;
+
+const SOURCE_AT: usize = SECONDARY_AT + 10;
+
+const RECEIVED_AT: usize = SECONDARY_AT + 14;
+
+const RECEIVED: usize = 8;
+
+// The parts of the received time.
+const DAYS_AT: usize = RECEIVED_AT;
+
+const MILLISECONDS_AT: usize = RECEIVED_AT + 2;
+
+const EXTENDED_AT: usize = RECEIVED_AT + 6;
+
+const NUMBER_AT: usize = SECONDARY_AT + 22;
+
+const UPLINK_AT: usize = SECONDARY_AT + 26;
+
+const MODE_AT: usize = SECONDARY_AT + 28;
+
+const STREAM_AT: usize = SECONDARY_AT + 30;
+
+const EQUIPMENT_AT: usize = SECONDARY_AT + 74;
+
+// The fields and the key of a whole telemetry record, or the offset of the band where that is out of range.
+pub fn fields(s: &[u8], size: usize, primary: Primary) -> Headers
+    requires { ⌜ (size ≡ recordLength (now s)) × (primaryWords primary ≡ primaryOf (now s)) × (dataValueAt Telemetry ≤ length (now s)) ⌝ }
+    ensures { λ r. ⌜ wordsOf r ≡ judgedFields Telemetry (now (s .entry)) ⌝ }
+{
+    let checked = band_fault(s);
+    if let Checked::Wrong(at) = checked {
+        return Headers::Refused(Fault {
+            refusal: Refusal::FieldRange,
+            at,
+        });
+    }
+    let fields = read_fields(s);
+    let key = keys::telemetry_key_of(
+        fields.spacecraft,
+        fields.source,
+        fields.equipment,
+        fields.stream,
+    );
+    let received = read_received(s);
+    Headers::Telemetry {
+        size,
+        primary,
+        fields,
+        key,
+        received,
+    }
+}
+
+// The band's offset where it means something and is no band, else 0.
+fn band_fault(s: &[u8]) -> Checked
+    requires { ⌜ dataValueAt Telemetry ≤ length (now s) ⌝ }
+    ensures { λ r. ⌜ r ≡ fault Telemetry (now (s .entry)) ⌝ }
+{
+    if !has_band(s) {
+        return Checked::Right;
+    }
+    if is_band(s[UPLINK_AT]) {
+        return Checked::Right;
+    }
+    Checked::Wrong(UPLINK_AT)
+}
+
+fn has_band(s: &[u8]) -> bool
+    requires { ⌜ dataValueAt Telemetry ≤ length (now s) ⌝ }
+    ensures { λ r. ⌜ r ≡ hasBand (now (s .entry)) ⌝ }
+{
+    2 <= s[MODE_AT] % 4
+}
+
+fn is_band(b: u8) -> bool
+    ensures { λ r. ⌜ r ≡ isBand b ⌝ }
+{
+    (b == b'U') | crate::rsr::is_band(b)
+}
+
+fn read_fields(s: &[u8]) -> TelemetryFields
+    requires { ⌜ dataValueAt Telemetry ≤ length (now s) ⌝ }
+    ensures { λ r. ⌜ telemetryFieldWords r ≡ fieldsOf Telemetry (now (s .entry)) ⌝ }
+{
+    let uplink = band(s);
+    TelemetryFields {
+        spacecraft: spacecraft(s),
+        source: s[SOURCE_AT],
+        received: read_be(s, RECEIVED_AT, RECEIVED),
+        number: number(s),
+        uplink,
+        mode: s[MODE_AT] % 4,
+        stream: s[STREAM_AT],
+        equipment: read_u16(s, EQUIPMENT_AT),
+    }
+}
+
+fn read_received(s: &[u8]) -> ReceivedTime
+    requires { ⌜ dataValueAt Telemetry ≤ length (now s) ⌝ }
+    ensures { λ r. ⌜ receivedWords r ≡ addedOf Telemetry (now (s .entry)) ⌝ }
+{
+    ReceivedTime {
+        days: read_u16(s, DAYS_AT),
+        milliseconds: read_u32(s, MILLISECONDS_AT),
+        extended: read_u16(s, EXTENDED_AT),
+    }
+}
+
+// The lowest two bits of a byte, then the next byte.
+fn spacecraft(s: &[u8]) -> u16
+    requires { ⌜ dataValueAt Telemetry ≤ length (now s) ⌝ }
+    ensures { λ r. ⌜ r ≡ spacecraft (now (s .entry)) ⌝ }
+{
+    (s[SPACECRAFT_AT] % 4) as u16 * 256 + s[SPACECRAFT_AT + 1] as u16
+}
+
+fn band(s: &[u8]) -> Band
+    requires { ⌜ dataValueAt Telemetry ≤ length (now s) ⌝ }
+    ensures { λ r. ⌜ bandWord r ≡ cond (hasBand (now (s .entry))) (number (uplink (now (s .entry)))) none ⌝ }
+{
+    if has_band(s) {
+        return Band::Letter(s[UPLINK_AT]);
+    }
+    Band::Unused
+}
+
+pub fn number(s: &[u8]) -> u32
+    requires { ⌜ dataValueAt Telemetry ≤ length (now s) ⌝ }
+    ensures { λ r. ⌜ r ≡ recordNumber Telemetry (now (s .entry)) ⌝ }
+{
+    read_u32(s, NUMBER_AT)
+}

@@ -1,0 +1,78 @@
+-- What `io::decimal` puts is `decimal`, and how long that is. Assumes nothing.
+use Prim.Native.Nat.{ℕ, zero, suc, _+_, _-_, _/_, _%_, _^_, _≤_, _<_}
+use native.Mathlib.Nat.{le-trans, pow-le-pow-right, pow-suc, div-lt-iff-lt-mul, le-div-iff-mul-le}
+use native.Mathlib.Numerals.{add-one}
+use native.Mathlib.Omega.{arith}
+use mathlib.Core.Bool.{Bool, true, false, cond}
+use mathlib.Core.List.{[], _∷_}
+use mathlib.Core.Path.{_≡_, refl, sym, ap, _∙_, subst}
+use borrow.Author.Tests.{ltb-false, lt-ltb, le-ltb}
+use lib.Dec.{ltb}
+use lib.ListN.{length, length-append}
+use Rattle.io.specs.Digits.{digits, glyph, Fewest}
+use Rattle.sfdu_listing.specs.Text.{placesIn, decimal, word}
+
+-- ---- the digits' count
+
+-- k digits and one more, the fewest that hold n, but for the last digit
+fewer : (j n : ℕ) → Fewest 10 1 n (suc (suc j)) → (10 ≤ n) × Fewest 10 1 (n / 10) (suc j)
+fewer j n f =
+    let less : suc (suc j) - 1 ≡ suc j = omega arith in
+    let big : 10 ^ suc j ≤ n = subst (λ (i : ℕ). 10 ^ i ≤ n) less (f .2 (omega arith)) in
+    let ten : 10 ≤ n = le-trans (pow-le-pow-right {n = 10} (omega arith) {i = 1} {j = suc j} (omega arith)) big in
+    let same : j ≡ suc j - 1 = omega arith in
+    let below : n / 10 < 10 ^ suc j = div-lt-iff-lt-mul {k = 10} {x = n} {y = 10 ^ suc j} (omega arith) .1 (subst (λ (k : ℕ). n < k) (pow-suc 10 (suc j)) (f .1)) in
+    let above : 10 ^ j ≤ n / 10 = le-div-iff-mul-le {k = 10} {x = 10 ^ j} {y = n} (omega arith) .1 (subst (λ (k : ℕ). k ≤ n) (pow-suc 10 j) big) in
+    (ten, (omega arith, below, λ l. subst (λ (i : ℕ). 10 ^ i ≤ n / 10) same above))
+
+places-is : (most k n : ℕ) → n ≤ most → Fewest 10 1 n k → placesIn most n ≡ k
+unfolding placesIn
+places-is most zero n h f = absurd (omega (arith, f .0))
+places-is zero (suc zero) n h f = refl
+places-is zero (suc (suc j)) n h f = absurd (omega (arith, fewer j n f .0))
+places-is (suc most) (suc zero) n h f = let l : n < 10 = f .1 in rw (lt-ltb n 10 l)
+places-is (suc most) (suc (suc j)) n h f =
+    let g = fewer j n f in
+    rw (le-ltb n 10 (g .0)) (ap suc (places-is most (suc j) (n / 10) (omega (arith, g .0)) (g .1)))
+
+pub decimal-is : (k n : ℕ) → Fewest 10 1 n k → digits 10 k n ≡ decimal n
+unfolding decimal
+decimal-is k n f = ap (λ (i : ℕ). digits 10 i n) (sym (places-is n k n (omega arith) f))
+
+-- ---- its length
+
+length-digits : (k n : ℕ) → length (digits 10 k n) ≡ k
+length-digits zero n = refl
+length-digits (suc k) n =
+    length-append (digits 10 k (n / 10)) (glyph (n % 10) ∷ []) ∙ ap (λ (i : ℕ). i + 1) (length-digits k (n / 10)) ∙ add-one k
+
+-- below 10 ^ m there are at most m digits
+few : (most m n : ℕ) → 0 < m → n < 10 ^ m → placesIn most n ≤ m
+unfolding placesIn
+few zero m n p h = p
+few (suc most) zero n p h = absurd (omega arith)
+few (suc most) (suc m) n p h = by (ltb n 10) refl (λ i. few most i (n / 10)) m h
+  where
+    by : (b : Bool) → ltb n 10 ≡ b → ((i : ℕ) → 0 < i → n / 10 < 10 ^ i → placesIn most (n / 10) ≤ i)
+        → (i : ℕ) → n < 10 ^ suc i → cond b 1 (suc (placesIn most (n / 10))) ≤ suc i
+    by true e less i l = omega arith
+    by false e less zero l = let t : 10 ≤ n = ltb-false n 10 e in absurd (omega (arith, l))
+    by false e less (suc i) l =
+        let below : n / 10 < 10 ^ suc i = div-lt-iff-lt-mul {k = 10} {x = n} {y = 10 ^ suc i} (omega arith) .1 (subst (λ (k : ℕ). n < k) (pow-suc 10 (suc i)) l) in
+        omega (arith, less (suc i) (omega arith) below)
+
+pub decimal-short : (m n : ℕ) → 0 < m → n < 10 ^ m → length (decimal n) ≤ m
+unfolding decimal
+decimal-short m n p h = rw (length-digits (placesIn n n) n) (few n m n p h)
+
+pub length-word : (n after : ℕ) → length (word n after) ≡ length (decimal n) + 1
+unfolding word
+length-word n after = length-append (decimal n) (after ∷ [])
+
+-- a number of 64 bits has at most 20 digits
+pub word-short : (m n after : ℕ) → 0 < m → n < 10 ^ m → length (word n after) ≤ m + 1
+word-short m n after p h = omega (arith, length-word n after, decimal-short m n p h)
+
+-- of k digits and one byte more
+pub digits-length : (k n after : ℕ) → Fewest 10 1 n k → length (word n after) ≡ k + 1
+digits-length k n after f = length-word n after ∙ ap (λ (i : ℕ). i + 1) (sym (ap length (decimal-is k n f)) ∙ length-digits k n)

@@ -1,0 +1,24 @@
+-- Document 01's example: "The program, given one telemetry record of 120 bytes, number 7, writes exactly" these three lines.
+-- Assumes nothing.
+use mathlib.Core.List.{List, [], _∷_, _++_}
+use mathlib.Core.Path.{_≡_, refl}
+use Prim.Native.Nat.{ℕ}
+use lib.ListN.{replicate}
+use Rattle.sfdu.specs.declared.Kind.the-variants.{Telemetry}
+use Rattle.sfdu_write.specs.Write.{recordBytes, headBytes, labelBytes, primaryBlock, block}
+use Rattle.sfdu.specs.Read.{kindOf, hasKind, recordLength, labelLength, lengthInRange, blockType, blockLength, isCount, inStream}
+use Rattle.octets.specs.Octets.{bytesOf, numberAt, sameAt, all}
+use Rattle.refusals.specs.Judge.{judge}
+use Rattle.sfdu_headers.specs.Fields.{recordNumber}
+use Rattle.sfdu_listing.specs.Text.{placesIn, decimal, word, heading, line, numbersLine, lastLine}
+use Rattle.sfdu_listing.specs.Listing.{refusal, whole, stopWords, recordLine, linesIn, linesFrom, listing}
+
+-- the record number stands in bytes 22 to 25 of the secondary block, whose value starts at byte 4
+abbrev pub example : List ℕ
+example = recordBytes Telemetry (record { major = 0; minor = 0; mission = 0; format = 0 }) (replicate 18 0 ++ (0 ∷ 0 ∷ 0 ∷ 7 ∷ []) ++ replicate 58 0) []
+
+-- 0 120 T 7
+-- 120 0 0
+pub listed : listing example ≡ heading ++ (48 ∷ 32 ∷ 49 ∷ 50 ∷ 48 ∷ 32 ∷ 84 ∷ 32 ∷ 55 ∷ 10 ∷ []) ++ (49 ∷ 50 ∷ 48 ∷ 32 ∷ 48 ∷ 32 ∷ 48 ∷ 10 ∷ [])
+unfolding recordBytes headBytes labelBytes primaryBlock block bytesOf kindOf hasKind recordLength labelLength lengthInRange blockType blockLength isCount inStream numberAt sameAt all judge recordNumber placesIn decimal word heading line numbersLine lastLine refusal whole stopWords recordLine linesIn linesFrom listing
+listed = refl

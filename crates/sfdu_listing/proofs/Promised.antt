@@ -1,0 +1,66 @@
+-- The promise of a run. Assumes nothing.
+use Prim.Native.Nat.{ℕ, _+_, _≤_}
+use native.Mathlib.Omega.{arith}
+use mathlib.Core.Bool.{Bool, true, false}
+use mathlib.Core.List.{List, [], _++_, append-assoc, append-nil}
+use mathlib.Core.Path.{_≡_, refl, sym, ap, _∙_}
+use borrow.Author.Tests.{ne-eqb, leb-true, leb-false}
+use lib.Dec.{leb}
+use lib.ListN.{length, take, drop, length-append, drop-of-length-le}
+use lib.Seq.{take-at, take-all, length-take-le}
+use Rattle.octets.specs.Octets.{put}
+use Rattle.sfdu_listing.specs.declared.State.{State}
+use Rattle.sfdu_listing.specs.Listing.{linesFrom, listing}
+use Rattle.sfdu_listing.specs.Window.{Puts, unless, GoesOn}
+use Rattle.sfdu_listing.specs.Run.{Run, begins, lists, writes, Promise}
+
+-- What holds wherever a run stands.
+record Kept (read : List ℕ) (ended : Bool) (written : List ℕ) (s : State) (held text : List ℕ) : Type 0 where
+  pub going : s .done ≡ false → ended ≡ false
+  pub says : (more : List ℕ) → GoesOn ended more
+      → listing (read ++ more) ≡ written ++ (text ++ unless (s .done) (linesFrom (s .place) (held ++ more)))
+
+-- the text that is laid out grows by what is put behind it
+pub grown : (old new : List ℕ) (at r : ℕ) (t : List ℕ) → Puts old new at r t → take r new ≡ take at old ++ t
+unfolding put
+grown old new at r t p = by (leb at (length old)) refl
+  where
+    by : (b : Bool) → leb at (length old) ≡ b → take r new ≡ take at old ++ t
+    by true e =
+        let l = length-take-le at old (leb-true at (length old) e) in
+        rw (p .bytes, take-at (take at old ++ t) (drop (at + length t) old) r (length-append (take at old) t ∙ omega (arith, l, p .end)))
+    by false e =
+        let h = leb-false at (length old) e in
+        let none : drop (at + length t) old ≡ [] = drop-of-length-le old {i = at + length t} (omega arith) in
+        let l : length (take at old ++ t) ≤ r = rw (length-append, take-all at old (omega arith)) (omega (arith, p .end)) in
+        rw (p .bytes, none, append-nil, take-all r (take at old ++ t) l)
+
+never : {A : Type 0} (b : Bool) → b ≡ true → b ≡ false → A
+never b p q = let z : _≡_ {A = ℕ} 0 1 = cc in absurd (omega arith)
+
+kept : {read : List ℕ} {ended : Bool} {written : List ℕ} {s : State} {held text : List ℕ} → Run read ended written s held text
+    → Kept read ended written s held text
+unfolding listing
+kept begins = record { going = λ e. refl; says = λ more on. refl }
+kept (lists {read} {ended} {written} {s} {held} {text} run going piece w out w′ out′ r behind laid listed) =
+    let k = kept run in
+    record {
+      going = λ e. ne-eqb (length piece) 0 (λ z. omega (arith, listed .room e .0));
+      says = λ more on.
+          let rest = unless (r .done) (linesFrom (r .place) (take (r .have) w′ ++ more)) in
+          let before : linesFrom (s .place) (held ++ (piece ++ more)) ≡ listed .t ++ rest =
+          ap (linesFrom (s .place)) (sym (append-assoc held piece more) ∙ ap (λ (x : List ℕ). x ++ more) (sym behind)) ∙ listed .says more on in
+          let laid′ : text ++ (listed .t ++ rest) ≡ take (r .text) out′ ++ rest =
+          sym (append-assoc text (listed .t) rest)
+          ∙ ap (λ (x : List ℕ). x ++ rest) (ap (λ (x : List ℕ). x ++ listed .t) (sym laid) ∙ sym (grown out out′ (s .text) (r .text) (listed .t) (listed .puts))) in
+          ap listing (append-assoc read piece more)
+          ∙ k .says (piece ++ more) (λ e. never ended e (k .going going))
+          ∙ ap (λ (x : List ℕ). written ++ (text ++ x)) (ap (λ (b : Bool). unless b (linesFrom (s .place) (held ++ (piece ++ more)))) going ∙ before)
+          ∙ ap (λ (x : List ℕ). written ++ x) laid′;
+    }
+kept (writes {read} {ended} {written} {s} {held} {text} run) =
+    let k = kept run in
+    record { going = k .going; says = λ more on. k .says more on ∙ sym (append-assoc written text _) }
+
+pub promise : Promise
+promise read ended written s held run done more on = kept run .says more on ∙ ap (λ (b : Bool). written ++ unless b (linesFrom (s .place) (held ++ more))) done ∙ append-nil written

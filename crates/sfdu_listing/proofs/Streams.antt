@@ -1,0 +1,92 @@
+-- The lines of a stream, from a place on. Assumes nothing.
+use Prim.Native.Nat.{ℕ, zero, suc, _+_, _≤_, _<_}
+use native.Mathlib.Nat.{add-zero, add-assoc}
+use native.Mathlib.Omega.{arith}
+use mathlib.Core.Bool.{Bool, true, false, not, cond, _&&_}
+use mathlib.Core.List.{List, [], _∷_, _++_, append-assoc, append-nil}
+use mathlib.Core.Path.{_≡_, refl, sym, ap, _∙_}
+use lib.ListN.{length, drop, length-drop}
+use lib.Seq.{drop-drop, drop-append-le}
+use Rattle.sfdu.specs.declared.Kind.{Kind}
+use Rattle.sfdu.specs.Read.{recordLength}
+use Rattle.sfdu_listing.specs.Text.{line, lastLine}
+use Rattle.sfdu_listing.specs.Listing.{whole, stopWords, recordLine, linesIn, linesFrom}
+use Rattle.sfdu_listing.specs.Window.{cutShort, GoesOn}
+use Rattle.sfdu_listing.proofs.Judging.{Whole, whole-record, FoundRecord, FoundStop}
+use Rattle.sfdu_listing.proofs.Stable.{whole-stays, record-same, stop-stays}
+
+-- ---- the whole stream
+
+-- a bound over the count of the bytes changes nothing
+enough : (f g place : ℕ) (s : List ℕ) → length s < f → length s < g → linesIn f place s ≡ linesIn g place s
+unfolding linesIn
+enough zero g place s hf hg = absurd (omega arith)
+enough (suc f) zero place s hf hg = absurd (omega arith)
+enough (suc f) (suc g) place s hf hg =
+    by (whole s) refl (λ (r : Whole s). enough f g (place + recordLength s) (drop (recordLength s) s) (simp length-drop (omega arith)) (simp length-drop (omega arith)))
+  where
+    by : (b : Bool) → whole s ≡ b
+        → (Whole s → linesIn f (place + recordLength s) (drop (recordLength s) s) ≡ linesIn g (place + recordLength s) (drop (recordLength s) s))
+        → cond b (recordLine place s ++ linesIn f (place + recordLength s) (drop (recordLength s) s)) (lastLine place (stopWords place s))
+        ≡ cond b (recordLine place s ++ linesIn g (place + recordLength s) (drop (recordLength s) s)) (lastLine place (stopWords place s))
+    by true e less = ap (λ (t : List ℕ). recordLine place s ++ t) (less (whole-record s e))
+    by false e less = refl
+
+pub lines-whole : (place : ℕ) (s : List ℕ) → whole s ≡ true
+    → linesFrom place s ≡ recordLine place s ++ linesFrom (place + recordLength s) (drop (recordLength s) s)
+unfolding linesFrom linesIn
+lines-whole place s e =
+    let r = whole-record s e in
+    rw e (ap (λ (t : List ℕ). recordLine place s ++ t) (enough (length s) (suc (length (drop (recordLength s) s))) (place + recordLength s) (drop (recordLength s) s) (simp length-drop (omega arith)) (omega arith)))
+
+pub lines-stop : (place : ℕ) (s : List ℕ) → whole s ≡ false → linesFrom place s ≡ lastLine place (stopWords place s)
+unfolding linesFrom linesIn
+lines-stop place s e = rw e
+
+-- ---- a window onto it: what stands at the start of s, however the stream goes on
+
+window-whole : (place : ℕ) (s more : List ℕ) → whole s ≡ true
+    → linesFrom place (s ++ more) ≡ recordLine place s ++ linesFrom (place + recordLength s) (drop (recordLength s) s ++ more)
+window-whole place s more e =
+    let r = whole-record s e in
+    let same = record-same s more e in
+    lines-whole place (s ++ more) (whole-stays s more e)
+    ∙ rw (same .1 place, same .0, drop-append-le (recordLength s) s more (r .within))
+
+window-stop : (place : ℕ) (s more : List ℕ) (last : Bool) → GoesOn last more → whole s ≡ false → (cutShort s && not last) ≡ false
+    → linesFrom place (s ++ more) ≡ lastLine place (stopWords place s)
+window-stop place s more last on e c = by (cutShort s) last refl refl
+  where
+    by : (b l : Bool) → cutShort s ≡ b → last ≡ l → linesFrom place (s ++ more) ≡ lastLine place (stopWords place s)
+    by b true q t = rw (on t, append-nil) (lines-stop place s e)
+    by false false q t = let k = stop-stays s more e q in lines-stop place (s ++ more) (k .0) ∙ ap (lastLine place) (k .1 place)
+    by true false q t = let z : _≡_ {A = Bool} true false = sym (rw (q, t)) ∙ c in let y : _≡_ {A = ℕ} 0 1 = cc in absurd (omega arith)
+
+-- ---- a window under way: t is the text for its first `at` bytes
+
+pub record Underway (w : List ℕ) (place : ℕ) (last : Bool) (at : ℕ) (t : List ℕ) : Type 0 where
+  pub within : at ≤ length w
+  pub says : (more : List ℕ) → GoesOn last more → linesFrom place (w ++ more) ≡ t ++ linesFrom (place + at) (drop at w ++ more)
+
+module _ (w : List ℕ) (place : ℕ) (last : Bool) where
+  pub begins : Underway w place last 0 []
+  begins = record { within = omega arith; says = λ more on. rw (add-zero place) }
+
+  module _ (at : ℕ) (t : List ℕ) (u : Underway w place last at t) where
+    pub goes : (k : Kind) (n m : ℕ) → FoundRecord (drop at w) k n m → Underway w place last (at + n) (t ++ line (place + at) n k m)
+    unfolding recordLine
+    goes k n m f =
+        let r = whole-record (drop at w) (f .is-whole) in
+        let l = length-drop at w in
+        record {
+          within = omega (arith, f .size);
+          says = λ more on.
+              u .says more on
+              ∙ ap (λ (x : List ℕ). t ++ x) (window-whole (place + at) (drop at w) more (f .is-whole))
+              ∙ rw (← f .size, ← f .number, ← f .kind, drop-drop, ← append-assoc t, add-assoc place at n);
+        }
+
+    pub stops : (n m : ℕ) → FoundStop (place + at) (drop at w) last n m → (more : List ℕ) → GoesOn last more
+        → linesFrom place (w ++ more) ≡ (t ++ lastLine (place + at) (n ∷ m ∷ [])) ++ []
+    stops n m f more on =
+        u .says more on ∙ rw (window-stop (place + at) (drop at w) more last on (f .none) (f .known), f .words, append-nil)

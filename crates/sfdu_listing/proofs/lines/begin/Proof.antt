@@ -1,0 +1,27 @@
+-- `sfdu_listing::lines::begin` meets its contract: the first line is `heading`. Assumes nothing.
+use Prim.Native.Nat.{ℕ}
+use mathlib.Core.Bool.{false}
+use mathlib.Core.Path.{ap}
+use Rattle.sfdu_listing.specs.Text.{heading}
+use borrow.Author.Needs.{needs}
+use Rattle.sfdu_listing.proofs.lines.begin.Statement.{statement}
+use Rattle.sfdu_listing.proofs.lines.begin.Tie as tie
+
+slice-aggregate-copy-at : tie.Need-slice-aggregate-copy-at
+slice-aggregate-copy-at c = search needs
+
+copy-at-requires : tie.Need-copy-at-requires
+unfolding heading
+copy-at-requires c κs = search needs
+
+same-length : tie.Need-same-length
+same-length c = search needs
+
+returns : tie.Need-returns
+unfolding heading
+returns c =
+    let p = c .before .before .copy-at .ensures in
+    (ap (λ (n : ℕ). record { place = 0; have = 0; text = n; done = false }) (p .end), p)
+
+pub begin-spec : {M : Type 1} → statement M
+begin-spec = tie.close (tie.spec slice-aggregate-copy-at copy-at-requires same-length returns)

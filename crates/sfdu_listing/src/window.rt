@@ -1,0 +1,146 @@
+// The window onto the stream: what stands at a place of it, and the listing of a piece more of the stream.
+ghost use mathlib.Core.Path.{_≡_};
+ghost use mathlib.Core.List.{[], _∷_};
+ghost use Prim.Native.Nat.{_+_, _≤_, _<_, _^_};
+ghost use lib.ListN.{length};
+ghost use lib.Dec.{ltb};
+ghost use Rattle.sfdu.specs.Nesting.{labelSize};
+ghost use Rattle.sfdu.specs.Read.{recordLength, readOne};
+ghost use Rattle.sfdu_listing.specs.Listing.{bufferSize};
+ghost use Rattle.sfdu_listing.specs.Window.{wordsOf, foundIn, mostText, Drains, Ready, Lists};
+use crate::Drained;
+use crate::Found;
+use crate::State;
+use crate::lines::put_last;
+use crate::lines::put_line;
+use octets::read_be;
+use sfdu::LABEL;
+use sfdu::LENGTH;
+use sfdu::LENGTH_AT;
+use sfdu::Read;
+use sfdu::read_one;
+use sfdu_headers::record_number;
+
+// The window's size: the longest record that the program takes.
+const WINDOW: usize = 65536;
+
+// The refusals that the window judges itself: the numbers of document 01's table.
+const TOO_SHORT: u32 = 1;
+
+const TRUNCATED: u32 = 6;
+
+const OVER_BUFFER: u32 = 17;
+
+// The record at the start of `s`, what the window holds from a place of the stream on. `last` says that the stream ends with the
+// window.
+pub fn judge(s: &[u8], place: u64, last: bool) -> Found
+    requires { ⌜ (length (now s) ≤ bufferSize) × (place + length (now s) < 2 ^ 64) ⌝ }
+    ensures { λ r. ⌜ wordsOf r ≡ foundIn place (now (s .entry)) last ⌝ }
+{
+    let read = read_one(s);
+    match read {
+        Read::Record {
+            kind,
+            size,
+            primary: _,
+        } => Found::Record {
+            kind,
+            size,
+            number: record_number(s, kind),
+        },
+        Read::Refused(fault) => {
+            let refusal = fault.refusal;
+            stop(s, place, last, refusals::number(refusal), fault.at)
+        }
+    }
+}
+
+// The same where read one refuses by these two numbers.
+fn stop(s: &[u8], place: u64, last: bool, number: u32, at: usize) -> Found
+    requires { ⌜ (length (now s) ≤ bufferSize) × (place + length (now s) < 2 ^ 64) × (number ∷ at ∷ [] ≡ readOne (now s)) ⌝ }
+    ensures { λ r. ⌜ wordsOf r ≡ foundIn place (now (s .entry)) last ⌝ }
+{
+    if number == TRUNCATED {
+        if is_over(s) {
+            return Found::Stop(OVER_BUFFER, 0);
+        }
+        return if last {
+            Found::Stop(TRUNCATED, at as u64)
+        } else {
+            Found::More
+        };
+    }
+    if number == TOO_SHORT {
+        if !last {
+            return Found::More;
+        }
+        return if s.len() == 0 {
+            Found::Stop(0, 0)
+        } else {
+            Found::Stop(TOO_SHORT, at as u64)
+        };
+    }
+    Found::Stop(number, place + at as u64)
+}
+
+// Whether the record's length is over the window's.
+fn is_over(s: &[u8]) -> bool
+    requires { ⌜ labelSize ≤ length (now s) ⌝ }
+    ensures { λ r. ⌜ r ≡ ltb bufferSize (recordLength (now (s .entry))) ⌝ }
+{
+    ((WINDOW - LABEL) as u64) < read_be(s, LENGTH_AT, LENGTH)
+}
+
+// Lays out, from index `start` of `out` on, a line for each whole record of the window, whose first byte stands at `place` of the
+// stream; and the last line where the listing is done.
+fn drain(w: &[u8], place: u64, last: bool, out: &mut [u8], start: usize) -> Drained
+    requires { ⌜ (length (now w) ≤ bufferSize) × (place + bufferSize < 2 ^ 64) × (start + mostText ≤ length (now out)) ⌝ }
+    ensures { λ r. ⌜ Drains (now (w .entry)) place last (now (out .entry)) (now (out .exit)) start r ⌝ }
+{
+    let mut at = 0;
+    let mut end = start;
+    loop {
+        let here = place + at as u64;
+        let found = judge(&w[at..], here, last);
+        match found {
+            Found::Record { kind, size, number } => {
+                end = put_line(out, end, here, size, kind, number);
+                at = at + size;
+            }
+            Found::More => {
+                return Drained {
+                    used: at,
+                    end,
+                    done: false,
+                };
+            }
+            Found::Stop(number, beside) => {
+                end = put_last(out, end, here, number, beside);
+                return Drained {
+                    used: at,
+                    end,
+                    done: true,
+                };
+            }
+        }
+    }
+}
+
+// `got` bytes of the stream were read into the window behind what it holds, none where the stream has ended: their lines are laid
+// out behind the text, and what is left of them is moved to the window's start.
+pub fn list_piece(w: &mut [u8], out: &mut [u8], s: State, got: usize) -> State
+    requires { ⌜ Ready (now w) (now out) s got ⌝ }
+    ensures { λ r. ⌜ Lists (now (w .entry)) (now (out .entry)) s got (now (w .exit)) (now (out .exit)) r ⌝ }
+{
+    let held = s.have + got;
+    let d = drain(&w[..held], s.place, got == 0, out, s.text);
+    let used = d.used;
+    let left = held - used;
+    octets::copy(w, used, 0, left);
+    State {
+        place: s.place + used as u64,
+        have: left,
+        text: d.end,
+        done: d.done,
+    }
+}

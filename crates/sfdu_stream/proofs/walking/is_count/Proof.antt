@@ -1,0 +1,15 @@
+-- `sfdu_stream::walking::is_count` meets its contract. Assumes nothing.
+use Rattle.sfdu.specs.Read.{isCount}
+use borrow.Author.Needs.{needs}
+use Rattle.sfdu_stream.proofs.walking.is_count.Statement.{statement}
+use Rattle.sfdu_stream.proofs.walking.is_count.Tie as tie
+
+number-requires : tie.Need-number-requires
+number-requires c κs = search needs
+
+returns : tie.Need-returns
+unfolding isCount
+returns c = rw (c .number .ensures)
+
+pub is-count-spec : {M : Type 1} → statement M
+is-count-spec = tie.close (tie.spec number-requires returns)

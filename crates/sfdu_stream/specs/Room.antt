@@ -1,0 +1,56 @@
+-- Document 02, Req 12: how many entries a list needs, so that it is never full (16). Assumes nothing.
+use Prim.Native.Nat.{ℕ, _*_, _/_, _≤_, _<_}
+use mathlib.Core.List.{List, [], _∷_}
+use mathlib.Core.Logic.{_≢_}
+use mathlib.Core.Path.{_≡_}
+use lib.ListN.{length, getD}
+use Rattle.sfdu.specs.declared.Kind.{Kind}
+use Rattle.sfdu.specs.declared.Kind.the-variants.{Telemetry, Rsr}
+use Rattle.sfdu.specs.Nesting.{kindNumber, dataValueAt}
+use Rattle.sfdu_stream.specs.declared.Entry.{Entry}
+use Rattle.sfdu_stream.specs.Listing.{walkFrom, walked, Columns, shortest, listNumbers, listEntries}
+
+-- A record's data value starts at 120 (telemetry) or 260 (RSR), so no record of the kind is shorter: a stream's length divided by
+-- that, rounded down. Telemetry's number is the one for every stream.
+abbrev pub mostRecords : Kind → (bytes : ℕ) → ℕ
+mostRecords k bytes = bytes / dataValueAt k
+
+-- The stop number among the words of a walk or a list.
+abbrev pub stopNumber : List ℕ → ℕ
+stopNumber words = getD words 2 0
+
+-- So many entries are enough for the stream s: it has no more whole records; and every list of so many entries or more answers
+-- what the walk answers, and never 16.
+pub record Enough (s : List ℕ) (n : ℕ) : Type 0 where
+  pub no-more : length (walkFrom s 0 .entries) ≤ n
+  pub numbers-walked : (old : Columns) → n ≤ shortest old → listNumbers s old .0 ≡ walked s
+  pub numbers-never-16 : (old : Columns) → n ≤ shortest old → stopNumber (listNumbers s old .0) ≢ 16
+  pub table-walked : (old : List Entry) → n ≤ length old → listEntries s old .0 ≡ walked s
+  pub table-never-16 : (old : List Entry) → n ≤ length old → stopNumber (listEntries s old .0) ≢ 16
+
+abbrev pub EveryStream : Type 0
+EveryStream = (s : List ℕ) → Enough s (mostRecords Telemetry (length s))
+
+-- "Streams of RSR alone": every whole record that the walk of the whole stream passes is RSR, also those past where a list is full.
+abbrev pub AllRsr : List Entry → Type 0
+AllRsr [] = Unit {0}
+AllRsr (e ∷ es) = (e .kind ≡ kindNumber Rsr) × AllRsr es
+
+abbrev pub RsrAlone : List ℕ → Type 0
+RsrAlone s = AllRsr (walkFrom s 0 .entries)
+
+abbrev pub RsrStreams : Type 0
+RsrStreams = (s : List ℕ) → RsrAlone s → Enough s (mostRecords Rsr (length s))
+
+-- No smaller number would do, whatever the length: there is a stream of n of the shortest records, and every list of fewer than n
+-- entries answers 16 there. Its RSR records are RSR alone.
+pub record Needed (k : Kind) (n : ℕ) : Type 0 where
+  pub stream : List ℕ
+  pub bytes : length stream ≡ n * dataValueAt k
+  pub holds : length (walkFrom stream 0 .entries) ≡ n
+  pub alone : k ≡ Rsr → RsrAlone stream
+  pub numbers-full : (old : Columns) → shortest old < n → stopNumber (listNumbers stream old .0) ≡ 16
+  pub table-full : (old : List Entry) → length old < n → stopNumber (listEntries stream old .0) ≡ 16
+
+abbrev pub LeastNumber : Type 0
+LeastNumber = (k : Kind) (n : ℕ) → Needed k n

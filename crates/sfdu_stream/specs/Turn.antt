@@ -1,0 +1,31 @@
+-- What the inner functions of the lists settle. Assumes nothing.
+use Prim.Native.Nat.{ℕ}
+use mathlib.Core.Bool.{true, false, cond, _&&_}
+use mathlib.Core.List.{List, [], _∷_}
+use mathlib.Core.Path.{_≡_}
+use lib.ListN.{drop}
+use lib.Dec.{ltb}
+use Rattle.sfdu.specs.declared.Kind.{Kind}
+use Rattle.sfdu.specs.Read.{kindOf, recordLength}
+use Rattle.sfdu_stream.specs.declared.Turn.{Turn}
+use Rattle.sfdu_stream.specs.declared.Walked.{Walked}
+use Rattle.sfdu_stream.specs.Walk.{wordsOf, whole, past, full, refusal}
+use Rattle.sfdu_stream.specs.Listing.{entryAt}
+
+-- A whole record of that kind and length stands at a place.
+pub record RecordAt (s : List ℕ) (at : ℕ) (k : Kind) (n : ℕ) : Type 0 where
+  pub is-whole : whole s at ≡ true
+  pub kind : k ≡ kindOf (drop at s)
+  pub size : n ≡ recordLength (drop at s)
+
+-- The turn of a list that stops with an answer.
+abbrev pub noTurn : Walked → Turn
+noTurn w = record { listed = false; entry = record { place = 0; length = 0; kind = 0; number = 0 }; next = 0; answer = w }
+
+-- The turn at a place of a list of `size` entries, `count` of them filled: the record there is listed where it is whole and an
+-- entry is free; else the list's answer is known.
+pub record TurnAt (s : List ℕ) (at count size : ℕ) (t : Turn) : Type 0 where
+  pub listed : t .listed ≡ whole s at && ltb count size
+  pub entry : t .listed ≡ true → t .entry ≡ entryAt s at
+  pub next : t .listed ≡ true → t .next ≡ past s at
+  pub answer : t .listed ≡ false → wordsOf (t .answer) ≡ count ∷ at ∷ cond (whole s at) full (refusal s at)

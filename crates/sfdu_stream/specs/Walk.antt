@@ -1,0 +1,60 @@
+-- Document 01, "Calls on records": what the answers say, a place in a stream s, and the step there. Assumes nothing.
+use Prim.Native.Nat.{ℕ, _+_}
+use mathlib.Core.Bool.{Bool, cond}
+use mathlib.Core.List.{List, [], _∷_}
+use lib.ListN.{length, drop}
+use lib.Dec.{leb}
+use Rattle.refusals.specs.Judge.{judge}
+use Rattle.sfdu.specs.Nesting.{kindNumber}
+use Rattle.sfdu.specs.Read.{primaryWords, faultWords, recordLength, readRules, inStream, accepts, readOne}
+use Rattle.sfdu_stream.specs.declared.Step.{Step}
+use Rattle.sfdu_stream.specs.declared.Step.the-variants.{Found, Done, Refused}
+use Rattle.sfdu_stream.specs.declared.Stop.{Stop}
+use Rattle.sfdu_stream.specs.declared.Stop.the-variants.{End, Refused as StopRefused}
+use Rattle.sfdu_stream.specs.declared.Walked.{Walked}
+
+-- ---- what the answers of the calls say
+
+-- A step: the place of the cursor that it hands back, and then 0 and the record as read one gives it, nothing for "done", or
+-- the refusal as read one gives it.
+abbrev pub stepWords : Step → List ℕ
+stepWords (Found kind n p next) = next .at ∷ 0 ∷ kindNumber kind ∷ n ∷ primaryWords p
+stepWords (Done c) = c .at ∷ []
+stepWords (Refused f c) = c .at ∷ faultWords f
+
+-- The stop number, "0 when the stop place is the end, else the refusal", and the number that goes with it, 0 where none does.
+abbrev pub atEnd : List ℕ
+atEnd = 0 ∷ 0 ∷ []
+
+abbrev pub stopWords : Stop → List ℕ
+stopWords End = atEnd
+stopWords (StopRefused f) = faultWords f
+
+-- A walk or a list: the count, the stop place and why it stops there.
+abbrev pub wordsOf : Walked → List ℕ
+wordsOf w = w .count ∷ w .place ∷ stopWords (w .stop)
+
+-- ---- a place in the stream
+
+-- A whole record stands there: one that read one accepts.
+unfoldable pub whole : List ℕ → ℕ → Bool
+whole s at = accepts (drop at s)
+
+-- The place past that record.
+unfoldable pub past : List ℕ → ℕ → ℕ
+past s at = at + recordLength (drop at s)
+
+-- A list that is full stops at a whole record.
+abbrev pub full : List ℕ
+full = 16 ∷ 0 ∷ []
+
+-- Why a walk or a list stops there: the end, or the refusal of the record there; where that is whole, no entry is free.
+unfoldable pub refusal : List ℕ → ℕ → List ℕ
+refusal s at = cond (leb (length s) at) atEnd (judge (inStream at) (readRules (drop at s)) full)
+
+-- ---- the step
+
+-- "The place in the stream is a cursor that each step hands back moved on; at or past the end it comes back unmoved, with
+-- 'done'; at a refused record unmoved, with the refusal."
+unfoldable pub step : List ℕ → (at : ℕ) → List ℕ
+step s at = cond (whole s at) (past s at) at ∷ cond (leb (length s) at) [] (readOne (drop at s))

@@ -1,0 +1,141 @@
+// Lists of a stream's records in two layouts: four lists of numbers, and a table of entries.
+ghost use mathlib.Core.Path.{_≡_};
+ghost use Prim.Native.Nat.{min};
+ghost use Rattle.sfdu_stream.specs.Walk.{wordsOf};
+ghost use Rattle.sfdu_stream.specs.Listing.{entryAt, listNumbers, listEntries};
+ghost use Rattle.sfdu_stream.specs.Turn.{RecordAt, TurnAt, noTurn};
+use crate::Cursor;
+use crate::Entry;
+use crate::Step;
+use crate::Stop;
+use crate::Turn;
+use crate::Walked;
+use crate::walking::in_stream;
+use crate::walking::stopped;
+use refusals::Refusal;
+use sfdu::Fault;
+use sfdu::Kind;
+use sfdu::kind_number;
+use sfdu_headers::record_number;
+
+// The entry of the record at a place.
+fn entry_at(s: &[u8], at: usize, kind: Kind, size: usize) -> Entry
+    requires { ⌜ RecordAt (now s) at kind size ⌝ }
+    ensures { λ r. ⌜ r ≡ entryAt (now (s .entry)) at ⌝ }
+{
+    Entry {
+        place: at as u64,
+        length: size as u64,
+        kind: kind_number(kind),
+        number: record_number(&s[at..], kind),
+    }
+}
+
+// No record is listed: the list stops.
+fn no_turn(answer: Walked) -> Turn
+    ensures { λ r. ⌜ r ≡ noTurn answer ⌝ }
+{
+    let none = Entry {
+        place: 0,
+        length: 0,
+        kind: 0,
+        number: 0,
+    };
+    Turn {
+        listed: false,
+        entry: none,
+        next: 0,
+        answer,
+    }
+}
+
+// The turn at a place of a list of `size` entries, `count` of them filled.
+fn turn_at(s: &[u8], at: usize, count: usize, size: usize) -> Turn
+    ensures { λ r. ⌜ TurnAt (now (s .entry)) at count size r ⌝ }
+{
+    let cursor = Cursor { at };
+    let found = cursor.step(s);
+    match found {
+        Step::Found {
+            kind,
+            size: length,
+            primary: _,
+            next,
+        } => {
+            if size <= count {
+                let full = Fault {
+                    refusal: Refusal::ListFull,
+                    at: 0,
+                };
+                return no_turn(stopped(count, at, Stop::Refused(full)));
+            }
+            Turn {
+                listed: true,
+                entry: entry_at(s, at, kind, length),
+                next: next.at,
+                answer: stopped(count, at, Stop::End),
+            }
+        }
+        Step::Done(_) => no_turn(stopped(count, at, Stop::End)),
+        Step::Refused(f, _) => no_turn(stopped(count, at, Stop::Refused(in_stream(s, at, f)))),
+    }
+}
+
+fn least(a: usize, b: usize) -> usize
+    ensures { λ r. ⌜ r ≡ min a b ⌝ }
+{
+    if a < b { a } else { b }
+}
+
+// Fills four lists of numbers from a stream, one number in each list for a record. The shortest list counts; what stands past
+// the count stays.
+pub fn list_numbers(
+    s: &[u8],
+    places: &mut [u64],
+    lengths: &mut [u64],
+    kinds: &mut [u32],
+    numbers: &mut [u32],
+) -> Walked
+    ensures { λ r. ⌜ (wordsOf r, record { places = now (places .exit); lengths = now (lengths .exit); kinds = now (kinds .exit); numbers = now (numbers .exit) })
+        ≡ listNumbers (now (s .entry)) (record { places = now (places .entry); lengths = now (lengths .entry); kinds = now (kinds .entry); numbers = now (numbers .entry) }) ⌝ }
+{
+    let size = least(
+        least(places.len(), lengths.len()),
+        least(kinds.len(), numbers.len()),
+    );
+    let mut at = 0;
+    let mut i = 0;
+    loop {
+        let turn = turn_at(s, at, i, size);
+        if turn.listed {
+            let e = turn.entry;
+            places[i] = e.place;
+            lengths[i] = e.length;
+            kinds[i] = e.kind;
+            numbers[i] = e.number;
+            at = turn.next;
+            i = i + 1;
+        } else {
+            return turn.answer;
+        }
+    }
+}
+
+// Fills a table of entries from a stream, one entry for a record. Entries past the count stay.
+pub fn list_entries(s: &[u8], table: &mut [Entry]) -> Walked
+    ensures { λ r. ⌜ (wordsOf r, now (table .exit)) ≡ listEntries (now (s .entry)) (now (table .entry)) ⌝ }
+{
+    let size = table.len();
+    let mut at = 0;
+    let mut i = 0;
+    loop {
+        let turn = turn_at(s, at, i, size);
+        if turn.listed {
+            table[i] = turn.entry;
+            at = turn.next;
+            i = i + 1;
+        } else {
+            return turn.answer;
+        }
+    }
+}

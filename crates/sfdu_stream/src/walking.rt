@@ -1,0 +1,121 @@
+// The cursor's step, and the walk over a whole stream.
+ghost use mathlib.Core.Bool.{false};
+ghost use mathlib.Core.Path.{_≡_};
+ghost use Prim.Native.Nat.{_+_, _≤_};
+ghost use lib.ListN.{length};
+ghost use Rattle.refusals.specs.Table.{numberOf};
+ghost use Rattle.sfdu.specs.Read.{faultWords, isCount, inStream};
+ghost use Rattle.sfdu_stream.specs.Walk.{stepWords, stopWords, wordsOf, whole, refusal, step};
+ghost use Rattle.sfdu_stream.specs.Listing.{walked};
+use crate::Cursor;
+use crate::Step;
+use crate::Stop;
+use crate::Walked;
+use refusals::Refusal;
+use refusals::number;
+use sfdu::Fault;
+use sfdu::Read;
+use sfdu::read_one;
+use sfdu::whole_size;
+
+// The refusals that give a count of bytes: the numbers of document 01's table.
+const TOO_SHORT: u32 = 1;
+
+const TRUNCATED: u32 = 6;
+
+impl Cursor {
+    pub fn start() -> Self
+        ensures { λ r. ⌜ r .at ≡ 0 ⌝ }
+    {
+        Cursor { at: 0 }
+    }
+
+    // The record at the cursor, and the cursor past it.
+    pub fn step(self, s: &[u8]) -> Step
+        ensures { λ r. ⌜ stepWords r ≡ step (now (s .entry)) (self .at) ⌝ }
+    {
+        let at = self.at;
+        if s.len() <= at {
+            return Step::Done(Cursor { at });
+        }
+        let found = read_one(&s[at..]);
+        match found {
+            Read::Record {
+                kind,
+                size,
+                primary,
+            } => Step::Found {
+                kind,
+                size,
+                primary,
+                next: Cursor { at: at + size },
+            },
+            Read::Refused(f) => Step::Refused(f, Cursor { at }),
+        }
+    }
+}
+
+// The whole records from the stream's start, up to its end or to the first record that read one refuses.
+pub fn walk(s: &[u8]) -> Walked
+    ensures { λ r. ⌜ wordsOf r ≡ walked (now (s .entry)) ⌝ }
+{
+    let mut at = 0;
+    let mut count = 0;
+    loop {
+        let size = whole_size(&s[at..]);
+        if size == 0 {
+            return stopped(count, at, stop_at(s, at));
+        }
+        at = at + size;
+        count = count + 1;
+    }
+}
+
+// Why a walk stops at a place where no whole record stands.
+fn stop_at(s: &[u8], at: usize) -> Stop
+    requires { ⌜ whole (now s) at ≡ false ⌝ }
+    ensures { λ r. ⌜ stopWords r ≡ refusal (now (s .entry)) at ⌝ }
+{
+    let cursor = Cursor { at };
+    let found = cursor.step(s);
+    match found {
+        // It has none to find.
+        Step::Found {
+            kind: _,
+            size: _,
+            primary: _,
+            next: _,
+        } => Stop::End,
+        Step::Done(_) => Stop::End,
+        Step::Refused(f, _) => Stop::Refused(in_stream(s, at, f)),
+    }
+}
+
+pub fn stopped(count: usize, place: usize, stop: Stop) -> Walked
+    ensures { λ r. ⌜ r ≡ record { count = count; place = place; stop = stop } ⌝ }
+{
+    Walked { count, place, stop }
+}
+
+// The refusal of the record at a place, its offset counted from the stream's start; a count of bytes stays.
+pub fn in_stream(s: &[u8], place: usize, fault: Fault) -> Fault
+    requires { ⌜ place + fault .at ≤ length (now s) ⌝ }
+    ensures { λ r. ⌜ faultWords r ≡ inStream place (faultWords fault) ⌝ }
+{
+    let refusal = fault.refusal;
+    let at = fault.at;
+    if is_count(refusal) {
+        return Fault { refusal, at };
+    }
+    Fault {
+        refusal,
+        at: place + at,
+    }
+}
+
+fn is_count(refusal: Refusal) -> bool
+    ensures { λ r. ⌜ r ≡ isCount (numberOf refusal) ⌝ }
+{
+    let n = number(refusal);
+    (n == TOO_SHORT) | (n == TRUNCATED)
+}
