@@ -5,7 +5,8 @@ use std::collections::BTreeMap;
 use std::io::{self, Write};
 use std::ops::RangeInclusive;
 
-/// The refusals that a random script of 2,000 calls has to meet; 17 is the listing program's alone.
+/// The refusals that a random script of 2,000 calls has to meet; 17 is the listing program's alone. Those of samples (19, 34, 35, 37),
+/// traces and seasons (40 to 42) and mission settings (43 to 47) join when their calls stand in every script (`AWAITED` in random.rs).
 const REFUSALS: &[RangeInclusive<u32>] = &[
     // Records and streams.
     1..=16,
@@ -65,7 +66,11 @@ impl Coverage {
         self.calls += 1;
         *self.refusals.entry(refusal).or_default().entry(frame.op).or_default() += 1;
         match frame.op {
-            1 | 4 | 11 if words.len() > 1 && refusal != 0 => *self.fields.entry((refusal, words[1])).or_default() += 1,
+            // A refused line of op 13 ends in a crc.
+            13 if words.len() > 2 && refusal != 0 => *self.fields.entry((refusal, words[1])).or_default() += 1,
+            1 | 4 | 11 | 15 if words.len() > 1 && refusal != 0 => {
+                *self.fields.entry((refusal, words[1])).or_default() += 1
+            }
             8 | 9 if words[1] > 0 => *self.behind.entry(refusal).or_default() += 1,
             _ => {}
         }

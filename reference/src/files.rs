@@ -10,13 +10,18 @@ pub type List<W> = fn(&mut dyn Read, &mut W) -> io::Result<io::Result<()>>;
 /// Lists each file, or standard input where none is named; several under a line with the name.
 /// A file that cannot be opened or read is told of on standard error. Answers whether all went well.
 pub fn list_files<W: Write>(names: &[OsString], out: &mut W, list: List<W>) -> io::Result<bool> {
+    each_file(names, names.len() > 1, out, list)
+}
+
+/// The same, with the names or without.
+pub fn each_file<W: Write>(names: &[OsString], with_names: bool, out: &mut W, list: List<W>) -> io::Result<bool> {
     if names.is_empty() {
         return list_one("standard input", Ok(io::stdin().lock()), out, list);
     }
     let mut well = true;
     for name in names {
         let file = File::open(name);
-        if names.len() > 1 && file.is_ok() {
+        if with_names && file.is_ok() {
             out.write_all(name.as_encoded_bytes())?;
             out.write_all(b"\n")?;
         }

@@ -4,11 +4,17 @@
 // The calls, each module a section of document 01 or a request of document 02; and the programs' listings.
 pub mod convert;
 pub mod dates;
+pub mod gain;
 pub mod idr;
+pub mod iq;
 pub mod keys;
 pub mod ledger;
 pub mod list;
 pub mod record;
+pub mod replay;
+pub mod sample_text;
+pub mod season;
+pub mod settings;
 pub mod stream;
 pub mod tapes;
 
@@ -18,6 +24,7 @@ pub mod coverage;
 pub mod files;
 pub mod make;
 pub mod nights;
+pub mod privacy;
 pub mod random;
 pub mod sample;
 pub mod script;

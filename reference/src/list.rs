@@ -7,20 +7,21 @@ pub const WINDOW: usize = 65_536;
 pub const HEADING: &str = "place length kind number";
 
 /// The bytes of the input that are in memory: those from `start` to `end`.
-struct Window<R> {
+pub(crate) struct Window<R> {
     input: R,
     bytes: Vec<u8>,
-    start: usize,
+    /// Moved on by who has done with a record.
+    pub(crate) start: usize,
     end: usize,
     at_end: bool,
 }
 
 impl<R: Read> Window<R> {
-    fn new(input: R) -> Window<R> {
+    pub(crate) fn new(input: R) -> Window<R> {
         Window { input, bytes: vec![0; WINDOW], start: 0, end: 0, at_end: false }
     }
 
-    fn held(&self) -> &[u8] {
+    pub(crate) fn held(&self) -> &[u8] {
         &self.bytes[self.start..self.end]
     }
 
@@ -41,7 +42,7 @@ impl<R: Read> Window<R> {
     }
 
     /// The record at the start of what is held; 1 and 6 are believed only when the window can hold no more.
-    fn record(&mut self) -> io::Result<Result<Record, Refused>> {
+    pub(crate) fn record(&mut self) -> io::Result<Result<Record, Refused>> {
         let answer = read_in_window(self.held());
         if !self.at_end && matches!(answer, Err(Refused::Short { .. })) {
             self.refill()?;

@@ -1,7 +1,7 @@
 //! The commands; see README.md.
 
 use reference::coverage::Coverage;
-use reference::{bench, files, list, random, sample, script, tables, tapes};
+use reference::{bench, files, list, privacy, random, sample, sample_text, script, season, tables, tapes};
 use std::ffi::OsString;
 use std::io::{self, BufWriter, Read, Write};
 use std::process::ExitCode;
@@ -10,11 +10,15 @@ const USAGE: &str = "reference script < SCRIPT        the lines of a call script
 reference coverage < SCRIPT      how often each refusal and wrong field stands in its lines; fails where one is missing
 reference list [FILE..]          lists streams
 reference tapes [FILE..]         lists tapes of medium band records
+reference samples [--raw] [FILE..]
+                                 the samples of streams of RSR records: I Q a line, or 32-bit little-endian integers
+reference season [FILE..]        the season's gap report over ledger sheets
 reference random SEED COUNT [PART]
-                                 a random call script; of calls on records, ledger or tapes alone
+                                 a random call script; of calls on records, samples, ledger, seasons, traces, tapes or settings alone
 reference sample [NAME]          a sample stream; without a name, the names, what is wrong in each, and its last line
 reference big BYTES              a stream of mixed records of about so many bytes
 reference bench                  benchmarks
+reference privacy SEED PAIRS     pairs of nights that differ in a desk's unsaved work
 reference tables SEED COUNT      tables of entries against number lists, over random streams";
 
 fn main() -> ExitCode {
@@ -43,12 +47,21 @@ fn command(args: &[OsString], out: &mut impl Write) -> io::Result<bool> {
         }
         ["list", ..] => return files::list_files(&args[1..], out, |input, out| list::list(input, out)),
         ["tapes", ..] => return files::list_files(&args[1..], out, |input, out| tapes::list(input, out)),
+        ["samples", "--raw", ..] => {
+            return files::each_file(&args[2..], false, out, |input, out| sample_text::write_samples(input, true, out));
+        }
+        ["samples", ..] => {
+            return files::each_file(&args[1..], false, out, |input, out| {
+                sample_text::write_samples(input, false, out)
+            });
+        }
+        ["season", ..] => return season::report(&args[1..], out),
         ["random", seed, count] => random_script(seed, count, None, out)?,
         ["random", seed, count, part] if random::parts().contains(&part) => {
             random_script(seed, count, Some(part), out)?
         }
         ["sample"] => {
-            for sample in sample::SAMPLES.iter().chain(&tapes::TAPES).chain(&sample::SHEETS) {
+            for sample in sample::stored() {
                 write!(out, "{}: {}", sample.name, sample.about)?;
                 writeln!(
                     out,
@@ -63,6 +76,12 @@ fn command(args: &[OsString], out: &mut impl Write) -> io::Result<bool> {
         },
         ["big", bytes] => sample::big(parse(bytes)?, out)?,
         ["bench"] => bench::run(),
+        ["privacy", seed, pairs] => {
+            let tried = privacy::try_pairs(parse(seed)?, parse(pairs)? as usize, false);
+            let privacy::Tried { pairs, differed, told } = tried;
+            writeln!(out, "{pairs} pairs of nights, {told} told of unsaved work; in {differed} it was not the same")?;
+            return Ok(told == 0);
+        }
         ["tables", seed, count] => {
             let tried = tables::compare(parse(seed)?, parse(count)? as usize);
             writeln!(out, "{tried} tables are the same")?;

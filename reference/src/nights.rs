@@ -403,7 +403,8 @@ fn used_rows(s: &[u8]) -> Vec<usize> {
     ledger::used_rows(s).collect()
 }
 
-fn ticks(rng: &Rng) -> Vec<u8> {
+/// Ticks of every sort: none, all, any, and about the words' edges.
+pub fn ticks(rng: &Rng) -> Vec<u8> {
     let mut ticks = match rng.below(6) {
         0 => vec![0xFF; 128],
         1 => rng.bytes(128),

@@ -6,8 +6,13 @@ use crate::record::{self, RSR, SECONDARY, TELEMETRY};
 use crate::script::{Calls, Frame, MOST_B, MOST_LIST, MOST_SLICE};
 
 mod dates;
+mod gain;
 mod idr;
+mod iq;
 pub mod old_sheets;
+pub mod season;
+pub mod settings;
+pub mod traces;
 
 const EDGES: [u32; 8] = [0, 1, 255, 256, 65_535, 65_536, u32::MAX - 1, u32::MAX];
 
@@ -20,26 +25,39 @@ enum Scene {
     Streams,
     Long,
     Dates,
+    Gains,
+    Samples,
     Night,
     Sheets,
     OldSheets,
+    Seasons,
+    Traces,
     Tapes,
+    Settings,
 }
 
 /// How often each scene stands in the deck, a deck being some 300 calls; and the part of the papers that it is of.
 const SCENES: &[(Scene, usize, &str)] = &[
-    (Scene::Records, 32, "records"),
+    (Scene::Records, 40, "records"),
     (Scene::Headers, 8, "records"),
     (Scene::Writes, 5, "records"),
-    (Scene::Keys, 4, "records"),
+    (Scene::Keys, 3, "records"),
     (Scene::Streams, 8, "records"),
     (Scene::Long, 1, "records"),
-    (Scene::Dates, 3, "records"),
-    (Scene::Night, 3, "ledger"),
+    (Scene::Dates, 2, "records"),
+    (Scene::Gains, 3, "gain"),
+    (Scene::Samples, 6, "samples"),
+    (Scene::Night, 2, "ledger"),
     (Scene::Sheets, 10, "ledger"),
     (Scene::OldSheets, 4, "ledger"),
+    (Scene::Seasons, 2, "seasons"),
+    (Scene::Traces, 4, "traces"),
     (Scene::Tapes, 8, "tapes"),
+    (Scene::Settings, 3, "settings"),
 ];
+
+/// The parts whose calls the library has not got yet: they stand in scripts of their part alone.
+const AWAITED: &[&str] = &["gain", "samples", "seasons", "traces", "settings"];
 
 /// The parts of which a script alone can be made.
 pub fn parts() -> Vec<&'static str> {
@@ -65,9 +83,18 @@ pub struct Generator {
     pub pieces: Deck<crate::nights::Piece>,
     pub nights: Deck<crate::nights::NightCase>,
     dates: Deck<dates::DateCase>,
+    gains: Deck<gain::GainCase>,
+    samples: [Deck<iq::IqCase>; 6],
+    iq_kinds: Deck<usize>,
     old_sheets: Deck<old_sheets::OldCase>,
+    seasons: [Deck<season::SeasonCase>; 4],
+    season_kinds: Deck<usize>,
+    traces: [Deck<traces::TraceCase>; 4],
+    trace_kinds: Deck<usize>,
     tapes: Vec<Deck<idr::TapeCase>>,
     tape_kinds: Deck<usize>,
+    settings: Deck<settings::SettingsCase>,
+    damaged_settings: Deck<settings::Damage>,
 }
 
 /// `count` frames, the same for the same seed.
@@ -93,11 +120,20 @@ pub fn script_of(seed: u64, count: usize, part: Option<&str>) -> Vec<Frame> {
         pieces: Deck::new(crate::nights::PIECES.to_vec()),
         nights: Deck::new(crate::nights::NIGHT_CASES.to_vec()),
         dates: Deck::new(dates::date_cases()),
+        gains: Deck::new(gain::gain_cases()),
+        samples: iq::iq_cases().map(Deck::new),
+        iq_kinds: Deck::new(iq::IQ_KINDS.to_vec()),
         old_sheets: Deck::new(old_sheets::old_cases()),
+        seasons: season::season_cases().map(Deck::new),
+        season_kinds: Deck::new(season::SEASON_KINDS.to_vec()),
+        traces: traces::trace_cases().map(Deck::new),
+        trace_kinds: Deck::new(traces::TRACE_KINDS.to_vec()),
         tapes: idr::tape_cases().into_iter().map(Deck::new).collect(),
         tape_kinds: Deck::new((0..idr::tape_cases().len()).collect()),
+        settings: Deck::new(settings::SETTINGS_CASES.to_vec()),
+        damaged_settings: Deck::new(settings::damages()),
     };
-    let scenes = SCENES.iter().filter(|(_, _, of)| part.is_none_or(|part| part == *of));
+    let scenes = SCENES.iter().filter(|(_, _, of)| part.map_or(!AWAITED.contains(of), |part| part == *of));
     let mut scenes = Deck::new(scenes.flat_map(|(scene, times, _)| vec![*scene; *times]).collect());
     while g.frames.len() < count {
         let scene = scenes.deal(&g.rng);
@@ -124,10 +160,15 @@ impl Generator {
             Scene::Streams => self.streams(),
             Scene::Long => self.long(),
             Scene::Dates => self.dates(),
+            Scene::Gains => self.gains(),
+            Scene::Samples => self.samples(),
             Scene::Night => self.night(),
             Scene::Sheets => self.sheets(),
             Scene::OldSheets => self.old_sheets(),
+            Scene::Seasons => self.seasons(),
+            Scene::Traces => self.traces(),
             Scene::Tapes => self.tapes(),
+            Scene::Settings => self.settings(),
         }
     }
 

@@ -2,8 +2,8 @@
 
 use crate::make::{self, put, put_secondary, Rng, RSR_PRIMARY, TELEMETRY_PRIMARY};
 use crate::random::old_sheets::as_old;
-use crate::record::{self, RSR, TELEMETRY};
-use crate::{keys, ledger, list, tapes};
+use crate::record::{self, RSR, SECONDARY, TELEMETRY};
+use crate::{iq, keys, ledger, list, tapes};
 use std::io::{self, Write};
 
 const SEED: u64 = 1;
@@ -17,7 +17,7 @@ pub struct Sample {
     pub(crate) make: fn() -> Vec<u8>,
 }
 
-pub const SAMPLES: [Sample; 13] = [
+pub static SAMPLES: [Sample; 13] = [
     Sample {
         name: "good-night",
         last_line: "49866 0 0",
@@ -101,7 +101,7 @@ pub const SAMPLES: [Sample; 13] = [
 ];
 
 /// Streams that the listing program is run on beside the samples.
-pub const LISTED: [Sample; 5] = [
+pub static LISTED: [Sample; 5] = [
     Sample {
         name: "example",
         last_line: "120 0 0",
@@ -130,7 +130,7 @@ pub const LISTED: [Sample; 5] = [
 ];
 
 /// Ledger sheets.
-pub const SHEETS: [Sample; 2] = [
+pub static SHEETS: [Sample; 5] = [
     Sample {
         name: "sheets/old-night",
         last_line: "",
@@ -144,7 +144,48 @@ pub const SHEETS: [Sample; 2] = [
         about: "The same, converted: 6,968 bytes, each row with its used word.",
         make: night_sheet,
     },
+    Sample {
+        name: "season/april",
+        last_line: "",
+        about: "A season's first sheet: two rows, ticked without a gap.",
+        make: || month(4, &[(0, 40), (1, 25)], &[]),
+    },
+    Sample {
+        name: "season/may",
+        last_line: "",
+        about: "Its second, an old one (6,776 bytes): three rows, of which the third has gaps.",
+        make: || as_old(&month(5, &[(0, 90), (1, 12), (2, 31)], &[(2, 7), (2, 8), (2, 20)])),
+    },
+    Sample {
+        name: "season/june",
+        last_line: "",
+        about: "Its third: row 1 was struck, and row 2 has a gap.",
+        make: || {
+            let mut s = month(6, &[(0, 64), (1, 5), (2, 130)], &[(2, 100)]);
+            ledger::strike(&mut s, 1).expect("a row that no desk has open");
+            s
+        },
+    },
 ];
+
+/// A sheet with rows for virtual streams of one month's equipment: the first numbers ticked in each, but for some.
+fn month(equipment: u32, rows: &[(u32, u32)], left_out: &[(u32, u32)]) -> Vec<u8> {
+    let mut s = vec![0; ledger::SHEET];
+    let mut work = || -> Result<(), u32> {
+        ledger::fresh(&mut s)?;
+        for (row, count) in rows {
+            ledger::enrol(&mut s, keys::telemetry_key(177, 43, equipment, *row)?, 1)?;
+            ledger::open(&mut s, 0, *row)?;
+            for n in (1..=*count).filter(|n| !left_out.contains(&(*row, *n))) {
+                ledger::tick(&mut s, 0, n)?;
+            }
+            ledger::save(&mut s, 0)?;
+        }
+        Ok(())
+    };
+    work().expect("no call is refused");
+    s
+}
 
 /// Two telemetry streams and one of RSR whose numbers pass 65,535. Desk 0 has work on the first that is not saved; desk 3
 /// has the third open.
@@ -169,14 +210,48 @@ fn night_sheet() -> Vec<u8> {
     s
 }
 
+/// Streams to unpack.
+pub static RSR_STREAMS: [Sample; 1] = [Sample {
+    name: "rsr/tone",
+    last_line: "",
+    about: "Two seconds of a tone, two records: samples of 8 bits, 1,000 a second, 48 of them a turn.",
+    make: tone,
+}];
+
+fn tone() -> Vec<u8> {
+    let rng = Rng::new(SEED);
+    let second = |number: u32| {
+        let mut record = rsr(&rng, 1, number, 2_000);
+        record[SECONDARY + 36] = 8;
+        put(&mut record, SECONDARY + 38, 2, 1);
+        let turns = (0..1_000).map(|n| n + 1_000 * number as usize);
+        // A number is odd.
+        let numbers: Vec<i32> = turns.flat_map(|n| [cosine(n), cosine(n + 36)]).map(|c| c >> 1 << 1 | 1).collect();
+        let data = record.len() - 2_000;
+        iq::pack(8, 1, &numbers, &mut record[data..]).expect("every number has a code");
+        record
+    };
+    [second(0), second(1)].concat()
+}
+
+/// 200 times the cosine of n 48ths of a turn.
+fn cosine(n: usize) -> i32 {
+    const QUARTER: [i32; 13] = [200, 198, 193, 185, 173, 159, 141, 122, 100, 77, 52, 26, 0];
+    match n % 48 {
+        n @ 0..=12 => QUARTER[n],
+        n @ 13..=24 => -QUARTER[24 - n],
+        n @ 25..=36 => -QUARTER[n - 24],
+        n => QUARTER[48 - n],
+    }
+}
+
+/// What is stored in samples/.
+pub fn stored() -> impl Iterator<Item = &'static Sample> {
+    SAMPLES.iter().chain(&tapes::TAPES).chain(&SHEETS).chain(&RSR_STREAMS)
+}
+
 pub fn sample(name: &str) -> Option<Vec<u8>> {
-    SAMPLES
-        .iter()
-        .chain(&LISTED)
-        .chain(&tapes::TAPES)
-        .chain(&SHEETS)
-        .find(|sample| sample.name == name)
-        .map(|sample| (sample.make)())
+    stored().chain(&LISTED).find(|sample| sample.name == name).map(|sample| (sample.make)())
 }
 
 /// A telemetry record that is all zero but for its number.
@@ -316,6 +391,14 @@ pub fn telemetry_stream(records: u32, record_length: usize) -> Vec<u8> {
         stream.extend_from_slice(&record);
     }
     stream
+}
+
+/// A record with the most samples of a size, for benchmarks.
+pub fn samples_record(size: u32, rate: u32) -> Vec<u8> {
+    let mut record = rsr(&Rng::new(SEED), 1, 7, 65_532);
+    record[SECONDARY + 36] = size as u8;
+    put(&mut record, SECONDARY + 38, 2, rate.into());
+    record
 }
 
 pub fn headers_sample(kind: u32) -> Vec<u8> {

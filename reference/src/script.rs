@@ -2,10 +2,14 @@
 
 use crate::record::{self, Fields, Record, Refused, Rsr, Telemetry};
 use crate::stream::{self, Cursor, Step, Stop};
-use crate::{convert, dates, keys, ledger};
+use crate::{convert, dates, gain, keys, ledger};
 use std::io::{self, Write};
 
 mod idr;
+mod iq;
+mod replay;
+mod season;
+mod settings;
 
 pub const HEADER: usize = 40;
 pub const MOST_A: usize = 131_072;
@@ -81,14 +85,15 @@ pub fn run(script: &[u8], mut each: impl FnMut(Option<&Frame>, &str) -> io::Resu
     Ok(())
 }
 
-/// The one sheet that the ledger calls of a script share.
+/// The one sheet that the ledger calls of a script share, and the one settings sheet.
 pub struct Calls {
     pub sheet: Vec<u8>,
+    pub settings: Vec<u8>,
 }
 
 impl Default for Calls {
     fn default() -> Calls {
-        Calls { sheet: vec![0; ledger::SHEET] }
+        Calls { sheet: vec![0; ledger::SHEET], settings: vec![0; crate::settings::SETTINGS] }
     }
 }
 
@@ -107,9 +112,14 @@ impl Calls {
             9 => number_lists(f),
             11 => Some(line_of_step(Cursor { place: f.key }.step(&f.a))),
             12 => Some(line_of_date(dates::date_of(f.x))),
+            13 => iq::unpack(f),
+            14 => iq::pack(f),
+            15 => Some(line_of_gain(gain::gain(&f.a, f.x))),
             16 => Some(idr::read(f)),
             17 => idr::write(f),
-            19..=31 => self.ledger_line(f),
+            19..=32 => self.ledger_line(f),
+            33 => Some(season::line(f)),
+            39..=42 => settings::line(&mut self.settings, f),
             _ => None,
         }
     }
@@ -142,13 +152,14 @@ impl Calls {
                 None => " none".to_string(),
             }),
             30 => ledger::strike(s, f.x).map(nothing),
-            _ => {
+            31 => {
                 if f.z > MOST_SHEET as u32 {
                     return None;
                 }
                 *s = vec![SLICE_FILL; f.z as usize];
                 convert::convert(&f.a, s).map(nothing)
             }
+            _ => replay::answer(s, f),
         };
         let crc = crc32(s);
         Some(match answer {
@@ -253,6 +264,13 @@ fn line_of_date(answer: Result<(u32, u32), u32>) -> String {
     match answer {
         Ok((year, day)) => format!("0 {year} {day}"),
         Err(refusal) => refusal.to_string(),
+    }
+}
+
+fn line_of_gain(answer: Result<Option<u32>, Refused>) -> String {
+    match answer {
+        Ok(gain) => format!("0 {}", or_none(gain)),
+        Err(refused) => refusal_words(refused),
     }
 }
 

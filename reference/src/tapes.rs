@@ -71,7 +71,7 @@ fn reduction(f: &Fields) -> String {
     )
 }
 
-pub const TAPES: [Sample; 6] = [
+pub static TAPES: [Sample; 6] = [
     Sample {
         name: "tapes/good-tape",
         last_line: "15168 0 end of tape",

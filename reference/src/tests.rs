@@ -7,13 +7,18 @@ use crate::make::{self, Rng};
 use crate::record::{self, Fields, Record, Refused, Rsr, Telemetry, RSR, TELEMETRY};
 use crate::script::{self, Frame};
 use crate::stream::{self, Cursor, Entry, Step, Stop};
-use crate::{keys, list, nights, random, sample, tapes};
+use crate::{keys, list, nights, privacy, random, sample};
 use std::collections::BTreeSet;
 use std::io::{self, Read};
 
 mod dates;
+mod gain;
 mod idr;
+mod iq;
+mod replay;
 mod rsr_rows;
+mod season;
+mod settings;
 mod strikes;
 
 /// A record written out by hand, from the paper's first table; `label_length` as given, the rest right.
@@ -578,7 +583,7 @@ fn the_ledger_is_the_book_laid_out() {
     for seed in 0..10 {
         let mut calls = script::Calls::default();
         let mut book = None;
-        for f in random::script(seed, 2_000) {
+        for f in random::script_of(seed, 2_000, Some("ledger")) {
             let line = calls.line(&f).unwrap();
             let mut words = line.split(' ');
             let mut word = || words.next().unwrap().parse::<u32>().ok();
@@ -588,6 +593,8 @@ fn the_ledger_is_the_book_laid_out() {
                     assert_eq!(ledger::is_sheet(&calls.sheet), book.is_some());
                 }
                 20 if calls.sheet.len() == 6_968 => book = Some(Book::new()),
+                // What a replay leaves is held to the book in tests/replay.rs.
+                32 => book = Book::of_sheet(&calls.sheet),
                 31 => {
                     book = Book::of_sheet_as(&book::OLD, &f.a).filter(|_| f.z == 6_968);
                     assert_eq!(word(), Some(if book.is_some() { 0 } else { 20 }));
@@ -620,6 +627,14 @@ fn the_ledger_is_the_book_laid_out() {
         }
     }
     assert!(compared > 5_000);
+}
+
+/// Request 09; and that the desk's saves have to be left out.
+#[test]
+fn what_is_not_saved_is_not_told() {
+    let tried = privacy::try_pairs(1, 3_000, false);
+    assert!(tried.told == 0 && tried.differed > 500, "{tried:?}");
+    assert!(privacy::try_pairs(1, 300, true).told > 10);
 }
 
 #[test]
@@ -738,7 +753,7 @@ fn bad_frames() {
     assert_eq!(lines_of(&[]), [""; 0]);
     assert_eq!(lines_of(&bytes), ["0 0"]);
     assert_eq!(lines_of(&[&bytes[..], &bytes[..39]].concat()), ["0 0", "bad frame"]);
-    for op in [0, 10, 13, 18, 32, u32::MAX] {
+    for op in [0, 10, 18, 34, 38, 43, u32::MAX] {
         assert_eq!(lines(&[good.clone(), Frame { op, ..Frame::default() }, good.clone()]), ["0 0", "bad frame"]);
     }
     let most = Frame { op: 8, a: vec![0; 131_072], b: vec![0; 66_000], ..Frame::default() };
@@ -755,7 +770,7 @@ fn random_scripts_meet_every_refusal() {
         random::script(seed, 2_000).iter().for_each(|frame| frame.write(&mut script).unwrap());
         let coverage = Coverage::of(&script);
         assert!(coverage.is_whole(), "seed {seed}, missing: {:?}", coverage.missing());
-        assert!(script.len() <= 2_000_000, "seed {seed}: {} bytes", script.len());
+        assert!(script.len() <= 2_200_000, "seed {seed}: {} bytes", script.len());
         behind.extend(coverage.behind());
     }
     assert!(behind.into_iter().eq((0..=11).chain([16])));
@@ -765,7 +780,7 @@ fn random_scripts_meet_every_refusal() {
 fn samples_are_stored_and_told_of() {
     let folder = concat!(env!("CARGO_MANIFEST_DIR"), "/../samples");
     let page = std::fs::read_to_string(format!("{folder}/README.md")).unwrap();
-    for sample in sample::SAMPLES.iter().chain(&tapes::TAPES).chain(&sample::SHEETS) {
+    for sample in sample::stored() {
         let told = match sample.last_line {
             "" => format!("| `{}` | {} |", sample.name, sample.about),
             last_line => format!("| `{}` | `{last_line}` | {} |", sample.name, sample.about),
