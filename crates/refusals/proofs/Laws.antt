@@ -44,6 +44,11 @@ use Rattle.refusals.specs.declared.Refusal.the-variants.{
   TapeTime,
   TapeRate,
   TapeBlock,
+  NotSettings,
+  UnknownEdition,
+  AlreadySet,
+  SettingsFull,
+  NoSetting,
 }
 use Rattle.refusals.specs.Table.{numberOf}
 
@@ -54,8 +59,8 @@ back =
     ∷ SecondaryLabel ∷ DataType ∷ DataLength ∷ FieldRange ∷ WriterSpace ∷ WriterInput ∷ WrongKind ∷ ListFull ∷ BufferSize
     ∷ TooShort ∷ TooShort ∷ NotSheet ∷ NoDesk ∷ BadKey ∷ AlreadyEnrolled ∷ LedgerFull ∷ NoRow ∷ DeskOpen ∷ DeskClosed ∷ OutsideRow
     ∷ AlreadyTicked ∷ NotTicked ∷ Stale ∷ FirstNumber ∷ DayCount ∷ TooShort ∷ TooShort ∷ RowOpen ∷ TooShort ∷ TooShort ∷ TooShort
-    ∷ TooShort ∷ TooShort ∷ TooShort ∷ TooShort ∷ TooShort ∷ TooShort ∷ TooShort ∷ TooShort ∷ TooShort ∷ TooShort ∷ TapeLengths
-    ∷ TapeLengthWord ∷ TapeTime ∷ TapeRate ∷ TapeBlock ∷ []
+    ∷ TooShort ∷ TooShort ∷ TooShort ∷ NotSettings ∷ UnknownEdition ∷ AlreadySet ∷ SettingsFull ∷ NoSetting ∷ TooShort ∷ TooShort
+    ∷ TapeLengths ∷ TapeLengthWord ∷ TapeTime ∷ TapeRate ∷ TapeBlock ∷ []
 
 refusalOf : ℕ → Refusal
 refusalOf n = getD back n TooShort
@@ -99,6 +104,11 @@ found TapeLengthWord = refl
 found TapeTime = refl
 found TapeRate = refl
 found TapeBlock = refl
+found NotSettings = refl
+found UnknownEdition = refl
+found AlreadySet = refl
+found SettingsFull = refl
+found NoSetting = refl
 
 pub number-injective : (r s : Refusal) → numberOf r ≡ numberOf s → r ≡ s
 number-injective r s e = sym (found r) ∙ ap refusalOf e ∙ found s

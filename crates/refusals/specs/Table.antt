@@ -39,6 +39,11 @@ use Rattle.refusals.specs.declared.Refusal.the-variants.{
   TapeTime,
   TapeRate,
   TapeBlock,
+  NotSettings,
+  UnknownEdition,
+  AlreadySet,
+  SettingsFull,
+  NoSetting,
 }
 
 abbrev pub numberOf : Refusal → ℕ
@@ -79,3 +84,8 @@ numberOf TapeLengthWord = 51
 numberOf TapeTime = 52
 numberOf TapeRate = 53
 numberOf TapeBlock = 54
+numberOf NotSettings = 43
+numberOf UnknownEdition = 44
+numberOf AlreadySet = 45
+numberOf SettingsFull = 46
+numberOf NoSetting = 47

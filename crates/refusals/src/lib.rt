@@ -45,6 +45,12 @@ pub enum Refusal {
     TapeTime,
     TapeRate,
     TapeBlock,
+    // Mission agreements (document 02, Req 14).
+    NotSettings,
+    UnknownEdition,
+    AlreadySet,
+    SettingsFull,
+    NoSetting,
 }
 
 // The number that the table gives a refusal.
@@ -89,5 +95,10 @@ pub fn number(r: Refusal) -> u32
         Refusal::TapeTime => 52,
         Refusal::TapeRate => 53,
         Refusal::TapeBlock => 54,
+        Refusal::NotSettings => 43,
+        Refusal::UnknownEdition => 44,
+        Refusal::AlreadySet => 45,
+        Refusal::SettingsFull => 46,
+        Refusal::NoSetting => 47,
     }
 }

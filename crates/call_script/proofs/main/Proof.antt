@@ -16,6 +16,9 @@ slice-aggregate-run-2 c = sym (length-replicate {A = ℕ} _ 0)
 slice-aggregate-run-3 : tie.Need-slice-aggregate-run-3
 slice-aggregate-run-3 c = sym (length-replicate {A = ℕ} _ 0)
 
+slice-aggregate-run-4 : tie.Need-slice-aggregate-run-4
+slice-aggregate-run-4 c = sym (length-replicate {A = ℕ} _ 0)
+
 run-requires : tie.Need-run-requires
 run-requires c κs = search needs
 
@@ -25,4 +28,4 @@ returns c = search needs
 pub main-spec : {M : Type 1} → statement M
 main-spec =
     tie.close
-    (tie.spec slice-aggregate-run slice-aggregate-run-2 slice-aggregate-run-3 run-requires returns)
+    (tie.spec slice-aggregate-run slice-aggregate-run-2 slice-aggregate-run-3 slice-aggregate-run-4 run-requires returns)

@@ -6,13 +6,14 @@ use Rattle.call_script.proofs.run.Statement.{statement}
 use Rattle.call_script.proofs.run.Tie as tie
 
 abbrev Inv-loop : tie.InvT-loop
-Inv-loop runs₀ sheet₀ out₀ s₀ frames₀ runs sheet out s frames = (length runs ≡ length runs₀) × (length sheet ≡ length sheet₀) × (length out ≡ length out₀)
+Inv-loop runs₀ sheet₀ settings₀ out₀ s₀ frames₀ runs sheet settings out s frames =
+    (length runs ≡ length runs₀) × (length sheet ≡ length sheet₀) × (length settings ≡ length settings₀) × (length out ≡ length out₀)
 
 abbrev μ-loop : tie.MeasureT-loop
-μ-loop runs₀ sheet₀ out₀ s₀ frames₀ runs sheet out s frames = frames
+μ-loop runs₀ sheet₀ settings₀ out₀ s₀ frames₀ runs sheet settings out s frames = frames
 
 loop-holds : tie.Need-loop-holds Inv-loop μ-loop
-loop-holds c = (refl, refl, refl)
+loop-holds c = (refl, refl, refl, refl)
 
 take-frame-requires : tie.Need-take-frame-requires Inv-loop μ-loop
 take-frame-requires c κs = tt
@@ -27,7 +28,7 @@ loop-less : tie.Need-loop-less Inv-loop μ-loop
 loop-less c = omega arith
 
 loop-again : tie.Need-loop-again Inv-loop μ-loop
-loop-again c = (omega arith, omega arith, omega arith)
+loop-again c = (omega arith, omega arith, omega arith, omega arith)
 
 flush-requires : tie.Need-flush-requires Inv-loop μ-loop
 flush-requires c κs = tt
@@ -40,6 +41,9 @@ same-length-2 c = c .before .before .before .loop .inv .1
 
 same-length-3 : tie.Need-same-length-3 Inv-loop μ-loop
 same-length-3 c = c .before .before .before .loop .inv .2
+
+same-length-4 : tie.Need-same-length-4 Inv-loop μ-loop
+same-length-4 c = c .before .before .before .loop .inv .3
 
 returns : tie.Need-returns Inv-loop μ-loop
 returns c = tt
@@ -60,4 +64,5 @@ run-spec =
     same-length
     same-length-2
     same-length-3
+    same-length-4
     returns)

@@ -115,6 +115,21 @@ enum-told-36 c = search needs
 enum-told-37 : tie.Need-enum-told-37
 enum-told-37 c = search needs
 
+enum-told-38 : tie.Need-enum-told-38
+enum-told-38 c = search needs
+
+enum-told-39 : tie.Need-enum-told-39
+enum-told-39 c = search needs
+
+enum-told-40 : tie.Need-enum-told-40
+enum-told-40 c = search needs
+
+enum-told-41 : tie.Need-enum-told-41
+enum-told-41 c = search needs
+
+enum-told-42 : tie.Need-enum-told-42
+enum-told-42 c = search needs
+
 returns : tie.Need-returns
 returns c = sym (ap numberOf (c .enum-told .given .1))
 
@@ -226,6 +241,21 @@ returns-36 c = sym (ap numberOf (c .enum-told36 .given .1))
 returns-37 : tie.Need-returns-37
 returns-37 c = sym (ap numberOf (c .enum-told37 .given .1))
 
+returns-38 : tie.Need-returns-38
+returns-38 c = sym (ap numberOf (c .enum-told38 .given .1))
+
+returns-39 : tie.Need-returns-39
+returns-39 c = sym (ap numberOf (c .enum-told39 .given .1))
+
+returns-40 : tie.Need-returns-40
+returns-40 c = sym (ap numberOf (c .enum-told40 .given .1))
+
+returns-41 : tie.Need-returns-41
+returns-41 c = sym (ap numberOf (c .enum-told41 .given .1))
+
+returns-42 : tie.Need-returns-42
+returns-42 c = sym (ap numberOf (c .enum-told42 .given .1))
+
 pub number-spec : {M : Type 1} → statement M
 number-spec =
     tie.close
@@ -267,6 +297,11 @@ number-spec =
     enum-told-35
     enum-told-36
     enum-told-37
+    enum-told-38
+    enum-told-39
+    enum-told-40
+    enum-told-41
+    enum-told-42
     returns
     returns-2
     returns-3
@@ -303,4 +338,9 @@ number-spec =
     returns-34
     returns-35
     returns-36
-    returns-37)
+    returns-37
+    returns-38
+    returns-39
+    returns-40
+    returns-41
+    returns-42)

@@ -1,0 +1,11 @@
+pub mod Lists
+pub mod Model
+pub mod Clauses
+pub mod Sheets
+pub mod Calls
+pub mod Latest
+pub mod Added
+pub mod Order
+pub mod Answers
+pub mod Contracts
+pub mod Examples
