@@ -20,6 +20,10 @@ use Rattle.refusals.specs.declared.Refusal.the-variants.{
   DataLength,
   WrongKind,
   FieldRange,
+  SamplePair,
+  SampleWords,
+  SampleValue,
+  SampleSpace,
   WriterInput,
   WriterSpace,
   ListFull,
@@ -38,6 +42,9 @@ use Rattle.refusals.specs.declared.Refusal.the-variants.{
   NotTicked,
   Stale,
   RowOpen,
+  NotTrace,
+  SeasonLength,
+  KeyInTwoSheets,
   DayCount,
   TapeLengths,
   TapeLengthWord,
@@ -49,6 +56,7 @@ use Rattle.refusals.specs.declared.Refusal.the-variants.{
   AlreadySet,
   SettingsFull,
   NoSetting,
+  AnswerLength,
 }
 use Rattle.refusals.specs.Table.{numberOf}
 
@@ -57,10 +65,10 @@ back : List Refusal
 back =
     TooShort ∷ TooShort ∷ Authority ∷ LabelControl ∷ UnknownKind ∷ LabelLength ∷ Truncated ∷ AggregationLabel ∷ PrimaryLabel
     ∷ SecondaryLabel ∷ DataType ∷ DataLength ∷ FieldRange ∷ WriterSpace ∷ WriterInput ∷ WrongKind ∷ ListFull ∷ BufferSize
-    ∷ TooShort ∷ TooShort ∷ NotSheet ∷ NoDesk ∷ BadKey ∷ AlreadyEnrolled ∷ LedgerFull ∷ NoRow ∷ DeskOpen ∷ DeskClosed ∷ OutsideRow
-    ∷ AlreadyTicked ∷ NotTicked ∷ Stale ∷ FirstNumber ∷ DayCount ∷ TooShort ∷ TooShort ∷ RowOpen ∷ TooShort ∷ TooShort ∷ TooShort
-    ∷ TooShort ∷ TooShort ∷ TooShort ∷ NotSettings ∷ UnknownEdition ∷ AlreadySet ∷ SettingsFull ∷ NoSetting ∷ TooShort ∷ TooShort
-    ∷ TapeLengths ∷ TapeLengthWord ∷ TapeTime ∷ TapeRate ∷ TapeBlock ∷ []
+    ∷ TooShort ∷ SamplePair ∷ NotSheet ∷ NoDesk ∷ BadKey ∷ AlreadyEnrolled ∷ LedgerFull ∷ NoRow ∷ DeskOpen ∷ DeskClosed
+    ∷ OutsideRow ∷ AlreadyTicked ∷ NotTicked ∷ Stale ∷ FirstNumber ∷ DayCount ∷ SampleWords ∷ SampleSpace ∷ RowOpen ∷ SampleValue
+    ∷ AnswerLength ∷ TooShort ∷ NotTrace ∷ KeyInTwoSheets ∷ SeasonLength ∷ NotSettings ∷ UnknownEdition ∷ AlreadySet
+    ∷ SettingsFull ∷ NoSetting ∷ TooShort ∷ TooShort ∷ TapeLengths ∷ TapeLengthWord ∷ TapeTime ∷ TapeRate ∷ TapeBlock ∷ []
 
 refusalOf : ℕ → Refusal
 refusalOf n = getD back n TooShort
@@ -80,6 +88,10 @@ found DataType = refl
 found DataLength = refl
 found WrongKind = refl
 found FieldRange = refl
+found SamplePair = refl
+found SampleWords = refl
+found SampleValue = refl
+found SampleSpace = refl
 found WriterInput = refl
 found WriterSpace = refl
 found ListFull = refl
@@ -98,6 +110,9 @@ found AlreadyTicked = refl
 found NotTicked = refl
 found Stale = refl
 found RowOpen = refl
+found NotTrace = refl
+found SeasonLength = refl
+found KeyInTwoSheets = refl
 found DayCount = refl
 found TapeLengths = refl
 found TapeLengthWord = refl
@@ -109,6 +124,7 @@ found UnknownEdition = refl
 found AlreadySet = refl
 found SettingsFull = refl
 found NoSetting = refl
+found AnswerLength = refl
 
 pub number-injective : (r s : Refusal) → numberOf r ≡ numberOf s → r ≡ s
 number-injective r s e = sym (found r) ∙ ap refusalOf e ∙ found s

@@ -15,6 +15,10 @@ use Rattle.refusals.specs.declared.Refusal.the-variants.{
   DataLength,
   WrongKind,
   FieldRange,
+  SamplePair,
+  SampleWords,
+  SampleValue,
+  SampleSpace,
   WriterInput,
   WriterSpace,
   ListFull,
@@ -33,6 +37,9 @@ use Rattle.refusals.specs.declared.Refusal.the-variants.{
   NotTicked,
   Stale,
   RowOpen,
+  NotTrace,
+  SeasonLength,
+  KeyInTwoSheets,
   DayCount,
   TapeLengths,
   TapeLengthWord,
@@ -44,6 +51,7 @@ use Rattle.refusals.specs.declared.Refusal.the-variants.{
   AlreadySet,
   SettingsFull,
   NoSetting,
+  AnswerLength,
 }
 
 abbrev pub numberOf : Refusal → ℕ
@@ -60,6 +68,10 @@ numberOf DataType = 10
 numberOf DataLength = 11
 numberOf WrongKind = 15
 numberOf FieldRange = 12
+numberOf SamplePair = 19
+numberOf SampleWords = 34
+numberOf SampleValue = 37
+numberOf SampleSpace = 35
 numberOf WriterInput = 14
 numberOf WriterSpace = 13
 numberOf ListFull = 16
@@ -78,6 +90,9 @@ numberOf AlreadyTicked = 29
 numberOf NotTicked = 30
 numberOf Stale = 31
 numberOf RowOpen = 36
+numberOf NotTrace = 40
+numberOf SeasonLength = 42
+numberOf KeyInTwoSheets = 41
 numberOf DayCount = 33
 numberOf TapeLengths = 50
 numberOf TapeLengthWord = 51
@@ -89,3 +104,4 @@ numberOf UnknownEdition = 44
 numberOf AlreadySet = 45
 numberOf SettingsFull = 46
 numberOf NoSetting = 47
+numberOf AnswerLength = 38

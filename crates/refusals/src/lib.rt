@@ -17,6 +17,11 @@ pub enum Refusal {
     DataLength,
     WrongKind,
     FieldRange,
+    // Records: samples (document 02, Req 08).
+    SamplePair,
+    SampleWords,
+    SampleValue,
+    SampleSpace,
     // Records: the writer, lists, the listing program.
     WriterInput,
     WriterSpace,
@@ -37,6 +42,10 @@ pub enum Refusal {
     NotTicked,
     Stale,
     RowOpen,
+    // Traces and seasons (document 02, Req 11 and Req 13).
+    NotTrace,
+    SeasonLength,
+    KeyInTwoSheets,
     // Dates.
     DayCount,
     // Medium band tapes.
@@ -51,6 +60,8 @@ pub enum Refusal {
     AlreadySet,
     SettingsFull,
     NoSetting,
+    // Calls from C (document 02, Req 06).
+    AnswerLength,
 }
 
 // The number that the table gives a refusal.
@@ -71,6 +82,10 @@ pub fn number(r: Refusal) -> u32
         Refusal::DataLength => 11,
         Refusal::WrongKind => 15,
         Refusal::FieldRange => 12,
+        Refusal::SamplePair => 19,
+        Refusal::SampleWords => 34,
+        Refusal::SampleValue => 37,
+        Refusal::SampleSpace => 35,
         Refusal::WriterInput => 14,
         Refusal::WriterSpace => 13,
         Refusal::ListFull => 16,
@@ -89,6 +104,9 @@ pub fn number(r: Refusal) -> u32
         Refusal::NotTicked => 30,
         Refusal::Stale => 31,
         Refusal::RowOpen => 36,
+        Refusal::NotTrace => 40,
+        Refusal::SeasonLength => 42,
+        Refusal::KeyInTwoSheets => 41,
         Refusal::DayCount => 33,
         Refusal::TapeLengths => 50,
         Refusal::TapeLengthWord => 51,
@@ -100,5 +118,6 @@ pub fn number(r: Refusal) -> u32
         Refusal::AlreadySet => 45,
         Refusal::SettingsFull => 46,
         Refusal::NoSetting => 47,
+        Refusal::AnswerLength => 38,
     }
 }
