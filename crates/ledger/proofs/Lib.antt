@@ -1,4 +1,5 @@
 pub mod Calls
 pub mod ReadBack
 pub mod Demand3
+pub mod Private
 pub mod Contracts

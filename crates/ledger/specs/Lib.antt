@@ -1,2 +1,3 @@
--- What demand 3 says of the ledger's calls.
+-- What demand 3, and request 09, say of the ledger's calls.
 pub mod Demand3
+pub mod Private

@@ -7,5 +7,6 @@ pub mod Replay
 pub mod Stale
 pub mod History
 pub mod Claim
+pub mod Private
 pub mod Counts
 pub mod Laws

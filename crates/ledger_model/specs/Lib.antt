@@ -5,6 +5,7 @@ pub mod Counts
 pub mod Step
 pub mod History
 pub mod Stale
+pub mod Private
 pub mod WellFormed
 pub mod Chain
 pub mod Claim
