@@ -13,7 +13,7 @@ use borrow.Author.Tests.{eq-eqb, ne-eqb, lt-leb, le-leb, eqb-true, eqb-false, lt
 use Rattle.octets.specs.Octets.{all, zeroAt}
 use Rattle.octets.proofs.Laws.{and-split, and-true, and-assoc, all-at, all-next, zero-join}
 use Rattle.ledger_sheet.specs.Sheet.{sheetSize, rowSize, rowCount, rowsStart, deskSize, deskCount, deskZerosAt, deskZerosSize, openedAt, workedAt, desksStart, rowAt, deskAt, used, isUsed, isRow, deskByte, deskRow, isClosed, carries, count, headerRight, countRight, validKeys, differentKeys, firstNumbers, freeZero, closedZero, deskMarked, openNames, deskRight, right}
-use Rattle.ledger_sheet.specs.Judging.{Zeros}
+use Rattle.ledger_sheet.specs.Judging.{rowsRight, Zeros}
 use Rattle.ledger_sheet.proofs.Ranges.{zero-within}
 
 module _ (s : List ℕ) (d : ℕ) where
@@ -40,40 +40,11 @@ module _ (s : List ℕ) (d : ℕ) where
   unfolding deskRight closedZero deskMarked openNames
   open-desk n = rw (ne-eqb (deskByte s d) 0 n, marked n)
 
--- ---- the first rows, of which the free ones are to be zero
-
--- what is left to say of the bytes from index z up to row i, and what has been said of those before
-abbrev pub RowsJudged : List ℕ → (before : Bool) (z i : ℕ) → Type 0
-RowsJudged s before z i = (before && zeroAt s z (rowAt i - z)) ≡ all i (λ k. isUsed s k || zeroAt s (rowAt k) rowSize)
-
-pub no-row-judged : (s : List ℕ) → RowsJudged s true rowsStart 0
-unfolding zeroAt all
-no-row-judged s = refl
-
-module _ (s : List ℕ) (before : Bool) (z i : ℕ) (h : RowsJudged s before z i) (l : z ≤ rowAt i) where
-  -- a free row makes the range longer
-  pub free-judged : isUsed s i ≡ false → RowsJudged s before z (i + 1)
-  free-judged e =
-      let n : rowAt (i + 1) - z ≡ rowAt i - z + rowSize = omega arith in
-      let m : z + (rowAt i - z) ≡ rowAt i = omega arith in
-      rw (n, zero-join s z (rowAt i - z) rowSize, m, and-assoc, h, all-next, e)
-
-  -- the range ends at any other
-  pub used-judged : isUsed s i ≡ true → RowsJudged s (before && zeroAt s z (rowAt i - z)) (rowAt i + rowSize) (i + 1)
-  unfolding zeroAt all
-  used-judged e =
-      let n : rowAt (i + 1) - (rowAt i + rowSize) ≡ 0 = omega arith in
-      rw (n, and-true, h, all-next, e, and-true)
-
-pub rows-judged : (s : List ℕ) (before : Bool) (z : ℕ) → RowsJudged s before z rowCount → z ≤ rowAt rowCount → Zeros s before z
-unfolding freeZero
-rows-judged s before z h l = record { within = l; says = h }
-
--- ---- the free rows and the first desks, of which the closed ones are to be zero
+-- ---- the rows and the first desks, of which the closed ones are to be zero
 
 -- what is left to say of the bytes from index z up to desk d, and what has been said of those before
 abbrev pub Judged : List ℕ → (before : Bool) (z d : ℕ) → Type 0
-Judged s before z d = (before && zeroAt s z (deskAt d - z)) ≡ (freeZero s && all d (deskRight s))
+Judged s before z d = (before && zeroAt s z (deskAt d - z)) ≡ (rowsRight s && all d (deskRight s))
 
 pub none-judged : (s : List ℕ) (before : Bool) (z : ℕ) → Zeros s before z → Judged s before z 0
 unfolding all

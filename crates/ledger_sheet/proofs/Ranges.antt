@@ -1,14 +1,15 @@
--- Parts of zero ranges, and numbers read into an array. Assumes nothing.
-use Prim.Native.Nat.{ℕ, _+_, _-_, _≤_, _<_}
+-- Parts of zero ranges, zero numbers, and numbers read into an array. Assumes nothing.
+use Prim.Native.Nat.{ℕ, zero, suc, _+_, _*_, _-_, _≤_, _<_}
+use native.Mathlib.Nat.{zero-add}
 use native.Mathlib.Omega.{arith}
-use mathlib.Core.Bool.{Bool, true, false, not, _||_}
+use mathlib.Core.Bool.{Bool, true, false, not, _&&_, _||_}
 use mathlib.Core.List.{List}
-use mathlib.Core.Path.{_≡_, refl}
+use mathlib.Core.Path.{_≡_, refl, ap, _∙_}
 use lib.Dec.{eqb}
 use lib.ListN.{length, getD, set}
 use lib.Seq.{getD-set-same, getD-set-other}
-use borrow.Author.Tests.{eq-eqb}
-use Rattle.octets.specs.Octets.{all, zeroAt}
+use borrow.Author.Tests.{eq-eqb, ne-eqb}
+use Rattle.octets.specs.Octets.{all, numberAt, zeroAt}
 use Rattle.octets.proofs.Laws.{and-true, all-each, all-next, all-same}
 use Rattle.octets.proofs.Parts.{zero-at}
 
@@ -17,6 +18,16 @@ pub zero-within : (s : List ℕ) (a n b m : ℕ) → zeroAt s a n ≡ true → a
 unfolding zeroAt
 zero-within s a n b m h l r =
     all-each m _ (λ i q. eq-eqb _ _ (zero-at s a n (b - a + i) (b + i) h (omega arith) (omega arith)))
+
+-- a number is zero exactly when its bytes are
+pub zero-number : (s : List ℕ) (a n : ℕ) → eqb (numberAt s a n) 0 ≡ zeroAt s a n
+unfolding numberAt zeroAt all
+zero-number s a zero = refl
+zero-number s a (suc n) = by (numberAt s a n) (getD s (a + n) 0) ∙ ap (λ b. b && eqb (getD s (a + n) 0) 0) (zero-number s a n)
+  where
+    by : (x y : ℕ) → eqb (x * 256 + y) 0 ≡ (eqb x 0 && eqb y 0)
+    by zero y = rw (zero-add y)
+    by (suc x) y = rw (ne-eqb (suc x * 256 + y) 0 (λ e. omega arith), ne-eqb (suc x) 0 (λ e. omega arith))
 
 -- ---- numbers read into an array: those of the first i that are wanted, one behind the other
 

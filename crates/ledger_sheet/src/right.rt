@@ -23,6 +23,7 @@ use crate::ROWS;
 use crate::ROWS_AT;
 use crate::ROWS_START_AT;
 use crate::SHEET;
+use crate::TICKS;
 use crate::TICKS_AT;
 use crate::USED;
 use crate::USED_AT;
@@ -37,9 +38,16 @@ ghost use mathlib.Core.Bool.{not, _&&_, _||_};
 ghost use Prim.Native.Nat.{_+_, _≤_, _<_};
 ghost use lib.Dec.{eqb};
 ghost use lib.ListN.{length, getD};
-ghost use Rattle.octets.specs.Octets.{all};
-ghost use Rattle.ledger_sheet.specs.Sheet.{sheetSize, rowSize, rowCount, deskCount, used, isUsed, isRow, keyAt, firstNumberAt, deskByte, headerRight, countRight, validKeys, differentKeys, firstNumbers, freeZero, deskRight, right};
-ghost use Rattle.ledger_sheet.specs.Judging.{Zeros};
+ghost use Rattle.octets.specs.Octets.{all, zeroAt};
+ghost use Rattle.keys.specs.Key.{validKey};
+ghost use Rattle.keys.specs.Numbers.{isNumber};
+ghost use Rattle.ledger_sheet.specs.Sheet.{sheetSize, rowSize, rowCount, deskCount, used, isUsed, isRow, keyAt, firstNumberAt, deskByte, headerRight, deskRight, right};
+ghost use Rattle.ledger_sheet.specs.Judging.{rowsRight, Zeros, Marked};
+
+// A key leaves its mark at its remainder by this number: a key whose place has none is not among those before it.
+const MARKS: usize = 64;
+
+const MARKED: u8 = 1;
 
 // What has been judged of the bytes before an index, and where the range of zeros begins that ends there and has yet to be looked at.
 struct Judged {
@@ -57,9 +65,8 @@ pub fn is_sheet(s: &[u8]) -> bool
     if !is_header(s) {
         return false;
     }
-    let rows = are_rows(s);
-    let rest = is_rest(s);
-    rows & rest
+    let judged = are_rows(s);
+    are_desks(s, judged)
 }
 
 fn is_header(s: &[u8]) -> bool
@@ -117,75 +124,84 @@ pub fn first_at(s: &[u8], a: usize) -> u32
     read_be(s, a + FIRST_AT, FIRST) as u32
 }
 
-// Whether the header counts the used rows, and these have valid, different keys and first numbers of their streams. Each key is read
-// once, into an array of those of the used rows.
-fn are_rows(s: &[u8]) -> bool
-    requires { ⌜ length (now s) ≡ sheetSize ⌝ }
-    ensures { λ r. ⌜ r ≡ (countRight (now (s .entry)) && validKeys (now (s .entry)) && differentKeys (now (s .entry)) && firstNumbers (now (s .entry))) ⌝ }
-{
-    let mut keys = [0u64; ROWS];
-    let mut found = 0;
-    let mut valid = true;
-    let mut different = true;
-    let mut numbers = true;
-    for i in 0..ROWS {
-        if is_used(s, i) {
-            let row = ROWS_AT + ROW * i;
-            let key = key_at(s, row);
-            valid &= keys::valid(key);
-            numbers &= keys::is_number(key, first_at(s, row));
-            different &= is_new(&keys, found, key);
-            keys[found] = key;
-            found += 1;
-        }
-    }
-    (found == rows_used(s)) & valid & different & numbers
-}
-
-// Whether none of the first n keys is the key given.
-fn is_new(keys: &[u64; ROWS], n: usize, key: u64) -> bool
-    requires { ⌜ n ≤ rowCount ⌝ }
-    ensures { λ r. ⌜ r ≡ all n (λ j. not (eqb (getD (now (keys .entry)) j 0) key)) ⌝ }
-{
-    let mut new = true;
-    for j in 0..n {
-        new &= keys[j] != key;
-    }
-    new
-}
-
-// Whether the free rows are zero and each desk is right. The desks stand behind the rows, so that free rows that follow one another,
-// and closed desks behind the last ones, are one range of zeros, tested in one go.
-fn is_rest(s: &[u8]) -> bool
-    requires { ⌜ length (now s) ≡ sheetSize ⌝ }
-    ensures { λ r. ⌜ r ≡ (freeZero (now (s .entry)) && all deskCount (deskRight (now (s .entry)))) ⌝ }
-{
-    let judged = free_rows(s);
-    are_desks(s, judged)
-}
-
-// The ranges of free rows, up to the last, whose range goes on with the desks.
-fn free_rows(s: &[u8]) -> Judged
+// The rows, up to the last that the header counts: used ones with valid, different keys and first numbers of their streams, and free
+// ones that are zero. The rows behind are to be free, so that they and the closed desks behind them are one range of zeros.
+fn are_rows(s: &[u8]) -> Judged
     requires { ⌜ length (now s) ≡ sheetSize ⌝ }
     ensures { λ r. ⌜ Zeros (now (s .entry)) (r .right) (r .zeros) ⌝ }
 {
+    let used = rows_used(s);
+    let mut keys = [0u64; ROWS];
+    let mut marks = [0u8; MARKS];
+    let mut found = 0;
     let mut right = true;
-    let mut zeros = ROWS_AT;
-    for i in 0..ROWS {
-        if is_used(s, i) {
-            let row = ROWS_AT + ROW * i;
-            right &= is_long_zero(s, zeros, row - zeros);
-            zeros = row + ROW;
+    let mut i = 0;
+    while i < ROWS {
+        if found == used {
+            break;
         }
+        let row = ROWS_AT + ROW * i;
+        if is_used(s, i) {
+            let key = key_at(s, row);
+            right &= is_stream(key, first_at(s, row));
+            right &= is_new(&keys, &marks, found, key);
+            keys[found] = key;
+            marks[(key % MARKS as u64) as usize] = MARKED;
+            found += 1;
+        } else {
+            right &= is_zero_row(s, row);
+        }
+        i += 1;
     }
-    Judged { right, zeros }
+    Judged {
+        right: right & (found == used),
+        zeros: ROWS_AT + ROW * i,
+    }
+}
+
+// Whether the row at offset a is zero: its ticks apart, since they fill whole vectors.
+fn is_zero_row(s: &[u8], a: usize) -> bool
+    requires { ⌜ a + rowSize ≤ length (now s) ⌝ }
+    ensures { λ r. ⌜ r ≡ zeroAt (now (s .entry)) a rowSize ⌝ }
+{
+    is_zero(s, a, TICKS_AT) & is_zero(s, a + TICKS_AT, TICKS)
+}
+
+// Whether a key is valid and a number one of its stream.
+fn is_stream(key: u64, first: u32) -> bool
+    ensures { λ r. ⌜ r ≡ (validKey key && isNumber key first) ⌝ }
+{
+    keys::valid(key) & keys::is_number(key, first)
+}
+
+// Whether none of the first n keys, which have left their marks, is the key given.
+fn is_new(keys: &[u64; ROWS], marks: &[u8; MARKS], n: usize, key: u64) -> bool
+    requires { ⌜ (n ≤ rowCount) × Marked (now keys) (now marks) n ⌝ }
+    ensures { λ r. ⌜ r ≡ all n (λ j. not (eqb (getD (now (keys .entry)) j 0) key)) ⌝ }
+{
+    if marks[(key % MARKS as u64) as usize] != MARKED {
+        return true;
+    }
+    is_other(keys, n, key)
+}
+
+// The same by looking at each.
+fn is_other(keys: &[u64; ROWS], n: usize, key: u64) -> bool
+    requires { ⌜ n ≤ rowCount ⌝ }
+    ensures { λ r. ⌜ r ≡ all n (λ j. not (eqb (getD (now (keys .entry)) j 0) key)) ⌝ }
+{
+    let mut other = true;
+    for j in 0..n {
+        other &= keys[j] != key;
+    }
+    other
 }
 
 // The ranges that end at an open desk, each open desk, and the last range.
 fn are_desks(s: &[u8], judged: Judged) -> bool
     requires { ⌜ length (now s) ≡ sheetSize ⌝ }
     requires { ⌜ Zeros (now s) (judged .right) (judged .zeros) ⌝ }
-    ensures { λ r. ⌜ r ≡ (freeZero (now (s .entry)) && all deskCount (deskRight (now (s .entry)))) ⌝ }
+    ensures { λ r. ⌜ r ≡ (rowsRight (now (s .entry)) && all deskCount (deskRight (now (s .entry)))) ⌝ }
 {
     let mut right = judged.right;
     let mut zeros = judged.zeros;

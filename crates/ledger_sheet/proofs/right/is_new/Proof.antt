@@ -1,52 +1,33 @@
--- `right::is_new` meets its contract. The invariant: what is gathered says it of the first j keys. Assumes nothing.
-use Prim.Native.Nat.{_≤_, _-_}
-use mathlib.Core.Bool.{not}
-use mathlib.Core.Path.{_≡_, sym}
-use native.Mathlib.Omega.{arith}
-use lib.Dec.{eqb}
-use lib.ListN.{getD}
-use Rattle.octets.specs.Octets.{all}
-use Rattle.octets.proofs.Laws.{all-none, all-next}
+use mathlib.Core.Path.{sym}
+use Rattle.ledger_sheet.proofs.RowsRead.{unmarked-new}
+use borrow.Author.Needs.{needs}
 use Rattle.ledger_sheet.proofs.right.is_new.Statement.{statement}
 use Rattle.ledger_sheet.proofs.right.is_new.Tie as tie
+use Rattle.ledger_sheet.proofs.right.is_new.Reads as reads
+use Rattle.ledger_sheet.proofs.right.is_new.Lts as lts
+use Rattle.ledger_sheet.proofs.right.is_other.Reads as is-other-reads
 
-abbrev Inv-loop : tie.InvT-loop
-Inv-loop keys n key new₀ j₀ new j = (j ≤ n) × (new ≡ all j (λ k. not (eqb (getD keys k 0) key)))
+-- src/right.rt:173:15
+rem-if1 : tie.Need-rem-if1
+rem-if1 c = search needs
 
-abbrev μ-loop : tie.MeasureT-loop
-μ-loop keys n key new₀ j₀ new j = n - j
+-- src/right.rt:173:8
+element-copy-out-if1 : tie.Need-element-copy-out-if1
+element-copy-out-if1 c = search needs
 
-loop-holds : tie.Need-loop-holds Inv-loop μ-loop
-loop-holds c = (omega arith, sym (all-none _))
+-- src/right.rt:174:9
+returns : tie.Need-returns
+returns c =
+    let given = c .before .before .args in
+    sym (unmarked-new (given .keys .now) (given .marks .now) (given .n) (given .key) (c .before .before .pre .1) (c .if1 .taken))
 
-mul-new : tie.Need-mul-new Inv-loop μ-loop
-mul-new c = omega arith
+-- src/right.rt:176:5
+is-other-requires : tie.Need-is-other-requires
+is-other-requires c κs = search needs
 
-element-copy-out-new : tie.Need-element-copy-out-new Inv-loop μ-loop
-element-copy-out-new c = omega arith
-
-add-j : tie.Need-add-j Inv-loop μ-loop
-add-j c = omega arith
-
-loop-less : tie.Need-loop-less Inv-loop μ-loop
-loop-less c = omega arith
-
-loop-again : tie.Need-loop-again Inv-loop μ-loop
-loop-again c = (omega arith, rw (all-next, c .before .before .loop .inv .1))
-
-returns : tie.Need-returns Inv-loop μ-loop
-returns c = let e : c .before .before .args .n ≡ c .before .loop .j = omega arith in rw e (c .before .loop .inv .1)
+-- src/right.rt:169:1
+returns-2 : tie.Need-returns-2
+returns-2 c = search needs
 
 pub is-new-spec : {M : Type 1} → statement M
-is-new-spec =
-    tie.close
-    (tie.spec
-    Inv-loop
-    μ-loop
-    loop-holds
-    mul-new
-    element-copy-out-new
-    add-j
-    loop-less
-    loop-again
-    returns)
+is-new-spec = tie.close (tie.spec rem-if1 element-copy-out-if1 returns is-other-requires returns-2)

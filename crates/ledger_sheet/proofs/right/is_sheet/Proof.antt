@@ -21,20 +21,14 @@ returns-2 c = rw (eq-eqb _ _ (c .before .before .if1 .left), failed (c .before .
 are-rows-requires : tie.Need-are-rows-requires
 are-rows-requires c κs = omega arith
 
-is-rest-requires : tie.Need-is-rest-requires
-is-rest-requires c κs = omega arith
+are-desks-requires : tie.Need-are-desks-requires
+are-desks-requires c κs = (omega arith, c .are-rows .ensures)
 
 returns-3 : tie.Need-returns-3
 unfolding right
 returns-3 c =
     let header = c .before .before in
-    rw (
-      eq-eqb _ _ (header .before .before .if1 .left),
-      passed (header .before .is-header .ensures) (header .if2 .left),
-      ← c .before .are-rows .ensures,
-      ← and-assoc,
-      ← c .is-rest .ensures,
-    )
+    rw (eq-eqb _ _ (header .before .before .if1 .left), passed (header .before .is-header .ensures) (header .if2 .left), c .are-desks .ensures)
 
 pub is-sheet-spec : {M : Type 1} → statement M
-is-sheet-spec = tie.close (tie.spec returns is-header-requires returns-2 are-rows-requires is-rest-requires returns-3)
+is-sheet-spec = tie.close (tie.spec returns is-header-requires returns-2 are-rows-requires are-desks-requires returns-3)

@@ -1,0 +1,22 @@
+use borrow.Author.Needs.{needs}
+use Rattle.ledger_sheet.proofs.right.is_stream.Statement.{statement}
+use Rattle.ledger_sheet.proofs.right.is_stream.Tie as tie
+use Rattle.ledger_sheet.proofs.right.is_stream.Reads as reads
+use Rattle.ledger_sheet.proofs.right.is_stream.Lts as lts
+use Rattle.keys.proofs.is_number.Reads as is-number-reads
+use Rattle.keys.proofs.valid.Reads as valid-reads
+
+-- src/right.rt:165:5
+valid-requires : tie.Need-valid-requires
+valid-requires c κs = search needs
+
+-- src/right.rt:165:24
+is-number-requires : tie.Need-is-number-requires
+is-number-requires c κs = search needs
+
+-- src/right.rt:162:1
+returns : tie.Need-returns
+returns c = rw (c .before .valid .ensures, c .is-number .ensures)
+
+pub is-stream-spec : {M : Type 1} → statement M
+is-stream-spec = tie.close (tie.spec valid-requires is-number-requires returns)
