@@ -74,6 +74,11 @@ pub fn kind_number(kind: Kind) -> u32
     }
 }
 
+// What the label spells for each kind, as a word: 0800 and C997.
+pub const TELEMETRY_TAG: u32 = 808988720;
+
+pub const RSR_TAG: u32 = 1127823671;
+
 // What the label spells for the kind.
 pub fn kind_tag(kind: Kind) -> [u8; TAG]
     ensures { λ r. ⌜ r ≡ kindBytes kind ⌝ }

@@ -33,19 +33,21 @@ use crate::nesting::PRIMARY_AT;
 use crate::nesting::PRIMARY_LENGTH;
 use crate::nesting::PRIMARY_TYPE;
 use crate::nesting::PRIMARY_VALUE_AT;
+use crate::nesting::RSR_TAG;
 use crate::nesting::SECONDARY_AT;
 use crate::nesting::SECONDARY_VALUE_AT;
 use crate::nesting::TAG;
+use crate::nesting::TELEMETRY_TAG;
 use crate::nesting::WORD;
 use crate::nesting::aggregation_length;
 use crate::nesting::data_at;
 use crate::nesting::data_value_at;
-use crate::nesting::kind_tag;
 use crate::nesting::least_label_length;
 use crate::nesting::secondary_length;
 use crate::nesting::secondary_type;
 use octets::is_same;
 use octets::read_be;
+use octets::read_u32;
 use refusals::Refusal;
 
 // The first record of a slice; what stands after it does not matter.
@@ -87,11 +89,16 @@ pub fn has_control(s: &[u8]) -> bool
     is_same(s, CONTROL_AT, &CONTROL, 0, TAG)
 }
 
+// The tag as one word: LLVM makes byte compares of an array that depends on the kind.
 fn has_kind(s: &[u8], kind: Kind) -> bool
     requires { ⌜ labelSize ≤ length (now s) ⌝ }
     ensures { λ r. ⌜ r ≡ hasKind kind (now (s .entry)) ⌝ }
 {
-    is_same(s, KIND_AT, &kind_tag(kind), 0, TAG)
+    let tag = read_u32(s, KIND_AT);
+    match kind {
+        Kind::Telemetry => tag == TELEMETRY_TAG,
+        Kind::Rsr => tag == RSR_TAG,
+    }
 }
 
 // Whether the kind is one of the two.

@@ -17,7 +17,9 @@ use crate::nesting::LABEL;
 use crate::nesting::PRIMARY_AT;
 use crate::nesting::PRIMARY_LENGTH;
 use crate::nesting::PRIMARY_TYPE;
+use crate::nesting::RSR_TAG;
 use crate::nesting::SECONDARY_AT;
+use crate::nesting::TELEMETRY_TAG;
 use crate::nesting::aggregation_length;
 use crate::nesting::data_at;
 use crate::nesting::data_value_at;
@@ -28,11 +30,6 @@ use crate::reader::has_control;
 use crate::reader::label_length;
 use crate::reader::length_in_range;
 use octets::read_u32;
-
-// What the label spells for each kind, as a word: 0800 and C997.
-const TELEMETRY_TAG: u32 = 808988720;
-
-const RSR_TAG: u32 = 1127823671;
 
 const WORD_VALUES: u64 = 65536;
 

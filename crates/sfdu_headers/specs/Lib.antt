@@ -3,3 +3,4 @@ pub mod Fields
 pub mod Ranges
 pub mod Headers
 pub mod Dated
+pub mod Parts

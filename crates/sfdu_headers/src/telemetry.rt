@@ -1,13 +1,15 @@
 // The fields of a telemetry record.
 ghost use mathlib.Core.Bool.{cond};
 ghost use mathlib.Core.Path.{_≡_};
-ghost use Prim.Native.Nat.{_≤_, _<_};
+ghost use mathlib.Core.List.{[], _∷_};
+ghost use Prim.Native.Nat.{_≤_, _<_, _/_, _%_};
 ghost use lib.ListN.{length};
 ghost use Rattle.sfdu.specs.declared.Kind.the-variants.{Telemetry};
 ghost use Rattle.sfdu.specs.Nesting.{dataValueAt};
 ghost use Rattle.sfdu.specs.Read.{primaryWords, primaryOf, recordLength};
 ghost use Rattle.sfdu_headers.specs.Fields.{recordNumber, spacecraft, hasBand, uplink};
-ghost use Rattle.sfdu_headers.specs.Headers.{wordsOf, judgedFields, telemetryFieldWords, fieldsOf, bandWord, receivedWords, addedOf};
+ghost use Rattle.sfdu_headers.specs.Headers.{wordsOf, judgedFields, telemetryFieldWords, fieldsOf, bandWord, receivedWords};
+ghost use Rattle.sfdu_headers.specs.Parts.{extendedValues, millisecondValues};
 ghost use Rattle.sfdu_headers.specs.Ranges.{fault, isBand};
 ghost use Rattle.sfdu_headers.specs.Words.{number, none};
 use crate::Band;
@@ -32,12 +34,10 @@ const RECEIVED_AT: usize = SECONDARY_AT + 14;
 
 const RECEIVED: usize = 8;
 
-// The parts of the received time.
-const DAYS_AT: usize = RECEIVED_AT;
+// How many values the lower two parts of the received time have.
+const EXTENDED_VALUES: u64 = 65536;
 
-const MILLISECONDS_AT: usize = RECEIVED_AT + 2;
-
-const EXTENDED_AT: usize = RECEIVED_AT + 6;
+const MILLISECOND_VALUES: u64 = 4294967296;
 
 const NUMBER_AT: usize = SECONDARY_AT + 22;
 
@@ -68,7 +68,7 @@ pub fn fields(s: &[u8], size: usize, primary: Primary) -> Headers
         fields.equipment,
         fields.stream,
     );
-    let received = read_received(s);
+    let received = split(fields.received);
     Headers::Telemetry {
         size,
         primary,
@@ -122,14 +122,15 @@ fn read_fields(s: &[u8]) -> TelemetryFields
     }
 }
 
-fn read_received(s: &[u8]) -> ReceivedTime
-    requires { ⌜ dataValueAt Telemetry ≤ length (now s) ⌝ }
-    ensures { λ r. ⌜ receivedWords r ≡ addedOf Telemetry (now (s .entry)) ⌝ }
+// The received time's parts, from the one number: days, milliseconds of the day, extended resolution.
+fn split(received: u64) -> ReceivedTime
+    ensures { λ r. ⌜ receivedWords r ≡ number (received / extendedValues / millisecondValues) ∷ number (received / extendedValues % millisecondValues) ∷ number (received % extendedValues) ∷ [] ⌝ }
 {
+    let time = received / EXTENDED_VALUES;
     ReceivedTime {
-        days: read_u16(s, DAYS_AT),
-        milliseconds: read_u32(s, MILLISECONDS_AT),
-        extended: read_u16(s, EXTENDED_AT),
+        days: (time / MILLISECOND_VALUES) as u16,
+        milliseconds: (time % MILLISECOND_VALUES) as u32,
+        extended: (received % EXTENDED_VALUES) as u16,
     }
 }
 

@@ -5,7 +5,7 @@ use Rattle.sfdu_headers.specs.Ranges.{fault, fieldRules}
 use Rattle.sfdu.specs.declared.Kind.the-variants.{Telemetry}
 use Rattle.sfdu.specs.Read.{primaryWords}
 use Rattle.sfdu_headers.specs.Headers.{outOfRange, telemetryFieldWords, receivedWords}
-use Rattle.sfdu_headers.proofs.Accept.{same-accepted, telemetry-key}
+use Rattle.sfdu_headers.proofs.Accept.{same-accepted, telemetry-key, received-parts}
 use borrow.Author.Needs.{needs}
 use Rattle.sfdu_headers.proofs.telemetry.fields.Statement.{statement}
 use Rattle.sfdu_headers.proofs.telemetry.fields.Tie as tie
@@ -31,8 +31,8 @@ read-fields-requires c κs = search needs
 telemetry-key-of-requires : tie.Need-telemetry-key-of-requires
 telemetry-key-of-requires c κs = search needs
 
-read-received-requires : tie.Need-read-received-requires
-read-received-requires c κs = search needs
+split-requires : tie.Need-split-requires
+split-requires c κs = search needs
 
 returns-2 : tie.Need-returns-2
 unfolding fault
@@ -41,13 +41,14 @@ returns-2 c =
     let read = keyed .before in
     let passed = read .before in
     let judged = passed .before .before in
-    let start = judged .before .before in
+    let known = judged .before in
+    let start = known .before in
     let s = start .args .s .now in
     let f = read .read-fields in
     let key = telemetry-key s (f .result) _ (f .ensures) (keyed .telemetry-key-of .ensures) in
     let right = sym (judged .band-fault .ensures) ∙ passed .enum-told .given .1 in
     same-accepted Telemetry _ _ (primaryWords (start .args .primary)) _ (telemetryFieldWords (f .result)) _ _ _
-    (receivedWords (c .read-received .result)) _ (start .pre .0) (start .pre .1) (f .ensures) key (c .read-received .ensures)
+    (receivedWords (c .split .result)) _ (start .pre .0) (start .pre .1) (f .ensures) key (c .split .ensures ∙ received-parts s (f .result) (known .shared-slice-known .given) (f .ensures))
     ∙ sym (all-right outOfRange (fieldRules Telemetry s) _ right)
 
 pub fields-spec : {M : Type 1} → statement M
@@ -60,5 +61,5 @@ fields-spec =
     enum-told
     read-fields-requires
     telemetry-key-of-requires
-    read-received-requires
+    split-requires
     returns-2)
