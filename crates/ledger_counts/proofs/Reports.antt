@@ -39,14 +39,17 @@ module _ (s : List ℕ) (a : ℕ) where
   unfolding ticksOf
   row-whole h = missing-none rowLength end (tickedAt s a) (top-of rowLength (tickedAt s a)) h
 
-  pub report-whole : end ≤ lowest end unticked → 0 ∷ size (ticksOf s a) ∷ 0 ∷ [] ≡ reportWords s a
+  -- where none is missing they are as many as there are positions below the end
+  pub report-whole : end ≤ lowest end unticked → 0 ∷ end ∷ 0 ∷ [] ≡ reportWords s a
   unfolding reportWords
   report-whole l =
       let none = row-whole (λ j q. not-false _ (lowest-fails end unticked j (omega arith))) in
-      rw (none, least-none (missing (ticksOf s a)) none)
+      let missed : size (missing (ticksOf s a)) ≡ 0 = least-none (missing (ticksOf s a)) none in
+      let ticked : size (ticksOf s a) ≡ end = omega (arith, row-count) in
+      rw (none, missed, ticked)
 
   pub report-none : end ≡ 0 → 0 ∷ 0 ∷ 0 ∷ [] ≡ reportWords s a
-  report-none e = let none : size (ticksOf s a) ≡ 0 = omega (arith, row-count) in rw none at (report-whole (omega arith))
+  report-none e = rw e at (report-whole (omega arith))
 
   pub report-gaps : lowest end unticked < end
       → 0 ∷ size (ticksOf s a) ∷ (end - size (ticksOf s a)) ∷ numberAtPosition s a (lowest end unticked) ∷ [] ≡ reportWords s a

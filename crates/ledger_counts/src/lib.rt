@@ -127,7 +127,7 @@ fn number_in(s: &[u8], a: usize, i: usize) -> u32
     ledger_model::number_at(key, first, i as u32)
 }
 
-// Reports on a row.
+// Reports on a row. Where nothing below the end is missing, the ticks need not be counted.
 pub fn row_report(s: &[u8], row: usize) -> ReportAnswer
     requires { ⌜ (length (now s) ≡ sheetSize) × (row < rowCount) ⌝ }
     ensures { λ r. ⌜ reportAnswerWords r ≡ reportWords (now (s .entry)) (rowAt row) ⌝ }
@@ -137,11 +137,11 @@ pub fn row_report(s: &[u8], row: usize) -> ReportAnswer
     if end == 0 {
         return ReportAnswer::Whole { ticked: 0 };
     }
-    let ticked = ticked_count(s, a);
     let at = lowest_unticked(s, a, end);
     if at >= end {
-        return ReportAnswer::Whole { ticked };
+        return ReportAnswer::Whole { ticked: end as u32 };
     }
+    let ticked = ticked_count(s, a);
     ReportAnswer::Gaps {
         ticked,
         missing: end as u32 - ticked,

@@ -16,45 +16,60 @@ ticks-end-requires c κs = omega arith
 
 returns : tie.Need-returns
 returns c =
-    let g = c .before .before .before .args in
-    report-none (g .s .now) (rowAt (g .row)) (rw (c .before .ticks-end .ensures) at (c .if1 .taken))
+    let ended = c .before in
+    let g = ended .before .before .args in
+    report-none (g .s .now) (rowAt (g .row)) (rw (ended .ticks-end .ensures) at (c .if1 .taken))
+
+lowest-unticked-requires : tie.Need-lowest-unticked-requires
+lowest-unticked-requires c κs =
+    let ended = c .before in
+    let g = ended .before .before .args in
+    (omega arith, rw (ended .ticks-end .ensures) (end-within (g .s .now) (rowAt (g .row))))
+
+cast-t9 : tie.Need-cast-t9
+cast-t9 c =
+    let ended = c .before .before .before in
+    let g = ended .before .before .args in
+    omega (arith, end-within (g .s .now) (rowAt (g .row)), ended .ticks-end .ensures)
+
+returns-2 : tie.Need-returns-2
+returns-2 c =
+    let ended = c .before .before .before in
+    let g = ended .before .before .args in
+    let end = ended .ticks-end .ensures in
+    let at = rw end at (c .before .lowest-unticked .ensures) in
+    rw end (report-whole (g .s .now) (rowAt (g .row)) (rw (end, at) at (c .if2 .taken)))
 
 ticked-count-requires : tie.Need-ticked-count-requires
 ticked-count-requires c κs = omega arith
 
-lowest-unticked-requires : tie.Need-lowest-unticked-requires
-lowest-unticked-requires c κs =
-    let g = c .before .before .before .before .args in
-    (omega arith, rw (c .before .before .ticks-end .ensures) (end-within (g .s .now) (rowAt (g .row))))
+cast-t10 : tie.Need-cast-t10
+cast-t10 c =
+    let ended = c .before .before .before .before in
+    let g = ended .before .before .args in
+    omega (arith, end-within (g .s .now) (rowAt (g .row)), ended .ticks-end .ensures)
 
-returns-2 : tie.Need-returns-2
-returns-2 c =
-    let g = c .before .before .before .before .before .before .args in
-    let end = c .before .before .before .before .ticks-end .ensures in
-    let at = rw end at (c .before .lowest-unticked .ensures) in
-    rw (c .before .before .ticked-count .ensures) (report-whole (g .s .now) (rowAt (g .row)) (rw (end, at) at (c .if2 .taken)))
-
-cast-t9 : tie.Need-cast-t9
-cast-t9 c =
-    let g = c .before .before .before .before .before .before .args in
-    omega (arith, end-within (g .s .now) (rowAt (g .row)), c .before .before .before .before .ticks-end .ensures)
-
-sub-t10 : tie.Need-sub-t10
-sub-t10 c =
-    let g = c .before .before .before .before .before .before .args in
-    omega (arith, row-count (g .s .now) (rowAt (g .row)), c .before .before .before .before .ticks-end .ensures, c .before .before .ticked-count .ensures)
+sub-t11 : tie.Need-sub-t11
+sub-t11 c =
+    let ended = c .before .before .before .before in
+    let g = ended .before .before .args in
+    omega (arith, row-count (g .s .now) (rowAt (g .row)), ended .ticks-end .ensures, c .ticked-count .ensures)
 
 number-in-requires : tie.Need-number-in-requires
 number-in-requires c κs =
-    let g = c .before .before .before .before .before .before .args in
-    omega (arith, end-within (g .s .now) (rowAt (g .row)), c .before .before .before .before .ticks-end .ensures)
+    let ended = c .before .before .before .before in
+    let g = ended .before .before .args in
+    omega (arith, end-within (g .s .now) (rowAt (g .row)), ended .ticks-end .ensures)
 
 returns-3 : tie.Need-returns-3
 returns-3 c =
-    let g = c .before .before .before .before .before .before .before .args in
-    let end = c .before .before .before .before .before .ticks-end .ensures in
-    let at = rw end at (c .before .before .lowest-unticked .ensures) in
-    rw (c .before .before .before .ticked-count .ensures, end, c .number-in .ensures, at) (report-gaps (g .s .now) (rowAt (g .row)) (rw (end, at) at (c .before .if2 .left)))
+    let counted = c .before in
+    let gapped = counted .before in
+    let ended = gapped .before .before .before in
+    let g = ended .before .before .args in
+    let end = ended .ticks-end .ensures in
+    let at = rw end at (gapped .before .lowest-unticked .ensures) in
+    rw (counted .ticked-count .ensures, end, c .number-in .ensures, at) (report-gaps (g .s .now) (rowAt (g .row)) (rw (end, at) at (gapped .if2 .left)))
 
 pub row-report-spec : {M : Type 1} → statement M
 row-report-spec =
@@ -64,10 +79,11 @@ row-report-spec =
     add-a
     ticks-end-requires
     returns
-    ticked-count-requires
     lowest-unticked-requires
-    returns-2
     cast-t9
-    sub-t10
+    returns-2
+    ticked-count-requires
+    cast-t10
+    sub-t11
     number-in-requires
     returns-3)
