@@ -4,43 +4,33 @@ use native.Mathlib.Omega.{arith}
 use mathlib.Core.Bool.{Bool, true, false, _&&_}
 use mathlib.Core.List.{List}
 use mathlib.Core.Path.{_≡_, refl, sym, _∙_}
-use lib.Dec.{eqb, ltb, leb}
+use lib.Dec.{eqb, ltb, leb, lit≤}
 use lib.ListN.{length}
 use borrow.Author.Tests.{eq-eqb, ne-eqb, lt-leb, le-leb, eqb-true, eqb-false, leb-true, ltb-true}
 use Rattle.octets.specs.Octets.{all, zeroAt}
 use Rattle.octets.proofs.Laws.{and-split, and-true, and-assoc, all-at, all-next, zero-join}
 use Rattle.ledger_convert.specs.Old.{sheetSize, rowSize, rowCount, rowsStart, deskSize, deskCount, deskZerosAt, deskZerosSize, openedAt, workedAt, desksStart, lengthAt, rowCountAt, rowsStartAt, deskCountAt, desksStartAt, rowAt, deskAt, headerNumber, used, deskByte, deskRow, isClosed, carries, headerRight, validKeys, differentKeys, firstNumbers, unusedZero, closedZero, deskMarked, openNames, deskRight, right, Sized}
-use Rattle.ledger_convert.proofs.Ranges.{zero-within, zero-rows}
+use Rattle.ledger_sheet.proofs.Desks.{closed-is, open-is, UpTo, longer, ended}
+use Rattle.ledger_convert.proofs.Ranges.{zero-rows}
+
+-- ---- desks, by the laws over the sizes
+
+-- a desk names a used row, and its copies carry that row's key and first number
+abbrev names : List ℕ → ℕ → Bool
+names s d = ltb (deskRow s d) (used s) && carries s (deskAt d + openedAt) (deskRow s d) && carries s (deskAt d + workedAt) (deskRow s d)
 
 module _ (s : List ℕ) (d : ℕ) where
-  -- a closed desk is right exactly when it is zero
   pub closed-desk : deskByte s d ≡ 0 → zeroAt s (deskAt d) deskSize ≡ deskRight s d
   unfolding deskRight closedZero deskMarked openNames
-  closed-desk e = by (zeroAt s (deskAt d) deskSize) refl
-    where
-      by : (b : Bool) → zeroAt s (deskAt d) deskSize ≡ b → zeroAt s (deskAt d) deskSize ≡ deskRight s d
-      by true z = rw (z, eq-eqb _ _ e, zero-within s (deskAt d) deskSize (deskAt d + deskZerosAt) deskZerosSize z (omega arith) (omega arith), le-leb (deskByte s d) 1 (omega arith))
-      by false z = rw (z, eq-eqb _ _ e)
+  closed-desk e = closed-is s (deskAt d) deskSize (names s d) e (lit≤ tt)
 
-  -- any other, when it is marked open and has its zeros, names a used row, and its copies carry that row's key and first number
-  marked : (deskByte s d ≡ 0 → ⊥) → leb (deskByte s d) 1 ≡ eqb (deskByte s d) 1
-  marked n = by (eqb (deskByte s d) 1) refl
-    where
-      by : (b : Bool) → eqb (deskByte s d) 1 ≡ b → leb (deskByte s d) 1 ≡ eqb (deskByte s d) 1
-      by true e = let one = eqb-true (deskByte s d) 1 e in rw (e, le-leb (deskByte s d) 1 (omega arith))
-      by false e = let other = eqb-false (deskByte s d) 1 e in rw (e, lt-leb (deskByte s d) 1 (omega arith))
-
-  pub open-desk : (deskByte s d ≡ 0 → ⊥)
-      → (eqb (deskByte s d) 1 && zeroAt s (deskAt d + deskZerosAt) deskZerosSize && (ltb (deskRow s d) (used s) && carries s (deskAt d + openedAt) (deskRow s d) && carries s (deskAt d + workedAt) (deskRow s d)))
-      ≡ deskRight s d
+  pub open-desk : (deskByte s d ≡ 0 → ⊥) → (eqb (deskByte s d) 1 && zeroAt s (deskAt d + deskZerosAt) deskZerosSize && names s d) ≡ deskRight s d
   unfolding deskRight closedZero deskMarked openNames
-  open-desk n = rw (ne-eqb (deskByte s d) 0 n, marked n)
+  open-desk n = open-is s (deskAt d) deskSize (names s d) n
 
--- ---- the unused rows and the first desks, of which those from index z on are to be zero
-
--- what is left to say of the bytes from index z up to desk d, and what has been said of those before
+-- the unused rows and the first desks, of which those from index z on are to be zero
 abbrev pub Judged : List ℕ → (before : Bool) (z d : ℕ) → Type 0
-Judged s before z d = (before && zeroAt s z (deskAt d - z)) ≡ (unusedZero s && all d (deskRight s))
+Judged s before z d = UpTo s desksStart deskSize (unusedZero s) (deskRight s) before z d
 
 pub none-judged : (s : List ℕ) → used s ≤ rowCount → Judged s true (rowAt (used s)) 0
 unfolding unusedZero all
@@ -50,19 +40,11 @@ none-judged s few =
     rw n (zero-rows s rowsStart rowSize (used s) (rowCount - used s) ∙ rw e (sym (and-true _)))
 
 module _ (s : List ℕ) (before : Bool) (z d : ℕ) (h : Judged s before z d) (l : z ≤ deskAt d) where
-  -- a closed desk makes the range longer
   pub closed-judged : deskByte s d ≡ 0 → Judged s before z (d + 1)
-  closed-judged e =
-      let n : deskAt (d + 1) - z ≡ deskAt d - z + deskSize = omega arith in
-      let m : z + (deskAt d - z) ≡ deskAt d = omega arith in
-      rw (n, zero-join s z (deskAt d - z) deskSize, m, closed-desk s d e, all-next, and-assoc, h, and-assoc)
+  closed-judged e = longer s desksStart deskSize (unusedZero s) (deskRight s) before z d h l (closed-desk s d e)
 
-  -- the range ends at any other
   pub open-judged : Judged s (before && zeroAt s z (deskAt d - z) && deskRight s d) (deskAt d + deskSize) (d + 1)
-  unfolding zeroAt all
-  open-judged =
-      let n : deskAt (d + 1) - (deskAt d + deskSize) ≡ 0 = omega arith in
-      rw (n, and-true, h, all-next, and-assoc)
+  open-judged = ended s desksStart deskSize (unusedZero s) (deskRight s) before z d h l
 
 -- ---- what a right sheet tells
 

@@ -1,5 +1,5 @@
--- Parts of zero ranges, and the zero range of the unused rows. Assumes nothing.
-use Prim.Native.Nat.{ℕ, zero, suc, _+_, _*_, _-_, _≤_, _<_}
+-- The zero range of the unused rows, and numbers read into an array. Assumes nothing.
+use Prim.Native.Nat.{ℕ, zero, suc, _+_, _*_, _<_}
 use native.Mathlib.Nat.{eq-or-lt-of-le, le-add-right, add-zero, add-suc, mul-add, mul-zero, mul-suc}
 use native.Mathlib.Omega.{arith}
 use mathlib.Core.Bool.{Bool, true, _||_}
@@ -9,16 +9,9 @@ use lib.Dec.{ltb}
 use lib.ListN.{length, getD, set}
 use lib.Seq.{getD-set-same, getD-set-other}
 use mathlib.Core.Logic.{⊎-elim}
-use borrow.Author.Tests.{lt-ltb, le-ltb, eq-eqb}
+use borrow.Author.Tests.{lt-ltb, le-ltb}
 use Rattle.octets.specs.Octets.{all, zeroAt}
 use Rattle.octets.proofs.Laws.{all-each, all-same, zero-join}
-use Rattle.octets.proofs.Parts.{zero-at}
-
--- a part of a zero range is zero
-pub zero-within : (s : List ℕ) (a n b m : ℕ) → zeroAt s a n ≡ true → a ≤ b → b + m ≤ a + n → zeroAt s b m ≡ true
-unfolding zeroAt
-zero-within s a n b m h l r =
-    all-each m _ (λ i q. eq-eqb _ _ (zero-at s a n (b - a + i) (b + i) h (omega arith) (omega arith)))
 
 -- of rows of size w from index a on, those from the u-th on are zero exactly when the range that they fill is
 pub zero-rows : (s : List ℕ) (a w u m : ℕ) → zeroAt s (a + w * u) (w * m) ≡ all (u + m) (λ i. ltb i u || zeroAt s (a + w * i) w)

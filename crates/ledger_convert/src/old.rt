@@ -18,6 +18,7 @@ use ledger_sheet::ROWS_AT;
 use ledger_sheet::ROWS_START_AT;
 use ledger_sheet::TICKS;
 use ledger_sheet::USED_AT;
+use ledger_sheet::right::is_other;
 use octets::is_long_zero;
 use octets::is_same;
 use octets::is_zero;
@@ -112,22 +113,10 @@ fn are_rows(s: &[u8]) -> bool
         let key = key_at(s, row);
         valid &= keys::valid(key);
         numbers &= keys::is_number(key, first_at(s, row));
-        different &= is_new(&keys, i, key);
+        different &= is_other(&keys, i, key);
         keys[i] = key;
     }
     valid & different & numbers
-}
-
-// Whether none of the first n keys is the key given.
-fn is_new(keys: &[u64; ROWS], n: usize, key: u64) -> bool
-    requires { ⌜ n ≤ rowCount ⌝ }
-    ensures { λ r. ⌜ r ≡ all n (λ j. not (eqb (getD (now (keys .entry)) j 0) key)) ⌝ }
-{
-    let mut new = true;
-    for j in 0..n {
-        new &= keys[j] != key;
-    }
-    new
 }
 
 // Whether the unused rows are zero and each desk is right. The desks stand behind the unused rows, so that these and closed desks

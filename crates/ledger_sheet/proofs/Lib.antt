@@ -1,4 +1,5 @@
 pub mod Ranges
+pub mod Desks
 pub mod Clauses
 pub mod Answers
 pub mod RowsRead

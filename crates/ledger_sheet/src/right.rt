@@ -185,8 +185,8 @@ fn is_new(keys: &[u64; ROWS], marks: &[u8; MARKS], n: usize, key: u64) -> bool
     is_other(keys, n, key)
 }
 
-// The same by looking at each.
-fn is_other(keys: &[u64; ROWS], n: usize, key: u64) -> bool
+// The same by looking at each. (Public for the converter of old sheets.)
+pub fn is_other(keys: &[u64; ROWS], n: usize, key: u64) -> bool
     requires { ⌜ n ≤ rowCount ⌝ }
     ensures { λ r. ⌜ r ≡ all n (λ j. not (eqb (getD (now (keys .entry)) j 0) key)) ⌝ }
 {

@@ -48,8 +48,8 @@ first-at-requires c κs = omega arith
 is-number-requires : tie.Need-is-number-requires Inv-loop μ-loop
 is-number-requires c κs = tt
 
-is-new-requires : tie.Need-is-new-requires Inv-loop μ-loop
-is-new-requires c κs = omega arith
+is-other-requires : tie.Need-is-other-requires Inv-loop μ-loop
+is-other-requires c κs = omega arith
 
 mul-keys : tie.Need-mul-keys Inv-loop μ-loop
 mul-keys c = omega arith
@@ -74,7 +74,7 @@ loop-again c =
       (simp length-set (at .inv .1)),
       read-more keys (at .keys) (at .i) _ (at .inv .2) key (omega arith),
       rw (all-next, ← at .inv .3, ← key, ← c .before .before .before .before .valid .ensures),
-      rw (all-next, ← at .inv .4, ← read-test keys (at .keys) (at .i) _ (at .inv .2) key (λ a b. not (eqb a b)), ← c .is-new .ensures),
+      rw (all-next, ← at .inv .4, ← read-test keys (at .keys) (at .i) _ (at .inv .2) key (λ a b. not (eqb a b)), ← c .is-other .ensures),
       rw (all-next, ← at .inv .5, ← key, ← first, ← c .before .before .is-number .ensures),
     )
 
@@ -98,7 +98,7 @@ are-rows-spec =
     valid-requires
     first-at-requires
     is-number-requires
-    is-new-requires
+    is-other-requires
     mul-keys
     array-write-keys
     add-i
