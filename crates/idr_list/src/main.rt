@@ -7,6 +7,8 @@ ghost use lib.ListN.{length};
 ghost use Rattle.idr.specs.Words.{recordSize};
 ghost use Rattle.idr_listing.specs.Text.{mostLine};
 ghost use Rattle.idr_list.specs.Turn.{bufferSize, Going, Behind, Holds, emptied, Turns, Ends};
+use arguments::Asked;
+use arguments::first_option;
 use idr::RECORD;
 use libc::STDERR_FILENO;
 use libc::STDIN_FILENO;
@@ -38,13 +40,6 @@ struct Piece {
 struct Turn {
     state: State,
     failed: bool,
-}
-
-// What the arguments ask for.
-enum Asked {
-    Listing,
-    Help,
-    Unknown,
 }
 
 // Reads into the record from `have` on. There is room for a byte at least, so none means the end of the input.
@@ -203,49 +198,6 @@ fn list_arguments(count: usize) {
     }
 }
 
-// A word that begins with '-' and has more behind it is an option.
-fn asked_by(word: &[u8]) -> Asked {
-    if word.len() < 2 {
-        return Asked::Listing;
-    }
-    if word[0] != b'-' {
-        return Asked::Listing;
-    }
-    let help = b"--help";
-    if word.len() != help.len() {
-        return Asked::Unknown;
-    }
-    if octets::is_same(word, 0, help, 0, help.len()) {
-        return Asked::Help;
-    }
-    Asked::Unknown
-}
-
-fn asked_at(i: usize) -> Asked {
-    let mut word = io::buffer();
-    let n = os::arg(i, &mut word);
-    asked_by(&word[..n])
-}
-
-// The first option among the arguments.
-fn first_option(count: usize) -> Asked {
-    let mut i = 1;
-    while i < count {
-        let found = asked_at(i);
-        match found {
-            Asked::Listing => {}
-            Asked::Help => {
-                return Asked::Help;
-            }
-            Asked::Unknown => {
-                return Asked::Unknown;
-            }
-        }
-        i += 1;
-    }
-    Asked::Listing
-}
-
 fn tell_usage(fd: i32) {
     io::write_all(fd, b"usage: idr_list [FILE ..]\n");
     io::write_all(
@@ -266,7 +218,7 @@ fn main() {
     }
     let wanted = first_option(count);
     match wanted {
-        Asked::Listing => list_arguments(count),
+        Asked::Files => list_arguments(count),
         Asked::Help => tell_usage(STDOUT_FILENO),
         Asked::Unknown => tell_usage(STDERR_FILENO),
     }

@@ -6,6 +6,8 @@ ghost use lib.ListN.{length};
 ghost use Rattle.sfdu_listing.specs.Listing.{bufferSize};
 ghost use Rattle.sfdu_listing.specs.Run.{emptied};
 ghost use Rattle.sfdu_list.specs.Turn.{Going, Behind, Turns, Ends};
+use arguments::Asked;
+use arguments::first_option;
 use libc::STDERR_FILENO;
 use libc::STDIN_FILENO;
 use libc::STDOUT_FILENO;
@@ -145,15 +147,36 @@ fn list_argument(i: usize, several: bool) {
     libc::close(fd);
 }
 
+fn list_arguments(count: usize) {
+    let mut i = 1;
+    while i < count {
+        list_argument(i, 2 < count);
+        i += 1;
+    }
+}
+
+fn tell_usage(fd: i32) {
+    io::write_all(fd, b"usage: sfdu_list [FILE ..]\n");
+    io::write_all(
+        fd,
+        b"Lists streams of records: a line for each record, then where the stream stopped and why.\n",
+    );
+    io::write_all(
+        fd,
+        b"With no FILE it lists standard input; with several, each stands under a line with its name.\n",
+    );
+}
+
 fn main() {
     let count = os::arg_count();
     if count < 2 {
         list(STDIN_FILENO, b"standard input");
         return;
     }
-    let mut i = 1;
-    while i < count {
-        list_argument(i, 2 < count);
-        i += 1;
+    let wanted = first_option(count);
+    match wanted {
+        Asked::Files => list_arguments(count),
+        Asked::Help => tell_usage(STDOUT_FILENO),
+        Asked::Unknown => tell_usage(STDERR_FILENO),
     }
 }

@@ -1,8 +1,8 @@
--- `idr_list::first_option` is safe and ends. Assumes nothing.
+-- `arguments::first_option` is safe and ends. Assumes nothing.
 use borrow.Author.Needs.{needs}
 use Prim.Native.Nat.{_-_, _<_, _^_}
-use Rattle.idr_list.proofs.first_option.Statement.{statement}
-use Rattle.idr_list.proofs.first_option.Tie as tie
+use Rattle.arguments.proofs.first_option.Statement.{statement}
+use Rattle.arguments.proofs.first_option.Tie as tie
 
 abbrev Inv-loop : tie.InvT-loop
 Inv-loop count i₀ i = count < 2 ^ 64
