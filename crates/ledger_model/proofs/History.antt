@@ -86,7 +86,7 @@ serial-entries log =
 
 -- ---- the results
 
-only-append : {A : Type 0} (f : A → Bool) (xs ys : List A) → only f (xs ++ ys) ≡ only f xs ++ only f ys
+pub only-append : {A : Type 0} (f : A → Bool) (xs ys : List A) → only f (xs ++ ys) ≡ only f xs ++ only f ys
 unfolding only
 only-append f [] ys = refl
 only-append f (x ∷ xs) ys = at (f x) (only-append f xs ys)

@@ -143,7 +143,7 @@ abbrev pub Counted : (flag : Bool) (before after : ℕ) → Type 0
 Counted true before after = after ≡ suc before
 Counted false before after = suc after ≡ before
 
-size-mark : (flag : Bool) (i : ℕ) (worked : Positions) → IsSet worked → Changes flag i worked → Counted flag (size worked) (size (set worked i flag))
+pub size-mark : (flag : Bool) (i : ℕ) (worked : Positions) → IsSet worked → Changes flag i worked → Counted flag (size worked) (size (set worked i flag))
 size-mark true i worked l k = size-tick worked i (rw l (k .in-row)) (k .was-not)
 size-mark false i worked l k = size-untick worked i (k .was-not)
 

@@ -10,3 +10,4 @@ pub mod Claim
 pub mod Private
 pub mod Counts
 pub mod Laws
+pub mod Tally

@@ -30,7 +30,7 @@ later-assoc : (o p q : Option ℕ) → later o (later p q) ≡ later (later o p)
 later-assoc o p none = refl
 later-assoc o p (some r) = refl
 
-lastOpened-append : (d : ℕ) (xs ys : List Entry) → lastOpened d (xs ++ ys) ≡ later (lastOpened d xs) (lastOpened d ys)
+pub lastOpened-append : (d : ℕ) (xs ys : List Entry) → lastOpened d (xs ++ ys) ≡ later (lastOpened d xs) (lastOpened d ys)
 unfolding lastOpened
 lastOpened-append d [] ys = later-none (lastOpened d ys)
 lastOpened-append d (x ∷ xs) ys = rw (lastOpened-append d xs ys) (later-assoc (openedBy d x) (lastOpened d xs) (lastOpened d ys))
@@ -112,7 +112,7 @@ watched-places log ps qs d (working r opened worked) f w =
 
 -- ---- what one call does
 
-refused-opens : (d : ℕ) (c : Call) (number : ℕ) → openedBy d (c ⇒ refused number) ≡ none
+pub refused-opens : (d : ℕ) (c : Call) (number : ℕ) → openedBy d (c ⇒ refused number) ≡ none
 unfolding openedBy
 refused-opens d (Enrol key first) number = refl
 refused-opens d (Ask q) number = refl

@@ -9,3 +9,4 @@ pub mod Private
 pub mod WellFormed
 pub mod Chain
 pub mod Claim
+pub mod Tally
