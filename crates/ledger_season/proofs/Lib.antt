@@ -2,3 +2,6 @@ pub mod Rows
 pub mod Keys
 pub mod Sheets
 pub mod Judged
+pub mod Read
+pub mod Laws
+pub mod Identity

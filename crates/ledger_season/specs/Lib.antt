@@ -1,4 +1,6 @@
 -- What the contracts of `ledger_season` cite, and what is to be known of the season's report.
 pub mod Report
 pub mod Season
+pub mod Laws
+pub mod Identity
 pub mod Gathered

@@ -77,10 +77,9 @@ loop-again c =
     let rated = c .before .before .before in
     let turn = counted .before .before .before in
     let g = turn .before .before .args in
-    let counts = rw (sheet-part (g .s .now) (turn .loop .k)) at (counted .count-sheet .ensures) in (
-      omega arith,
-      season-more (g .s .now) (g .n) _ _ _ _ (turn .loop .k) (omega arith) (turn .before .before .pre .0) (turn .loop .inv .1) _ counts _ (rated .with-rate .ensures) _ (c .first-of .ensures),
-    )
+    let counts = rw (sheet-part (g .s .now) (turn .loop .k)) at (counted .count-sheet .ensures) in
+    let more = season-more (g .s .now) (g .n) _ _ _ _ (turn .loop .k) (omega arith) (turn .before .before .pre .0) (turn .loop .inv .1) in
+    (omega arith, more _ counts _ (rated .with-rate .ensures) _ (c .first-of .ensures))
 
 with-rate-requires-2 : tie.Need-with-rate-requires-2 Inv-loop μ-loop
 with-rate-requires-2 c κs = search needs

@@ -1,0 +1,37 @@
+-- Request 13's identity, on the bytes of sheets and on what the calls' contracts promise. Assumes nothing.
+use Prim.Native.Nat.{ℕ, _+_, _≤_}
+use mathlib.Core.Bool.{false}
+use mathlib.Core.List.{List, [], _∷_, _++_, map}
+use mathlib.Core.Path.{_≡_}
+use lib.ListN.{length}
+use Rattle.ledger_model.specs.Step.{Entry, bookAfter}
+use Rattle.ledger_model.specs.Chain.{Chain}
+use Rattle.ledger_model.specs.Tally.{savedTicks, savedUnticks}
+use Rattle.ledger_sheet.specs.declared.Answer.the-variants as A
+use Rattle.ledger.specs.Demand3.{MadeFresh, Promised}
+use Rattle.ledger_season.specs.Report.{mostSheets, keyInTwo}
+use Rattle.ledger_season.specs.declared.SeasonReport.{SeasonReport}
+
+-- "sheets grown from fresh by demand 3's calls": one list of calls for each sheet, each with its log, made one after the other on
+-- the sheet that `fresh` made.
+pub data Grown : (logs : List (List Entry)) (sheets : List (List ℕ)) → Type 0 where
+  no-sheet : Grown [] []
+  and-sheet : (s : List ℕ) {start last : List ℕ} {log : List Entry} {logs : List (List Entry)} {sheets : List (List ℕ)}
+      → MadeFresh s start → Chain Promised start log last → Grown logs sheets → Grown (log ∷ logs) (last ∷ sheets)
+
+-- "laid one after another"
+unfoldable pub laidInOne : List (List ℕ) → List ℕ
+laidInOne [] = []
+laidInOne (sheet ∷ sheets) = sheet ++ laidInOne sheets
+
+-- A count over all logs.
+unfoldable pub overLogs : (List Entry → ℕ) → List (List Entry) → ℕ
+overLogs count [] = 0
+overLogs count (log ∷ logs) = count log + overLogs count logs
+
+-- What holds of the answer r to such a season.
+pub record Identity (logs : List (List Entry)) (sheets : List (List ℕ)) (r : SeasonReport) : Type 0 where
+  -- It is accepted where there are not too many sheets and no key stands in two of them: none is refused as not right.
+  pub accepted : length sheets ≤ mostSheets → keyInTwo (map bookAfter logs) ≡ false → r .answer ≡ A.Done
+  -- "ticked in all equals ticks less unticks that were accepted and whose visit was saved, over rows not struck since"
+  pub balanced : r .answer ≡ A.Done → r .total .ticked + overLogs savedUnticks logs ≡ overLogs savedTicks logs

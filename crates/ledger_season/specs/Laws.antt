@@ -1,0 +1,34 @@
+-- What is to be known of every season's answer. Assumes nothing.
+use Prim.Native.Nat.{ℕ, zero, suc, _+_}
+use mathlib.Core.List.{List, [], _∷_}
+use mathlib.Core.Logic.{_↔_}
+use mathlib.Core.Path.{_≡_}
+use lib.ListN.{length, getD}
+use Rattle.ledger_model.specs.Step.{Ask, RowReport}
+use Rattle.ledger_sheet.specs.Sheet.{sheetSize, rowCount}
+use Rattle.ledger_sheet.specs.declared.Answer.the-variants as A
+use Rattle.ledger_layout.specs.Layout.{call, onSheet}
+use Rattle.ledger_season.specs.declared.SheetCounts.{SheetCounts}
+use Rattle.ledger_season.specs.declared.SeasonGap.the-variants as G
+use Rattle.ledger_season.specs.declared.SeasonReport.{SeasonReport}
+
+-- The sum of a number over the sheets of an answer.
+unfoldable pub overSheets : (SheetCounts → ℕ) → List SheetCounts → ℕ
+overSheets number [] = 0
+overSheets number (c ∷ cs) = number c + overSheets number cs
+
+-- The sum of word k of the row reports on a sheet, over its first n rows: word 1 is the ticked count, word 2 the missing count. A free
+-- row's report is refused, and has no such word.
+unfoldable pub overRows : List ℕ → (k n : ℕ) → ℕ
+overRows s k zero = 0
+overRows s k (suc n) = overRows s k n + getD (onSheet (call (Ask (RowReport n))) s .0) k 0
+
+pub record Laws (s : List ℕ) (r : SeasonReport) : Type 0 where
+  -- In all is the sum of the sheets.
+  pub ticked-in-all : r .total .ticked ≡ overSheets (λ c. c .ticked) (r .sheets)
+  pub missing-in-all : r .total .missing ≡ overSheets (λ c. c .missing) (r .sheets)
+  -- A gap is reported exactly where something is missing.
+  pub gap-exactly : (r .gap ≡ G.Nothing) ↔ (r .total .missing ≡ 0)
+  -- The season of one sheet is its rows' reports added up.
+  pub one-ticked : length s ≡ sheetSize → r .answer ≡ A.Done → r .total .ticked ≡ overRows s 1 rowCount
+  pub one-missing : length s ≡ sheetSize → r .answer ≡ A.Done → r .total .missing ≡ overRows s 2 rowCount
