@@ -28,7 +28,7 @@ use Rattle.ledger_layout.proofs.Chunks.{table-is}
 use Rattle.ledger.specs.Demand3.{MadeFresh, Promised}
 use Rattle.ledger.proofs.Demand3.{demand-3}
 use Rattle.ledger_season.specs.Report.{mostSheets, tickedIn, inAll, report, keyInTwo}
-use Rattle.ledger_season.specs.Season.{sheetAt, sheetCount, booksTo, books, rightTo, season, reportWords}
+use Rattle.ledger_season.specs.Season.{sheetAt, sheetCount, booksTo, books, rightTo, season, reportWords, Answers}
 use Rattle.ledger_season.specs.Identity.{Grown, no-sheet, and-sheet, laidInOne, overLogs, Identity}
 use Rattle.ledger_season.specs.declared.SeasonReport.{SeasonReport}
 use Rattle.ledger_season.proofs.Judged.{wrongLength}
@@ -83,7 +83,8 @@ more {log} {last} {logs} {sheets} x xs =
     at : (k : ℕ) → k < suc (length sheets) → sheetAt (last ++ laidInOne sheets) k ≡ layout (getD (bookAfter log ∷ map bookAfter logs) k fresh)
     at zero l =
         part-first last (laidInOne sheets) (sheetSize * 0) sheetSize (omega (arith, long x)) ∙ part-whole last sheetSize (long x) ∙ x .store
-    at (suc k) l = part-second last (laidInOne sheets) (sheetSize * suc k) (sheetSize * k) sheetSize (omega (arith, long x)) ∙ xs .sheet-is k (le-of-suc-le-suc l)
+    at (suc k) l =
+        part-second last (laidInOne sheets) (sheetSize * suc k) (sheetSize * k) sheetSize (omega (arith, long x)) ∙ xs .sheet-is k (le-of-suc-le-suc l)
 
     ok : (k : ℕ) → k < suc (length sheets) → WellFormed (getD (bookAfter log ∷ map bookAfter logs) k fresh)
     ok zero l = x .ok
@@ -127,12 +128,12 @@ module _ (logs : List (List Entry)) (sheets : List (List ℕ)) (h : Sheets logs 
       let words : reportWords r ≡ 0 ∷ report (books s) = e ∙ rw (not-long few, are-right, once-in-books) in
       done-if-zero (r .answer) (cc)
 
-pub season-identity : {logs : List (List Entry)} {sheets : List (List ℕ)} → Grown logs sheets → (r : SeasonReport) → length (r .sheets) ≡ mostSheets
-    → reportWords r ≡ season (laidInOne sheets) → Identity logs sheets r
+pub season-identity : {logs : List (List Entry)} {sheets : List (List ℕ)} → Grown logs sheets → (r : SeasonReport)
+    → Answers (season (laidInOne sheets)) r → Identity logs sheets r
 unfolding s
-season-identity {logs} {sheets} grown r l e =
+season-identity {logs} {sheets} grown r answers =
     let h = sheets-of grown in
-    record { accepted = taken-if logs sheets h r e; balanced = balance h (given (laidInOne sheets) r l e) }
+    record { accepted = taken-if logs sheets h r (ap (λ p. p .1) answers); balanced = balance h (given (laidInOne sheets) r answers) }
   where
     balance : Sheets logs sheets → Given (laidInOne sheets) r → r .answer ≡ A.Done → r .total .ticked + overLogs savedUnticks logs ≡ overLogs savedTicks logs
     balance h (taken d fits right-all k) done =

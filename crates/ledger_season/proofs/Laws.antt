@@ -25,7 +25,7 @@ use Rattle.ledger_layout.specs.Layout.{bookOf, placeIn, call, onSheet}
 use Rattle.ledger_layout.proofs.Chunks.{length-table}
 use Rattle.ledger_changes.specs.Rows.{table}
 use Rattle.ledger_season.specs.Report.{mostSheets, missed, three, tickedIn, missingIn, eachSheet, inAll, gapIn, seasonGapFrom}
-use Rattle.ledger_season.specs.Season.{sheetAt, sheetCount, booksTo, books, rightTo, season, countsWords, sheetsWords, orFurther, reportWords}
+use Rattle.ledger_season.specs.Season.{sheetAt, sheetCount, booksTo, books, rightTo, season, countsWords, sheetsWords, orFurther, Answers}
 use Rattle.ledger_season.specs.Laws.{overSheets, overRows, Laws}
 use Rattle.ledger_season.specs.declared.SheetCounts.{SheetCounts}
 use Rattle.ledger_season.specs.declared.SeasonGap.{SeasonGap}
@@ -106,8 +106,10 @@ gap-where k (b ∷ bs) = by (first 0 (b .places)) (gap-where (suc k) bs)
     by : First 0 (b .places) → (seasonGapFrom (suc k) bs ≡ []) ↔ (inAll missingIn bs ≡ 0)
         → (gapIn k (firstGapFrom 0 (b .places)) (seasonGapFrom (suc k) bs) ≡ []) ↔ (missingIn b + inAll missingIn bs ≡ 0)
     by (no-gap e m) h = (λ f. let z = h .0 (rw e at f) in omega arith, λ f. rw e (h .1 (omega arith)))
-    by (a-gap number q e m) h =
-        (λ f. let g : _≡_ {A = List ℕ} (k ∷ q ∷ number ∷ []) [] = rw e at f in absurd (let z : _≡_ {A = ℕ} 0 1 = cc in omega arith), λ f. absurd (m (omega arith)))
+    by (a-gap number q e m) h = (
+      λ f. let g : _≡_ {A = List ℕ} (k ∷ q ∷ number ∷ []) [] = rw e at f in absurd (let z : _≡_ {A = ℕ} 0 1 = cc in omega arith),
+      λ f. absurd (m (omega arith)),
+    )
 
 gap-none : (g : SeasonGap) → (g ≡ G.Nothing) ↔ (orFurther g [] ≡ [])
 gap-none G.Nothing = (λ e. refl, λ e. refl)
@@ -202,12 +204,12 @@ module _ (s : List ℕ) (long : length s ≡ sheetSize) where
 
 -- ---- the laws
 
-pub laws : (s : List ℕ) (r : SeasonReport) → length (r .sheets) ≡ mostSheets → reportWords r ≡ season s → Laws s r
-laws s r l e = by (given s r l e)
+pub laws : (s : List ℕ) (r : SeasonReport) → Answers (season s) r → Laws s r
+laws s r answers = by (given s r answers)
   where
     added : (bs : List Book) → length bs ≤ mostSheets → Says r bs
         → (overSheets (λ c. c .ticked) (r .sheets) ≡ inAll tickedIn bs) × (overSheets (λ c. c .missing) (r .sheets) ≡ inAll missingIn bs)
-    added bs few h = over (r .sheets) mostSheets bs l few (h .sheets-are)
+    added bs few h = over (r .sheets) mostSheets bs (ap (λ p. p .0) answers) few (h .sheets-are)
 
     by : Given s r → Laws s r
     by (taken d fits right-all h) =

@@ -14,7 +14,7 @@ use Rattle.ledger_sheet.specs.Sheet.{sheetSize}
 use Rattle.ledger_sheet.specs.declared.Answer.{Answer}
 use Rattle.ledger_sheet.specs.declared.Answer.the-variants as A
 use Rattle.ledger_season.specs.Report.{mostSheets, three, tickedIn, missingIn, eachSheet, inAll, seasonGapFrom, report, keyInTwo}
-use Rattle.ledger_season.specs.Season.{sheetCount, books, rightTo, season, answerNumber, countsWords, sheetsWords, orFurther, reportWords}
+use Rattle.ledger_season.specs.Season.{sheetCount, books, rightTo, season, answerNumber, countsWords, sheetsWords, orFurther, reportWords, Answers}
 use Rattle.ledger_season.specs.Laws.{overSheets}
 use Rattle.ledger_season.specs.declared.SheetCounts.{SheetCounts}
 use Rattle.ledger_season.specs.declared.SeasonReport.{SeasonReport}
@@ -79,10 +79,16 @@ pub done-if-zero : (a : Answer) → answerNumber a ≡ 0 → a ≡ A.Done
 done-if-zero A.Done e = refl
 done-if-zero (A.Refused why) e = absurd (number-positive why e)
 
-pub given : (s : List ℕ) (r : SeasonReport) → length (r .sheets) ≡ mostSheets → reportWords r ≡ season s → Given s r
+pub given : (s : List ℕ) (r : SeasonReport) → Answers (season s) r → Given s r
 unfolding season judge
-given s r l e = by (wrongLength s) refl (rightTo s (sheetCount s)) refl (keyInTwo (books s)) refl
+given s r answers = by (wrongLength s) refl (rightTo s (sheetCount s)) refl (keyInTwo (books s)) refl
   where
+    l : length (r .sheets) ≡ mostSheets
+    l = ap (λ p. p .0) answers
+
+    e : reportWords r ≡ season s
+    e = ap (λ p. p .1) answers
+
     refusal : (q : ℕ) → (q ≡ 0 → ⊥) → reportWords r ≡ q ∷ report [] → Given s r
     refusal q p h = refused (refused-not-done (r .answer) q (cc) p) (says r [] l (cc))
 

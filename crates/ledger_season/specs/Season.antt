@@ -2,6 +2,7 @@
 use Prim.Native.Nat.{ℕ, _*_, _/_, _%_}
 use mathlib.Core.Bool.{Bool, not, _||_}
 use mathlib.Core.List.{List, [], _∷_, _++_}
+use mathlib.Core.Path.{_≡_}
 use lib.Dec.{eqb, ltb}
 use lib.ListN.{length}
 use Rattle.refusals.specs.Judge.{Rule, _when_, judge}
@@ -71,3 +72,7 @@ orFurther (G.Gap sheet row number) further = sheet ∷ row ∷ number ∷ []
 
 abbrev pub reportWords : SeasonReport → List ℕ
 reportWords r = answerNumber (r .answer) ∷ r .count ∷ sheetsWords (r .sheets) ++ countsWords (r .total) ++ orFurther (r .gap) []
+
+-- The answer r has these words, and 16 sheets, as its type says.
+abbrev pub Answers : List ℕ → SeasonReport → Type 0
+Answers words r = _≡_ {A = ℕ × List ℕ} (length (r .sheets), reportWords r) (mostSheets, words)

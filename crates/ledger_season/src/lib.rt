@@ -22,7 +22,7 @@ ghost use Rattle.ledger_sheet.specs.Sheet.{sheetSize, rowCount};
 ghost use Rattle.ledger_sheet.specs.Words.{answerWords};
 ghost use Rattle.ledger_layout.specs.Layout.{bookOf, placeIn};
 ghost use Rattle.ledger_season.specs.Report.{mostSheets, perMillion, three, gapIn, report};
-ghost use Rattle.ledger_season.specs.Season.{countsWords, orFurther, rightTo, booksTo, seasonRules, season, reportWords};
+ghost use Rattle.ledger_season.specs.Season.{countsWords, orFurther, rightTo, booksTo, seasonRules, season, Answers};
 ghost use Rattle.ledger_season.specs.Gathered.{mostKeys, distinct, isNew, areNew, keysOfAll, Keyed, orElse, Counts, Adds};
 
 pub const MOST_SHEETS: usize = 16;
@@ -72,7 +72,7 @@ struct Counted {
 
 // Reports on the season whose sheets are laid one after another.
 pub fn season(s: &[u8]) -> SeasonReport
-    ensures { λ r. ⌜ reportWords r ≡ season (now (s .entry)) ⌝ }
+    ensures { λ r. ⌜ Answers (season (now (s .entry))) r ⌝ }
 {
     let verdict = season_verdict(s);
     if let Answer::Refused(why) = verdict {
@@ -179,7 +179,7 @@ fn is_new(keys: &[u64; MOST_KEYS], n: usize, key: u64) -> bool
 
 // No sheet, and why.
 fn refused(why: Refusal) -> SeasonReport
-    ensures { λ r. ⌜ reportWords r ≡ numberOf why ∷ report [] ⌝ }
+    ensures { λ r. ⌜ Answers (numberOf why ∷ report []) r ⌝ }
 {
     let nothing = SheetCounts {
         ticked: 0,
@@ -198,7 +198,7 @@ fn refused(why: Refusal) -> SeasonReport
 // Counts n right sheets.
 fn count_season(s: &[u8], n: usize) -> SeasonReport
     requires { ⌜ (n ≤ mostSheets) × (sheetSize * n ≤ length (now s)) ⌝ }
-    ensures { λ r. ⌜ reportWords r ≡ 0 ∷ report (booksTo (now (s .entry)) n) ⌝ }
+    ensures { λ r. ⌜ Answers (0 ∷ report (booksTo (now (s .entry)) n)) r ⌝ }
 {
     let nothing = SheetCounts {
         ticked: 0,

@@ -92,7 +92,8 @@ returns c =
     let turn = c .before .before in
     let g = turn .before .before .args in
     let end : turn .loop .k ≡ g .n = omega arith in
-    ap (λ ws. 0 ∷ ws) (season-all (g .s .now) (g .n) _ _ _ _ (rw end at (turn .loop .inv .1)) _ (c .with-rate2 .ensures))
+    let at = rw end at (turn .loop .inv .1) in
+    rw (at .long, season-all (g .s .now) (g .n) _ _ _ _ at _ (c .with-rate2 .ensures))
 
 pub count-season-spec : {M : Type 1} → statement M
 count-season-spec =

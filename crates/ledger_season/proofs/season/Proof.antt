@@ -1,5 +1,6 @@
 -- `season` meets its contract. Assumes nothing.
-use mathlib.Core.Path.{_∙_}
+use mathlib.Core.Path.{ap, _∙_}
+use Rattle.ledger_season.specs.Report.{mostSheets}
 use Rattle.refusals.specs.Table.{numberOf}
 use Rattle.refusals.proofs.Laws.{number-positive}
 use Rattle.ledger_season.proofs.Judged.{season-refused, season-accepted}
@@ -21,7 +22,8 @@ returns c =
     let judged = c .before .before .before .before in
     let s = judged .before .before .args .s .now in
     let why = c .before .before .verdict .given in
-    c .refused .ensures ∙ season-refused s (numberOf (why .0 .0)) (number-positive (why .0 .0)) (rw (why .1) at (judged .season-verdict .ensures))
+    c .refused .ensures
+    ∙ ap (λ ws. (mostSheets, ws)) (season-refused s (numberOf (why .0 .0)) (number-positive (why .0 .0)) (rw (why .1) at (judged .season-verdict .ensures)))
 
 enum-told : tie.Need-enum-told
 enum-told c = search needs
@@ -36,7 +38,8 @@ returns-2 : tie.Need-returns-2
 returns-2 c =
     let judged = c .before .before .before in
     let told = c .before .enum-told .given .1 in
-    c .count-season .ensures ∙ season-accepted (judged .before .before .args .s .now) (rw told at (judged .season-verdict .ensures)) .1
+    let accepted = season-accepted (judged .before .before .args .s .now) (rw told at (judged .season-verdict .ensures)) in
+    c .count-season .ensures ∙ ap (λ ws. (mostSheets, ws)) (accepted .1)
 
 pub season-spec : {M : Type 1} → statement M
 season-spec =
