@@ -1,14 +1,17 @@
 -- `season_verdict` meets its contract. Assumes nothing.
 use mathlib.Core.Bool.{true, false}
+use mathlib.Core.Path.{_≡_}
 use Rattle.refusals.specs.Judge.{judge}
 use Rattle.octets.proofs.Laws.{failed, passed}
-use Rattle.ledger_season.proofs.Judged.{fit, keys-judged}
+use Rattle.ledger_season.proofs.Judged.{wrongLength, fit, keys-judged}
 use Rattle.ledger_season.proofs.season_verdict.Statement.{statement}
 use Rattle.ledger_season.proofs.season_verdict.Tie as tie
 
 returns : tie.Need-returns
 unfolding judge
-returns c = rw (c .if1 .taken)
+returns c =
+    let long : wrongLength (c .before .before .args .s .now) ≡ true = c .if1 .taken in
+    rw long
 
 are-sheets-requires : tie.Need-are-sheets-requires
 are-sheets-requires c κs =
