@@ -1,4 +1,5 @@
 // The call of a frame, by its op. Where the frame is bad its line has no words.
+use crate::seasons;
 use crate::sheets;
 use call_lines::Frame;
 use call_lines::line::Line;
@@ -9,6 +10,9 @@ pub const NEW_SHEET: u32 = 19;
 // The op that converts an old sheet. After it the sheet is as long as the frame says.
 pub const CONVERT: u32 = 31;
 
+// The op that reports on a season.
+const SEASON: u32 = 33;
+
 pub fn call(f: Frame, a: &[u8], b: &[u8], sheet: &mut [u8], n: usize) -> Line {
     if f.op < NEW_SHEET {
         return call_lines::on_bytes(f, a, b);
@@ -18,6 +22,9 @@ pub fn call(f: Frame, a: &[u8], b: &[u8], sheet: &mut [u8], n: usize) -> Line {
     }
     if f.op == CONVERT {
         return sheets::converted(a, sheet, f.z as usize);
+    }
+    if f.op == SEASON {
+        return seasons::season(a);
     }
     sheets::on_sheet(f, sheet, n)
 }
