@@ -44,7 +44,7 @@ pub const DESK: usize = WORKED_AT + ROW;
 
 pub const DESKS_AT: usize = ROWS_AT + ROW * ROWS;
 
-const SHEET: usize = DESKS_AT + DESK * DESKS;
+pub const SHEET: usize = DESKS_AT + DESK * DESKS;
 
 // Whether a slice is a right old sheet.
 pub fn is_old_sheet(s: &[u8]) -> bool

@@ -1,0 +1,118 @@
+// The sheet in a file.
+use ledger_convert::old;
+use ledger_sheet::Answer;
+use ledger_sheet::right;
+use libc::STDERR_FILENO;
+
+// What a file was: a sheet, as it stands or converted, or none.
+pub struct File {
+    pub is_sheet: bool,
+    pub converted: bool,
+}
+
+// How many bytes came; or a read failed.
+struct Got {
+    count: usize,
+    failed: bool,
+}
+
+fn no_sheet() -> File {
+    File {
+        is_sheet: false,
+        converted: false,
+    }
+}
+
+// Reads the file that argument i names into the slot, and says what is wrong with one that is no sheet.
+pub fn load(i: usize, slot: &mut [u8]) -> File {
+    let mut path = io::buffer();
+    let n = os::arg(i, &mut path);
+    if os::errno() != 0 {
+        os::fail(b"argument");
+        return no_sheet();
+    }
+    let fd = os::open_read(&path[..n]);
+    if fd < 0 {
+        os::fail(&path[..n]);
+        return no_sheet();
+    }
+    let file = load_open(fd, &path[..n], slot);
+    libc::close(fd);
+    file
+}
+
+fn load_open(fd: i32, name: &[u8], slot: &mut [u8]) -> File {
+    let mut room = io::large_buffer();
+    let got = read_all(fd, &mut room);
+    if got.failed {
+        os::fail(name);
+        return no_sheet();
+    }
+    let n = got.count;
+    let file = place(first(&room, n), slot);
+    if !file.is_sheet {
+        io::write_all(STDERR_FILENO, name);
+        io::write_all(STDERR_FILENO, b": not a ledger sheet (20)\n");
+    }
+    file
+}
+
+// Reads until the file ends, a read fails or the room is full: no sheet is as long.
+fn read_all(fd: i32, room: &mut [u8]) -> Got {
+    let mut have = 0;
+    while have < room.len() {
+        let part = &mut room[have..];
+        let count = libc::read(fd, part);
+        if count < 0 {
+            return Got {
+                count: have,
+                failed: true,
+            };
+        }
+        let got = io::count(count, part);
+        if got == 0 {
+            return Got {
+                count: have,
+                failed: false,
+            };
+        }
+        have += got;
+    }
+    Got {
+        count: have,
+        failed: false,
+    }
+}
+
+// The first n bytes of s, or all where it has fewer.
+pub fn first(s: &[u8], n: usize) -> &[u8] {
+    if s.len() < n {
+        return s;
+    }
+    &s[..n]
+}
+
+// Puts a sheet into the slot, converted where it has the length of an old one.
+fn place(file: &[u8], slot: &mut [u8]) -> File {
+    if file.len() == old::SHEET {
+        return File {
+            is_sheet: is_done(ledger_convert::convert(file, slot)),
+            converted: true,
+        };
+    }
+    if file.len() != slot.len() {
+        return no_sheet();
+    }
+    bytes::copy(file, slot);
+    File {
+        is_sheet: right::is_sheet(slot),
+        converted: false,
+    }
+}
+
+fn is_done(answer: Answer) -> bool {
+    match answer {
+        Answer::Done => true,
+        Answer::Refused(_) => false,
+    }
+}

@@ -1,0 +1,177 @@
+// The season's gap report as a table: the files that its arguments name are its ledger sheets, in their order. Old sheets are converted
+// first. The report is `ledger_season`'s; here are the calls of the system and the text.
+mod files;
+mod page;
+
+use files::first;
+use files::load;
+use ledger_season::MOST_SHEETS;
+use ledger_season::SeasonReport;
+use ledger_sheet::Answer;
+use ledger_sheet::SHEET;
+use libc::STDERR_FILENO;
+use libc::STDOUT_FILENO;
+use refusals::Refusal;
+ghost use Prim.Native.Nat.{_*_, _≤_};
+ghost use lib.ListN.{length};
+ghost use Rattle.ledger_sheet.specs.Sheet.{sheetSize};
+ghost use Rattle.ledger_season.specs.Report.{mostSheets};
+
+const MOST_BYTES: usize = MOST_SHEETS * SHEET;
+
+// What the arguments ask for.
+enum Asked {
+    Report,
+    Help,
+    Unknown,
+}
+
+// The sheets that are loaded: how many, which of them were converted, and whether all files were sheets.
+struct Loaded {
+    count: usize,
+    converted: [bool; MOST_SHEETS],
+    ok: bool,
+}
+
+// A word that begins with '-' and has more behind it is an option.
+fn asked_by(word: &[u8]) -> Asked {
+    if word.len() < 2 {
+        return Asked::Report;
+    }
+    if word[0] != b'-' {
+        return Asked::Report;
+    }
+    let help = b"--help";
+    if word.len() != help.len() {
+        return Asked::Unknown;
+    }
+    if octets::is_same(word, 0, help, 0, help.len()) {
+        return Asked::Help;
+    }
+    Asked::Unknown
+}
+
+fn asked_at(i: usize) -> Asked {
+    let mut word = io::buffer();
+    let n = os::arg(i, &mut word);
+    asked_by(&word[..n])
+}
+
+// The first option among the arguments.
+fn first_option(count: usize) -> Asked {
+    let mut i = 1;
+    while i < count {
+        let found = asked_at(i);
+        match found {
+            Asked::Report => {}
+            Asked::Help => {
+                return Asked::Help;
+            }
+            Asked::Unknown => {
+                return Asked::Unknown;
+            }
+        }
+        i += 1;
+    }
+    Asked::Report
+}
+
+fn tell_usage(fd: i32) {
+    io::write_all(fd, b"usage: season_report [SHEET ..]\n");
+    io::write_all(
+        fd,
+        b"The gap report of a season over its ledger sheets, 16 at most, files of 6968 bytes each: a line for each sheet, their total,\n",
+    );
+    io::write_all(
+        fd,
+        b"and the first gap. A sheet of the old layout, 6776 bytes, is converted first. No stream may stand in two of the sheets.\n",
+    );
+}
+
+// Loads the sheets that the arguments name, up to the first that is none.
+fn load_all(sheets: &mut [u8], files: usize) -> Loaded
+    requires { ⌜ mostSheets * sheetSize ≤ length (now sheets) ⌝ }
+    ensures { λ r. ⌜ r .count ≤ mostSheets ⌝ }
+{
+    let mut converted = [false; MOST_SHEETS];
+    for i in 0..MOST_SHEETS {
+        if files <= i {
+            return Loaded {
+                count: i,
+                converted,
+                ok: true,
+            };
+        }
+        let a = SHEET * i;
+        let e = a + SHEET;
+        let file = load(i + 1, &mut sheets[a..e]);
+        if !file.is_sheet {
+            return Loaded {
+                count: i,
+                converted,
+                ok: false,
+            };
+        }
+        converted[i] = file.converted;
+    }
+    Loaded {
+        count: MOST_SHEETS,
+        converted,
+        ok: true,
+    }
+}
+
+// The files are sheets, and not too many, so that a key in two of them is all that is left to refuse.
+fn tell_refusal(why: Refusal) {
+    match why {
+        Refusal::KeyInTwoSheets => {
+            io::write_all(
+                STDERR_FILENO,
+                b"a stream stands in two of the sheets (41)\n",
+            );
+        }
+        _ => {
+            io::write_all(STDERR_FILENO, b"no season\n");
+        }
+    }
+}
+
+fn tell(sheets: &[u8], converted: [bool; MOST_SHEETS], report: SeasonReport) {
+    let answer = report.answer;
+    match answer {
+        Answer::Done => page::write(sheets, converted, report),
+        Answer::Refused(why) => tell_refusal(why),
+    }
+}
+
+fn report(files: usize) {
+    let mut room = [0u8; MOST_BYTES];
+    let sheets: &mut [u8] = &mut room;
+    let loaded = load_all(sheets, files);
+    if !loaded.ok {
+        return;
+    }
+    let n = SHEET * loaded.count;
+    let converted = loaded.converted;
+    let report = ledger_season::season(first(sheets, n));
+    tell(sheets, converted, report);
+}
+
+fn main() {
+    let count = os::arg_count();
+    if count < 1 {
+        return;
+    }
+    let wanted = first_option(count);
+    match wanted {
+        Asked::Help => tell_usage(STDOUT_FILENO),
+        Asked::Unknown => tell_usage(STDERR_FILENO),
+        Asked::Report => {
+            if MOST_SHEETS < count - 1 {
+                io::write_all(STDERR_FILENO, b"more than 16 sheets (42)\n");
+                return;
+            }
+            report(count - 1);
+        }
+    }
+}
