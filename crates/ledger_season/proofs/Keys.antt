@@ -98,7 +98,7 @@ all-keyed s n keys found h = sym (append-nil (take found keys)) ∙ rw (no-book 
 -- ---- keys compared: a slot for each key
 
 abbrev slots : ℕ
-slots = 8179
+slots = 7699
 
 -- The slots of the first i keys are taken.
 pub record Covers (keys : List ℕ) (taken : List Bool) (i : ℕ) : Type 0 where

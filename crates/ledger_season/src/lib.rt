@@ -30,8 +30,8 @@ pub const MOST_SHEETS: usize = 16;
 // As many keys as stand in the sheets of a season.
 const MOST_KEYS: usize = MOST_SHEETS * ROWS;
 
-// A prime, many times the number of keys and no power of two more or less one: two keys seldom share a slot.
-const SLOTS: usize = 8179;
+// A prime, many times the number of keys, by which keys that differ in a few of their fields seldom share a slot.
+const SLOTS: usize = 7699;
 
 const MILLION: u64 = 1000000;
 
