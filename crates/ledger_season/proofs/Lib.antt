@@ -5,3 +5,4 @@ pub mod Judged
 pub mod Read
 pub mod Laws
 pub mod Identity
+pub mod Words

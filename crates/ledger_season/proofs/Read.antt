@@ -23,7 +23,7 @@ use Rattle.ledger_season.proofs.Sheets.{length-books}
 
 -- ---- the words, part by part
 
-append-parts : {A : Type 0} (a b c d : List A) → length a ≡ length c → a ++ b ≡ c ++ d → (a ≡ c) × (b ≡ d)
+pub append-parts : {A : Type 0} (a b c d : List A) → length a ≡ length c → a ++ b ≡ c ++ d → (a ≡ c) × (b ≡ d)
 append-parts [] b [] d l e = (refl, e)
 append-parts [] b (y ∷ c) d l e = absurd (omega arith)
 append-parts (x ∷ a) b [] d l e = absurd (omega arith)
@@ -33,7 +33,7 @@ append-parts (x ∷ a) b (y ∷ c) d l e =
     let k = append-parts a b c d (omega arith) rest in
     (cc (k .0), k .1)
 
-length-words : (cs : List SheetCounts) → length (sheetsWords cs) ≡ 3 * length cs
+pub length-words : (cs : List SheetCounts) → length (sheetsWords cs) ≡ 3 * length cs
 unfolding sheetsWords
 length-words [] = refl
 length-words (c ∷ cs) = omega (arith, length-words cs)
