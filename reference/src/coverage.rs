@@ -6,7 +6,7 @@ use std::io::{self, Write};
 use std::ops::RangeInclusive;
 
 /// The refusals that a random script of 2,000 calls has to meet; 17 is the listing program's alone. Those of samples (19, 34, 35, 37)
-/// and of traces and seasons (40 to 42) join when their calls stand in every script (`AWAITED` in random.rs).
+/// and of traces (40) join when their calls stand in every script (`AWAITED` in random.rs).
 const REFUSALS: &[RangeInclusive<u32>] = &[
     // Records and streams.
     1..=16,
@@ -15,6 +15,8 @@ const REFUSALS: &[RangeInclusive<u32>] = &[
     // The ledger.
     20..=32,
     36..=36,
+    // Seasons.
+    41..=42,
     // Mission settings.
     43..=47,
     // Medium band records.
