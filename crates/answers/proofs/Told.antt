@@ -1,0 +1,17 @@
+-- The numbers of a case of an answer are those of the answer that is that case. Assumes nothing.
+use Prim.Native.Nat.{ℕ}
+use borrow.Author.Tests.{ne-eqb}
+use mathlib.Core.List.{List, [], _∷_}
+use mathlib.Core.Path.{_≡_, subst⁻¹}
+use Rattle.refusals.specs.Table.{numberOf}
+use Rattle.refusals.specs.declared.Refusal.{Refusal}
+use Rattle.refusals.proofs.Laws.{number-positive}
+use Rattle.sfdu_headers.specs.Words.{Word}
+use Rattle.answers.specs.Numbers.{Numbers, plain, withNone}
+
+pub told : {A : Type 0} {a b : A} {numbers : List ℕ} (words : A → List Word) → a ≡ b → Numbers numbers (words b) → Numbers numbers (words a)
+told {numbers = ns} words e h = subst⁻¹ (λ x. Numbers ns (words x)) e h
+
+-- A refused answer has no none.
+pub refused-whole : {numbers : List ℕ} (size : ℕ) (why : Refusal) → Numbers numbers (plain (numberOf why ∷ [])) → Numbers numbers (withNone size (numberOf why ∷ []))
+refused-whole size why h = rw (ne-eqb (numberOf why) 0 (number-positive why)) h

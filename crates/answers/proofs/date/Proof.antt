@@ -1,0 +1,48 @@
+-- `answers::date` meets its contract. Assumes nothing.
+use Rattle.answers.proofs.Told.{told}
+use Rattle.answers.specs.Numbers.{plain, withNone}
+use Rattle.dates.specs.Answers.{wordsOf}
+use borrow.Author.Needs.{needs}
+use Rattle.answers.proofs.date.Statement.{statement}
+use Rattle.answers.proofs.date.Tie as tie
+
+enum-known-answer : tie.Need-enum-known-answer
+enum-known-answer c = search needs
+
+cast-numbers : tie.Need-cast-numbers
+cast-numbers c = search needs
+
+array-write-numbers : tie.Need-array-write-numbers
+array-write-numbers c = search needs
+
+cast-numbers-2 : tie.Need-cast-numbers-2
+cast-numbers-2 c = search needs
+
+array-write-numbers-2 : tie.Need-array-write-numbers-2
+array-write-numbers-2 c = search needs
+
+enum-known-answer-2 : tie.Need-enum-known-answer-2
+enum-known-answer-2 c = search needs
+
+refused-requires : tie.Need-refused-requires
+refused-requires c κs = search needs
+
+returns : tie.Need-returns
+returns c = told (λ a. plain (wordsOf a)) (c .before .answer .given .1) (search needs)
+
+returns-2 : tie.Need-returns-2
+returns-2 c = told (λ a. plain (wordsOf a)) (c .before .before .answer2 .given .1) (c .refused .ensures)
+
+pub date-spec : {M : Type 1} → statement M
+date-spec =
+    tie.close
+    (tie.spec
+    enum-known-answer
+    cast-numbers
+    array-write-numbers
+    cast-numbers-2
+    array-write-numbers-2
+    enum-known-answer-2
+    refused-requires
+    returns
+    returns-2)

@@ -1,0 +1,56 @@
+-- `answers::ledgers::gap` meets its contract. Assumes nothing.
+use Rattle.answers.proofs.Told.{told, refused-whole}
+use Rattle.answers.specs.Numbers.{plain, withNone}
+use Rattle.ledger_sheet.specs.Words.{answerWords, rowWords, reportAnswerWords, gapWords}
+use borrow.Author.Needs.{needs}
+use Rattle.answers.proofs.ledgers.gap.Statement.{statement}
+use Rattle.answers.proofs.ledgers.gap.Tie as tie
+
+enum-told : tie.Need-enum-told
+enum-told c = search needs
+
+gap-at-requires : tie.Need-gap-at-requires
+gap-at-requires c κs = search needs
+
+enum-known-answer : tie.Need-enum-known-answer
+enum-known-answer c = search needs
+
+cast-gap-at : tie.Need-cast-gap-at
+cast-gap-at c = search needs
+
+cast-gap-at-2 : tie.Need-cast-gap-at-2
+cast-gap-at-2 c = search needs
+
+gap-at-requires-2 : tie.Need-gap-at-requires-2
+gap-at-requires-2 c κs = search needs
+
+enum-known-answer-2 : tie.Need-enum-known-answer-2
+enum-known-answer-2 c = search needs
+
+refused-requires : tie.Need-refused-requires
+refused-requires c κs = search needs
+
+returns : tie.Need-returns
+returns c = told (λ a. withNone 3 (gapWords a)) (c .before .enum-told .given .1) (c .gap-at .ensures)
+
+returns-2 : tie.Need-returns-2
+returns-2 c = told (λ a. withNone 3 (gapWords a)) (c .before .before .answer .given .1) (c .gap-at2 .ensures)
+
+returns-3 : tie.Need-returns-3
+returns-3 c = told (λ a. withNone 3 (gapWords a)) (c .before .before .answer2 .given .1) (refused-whole 3 (c .before .before .answer2 .given .0 .0) (c .refused .ensures))
+
+pub gap-spec : {M : Type 1} → statement M
+gap-spec =
+    tie.close
+    (tie.spec
+    enum-told
+    gap-at-requires
+    enum-known-answer
+    cast-gap-at
+    cast-gap-at-2
+    gap-at-requires-2
+    enum-known-answer-2
+    refused-requires
+    returns
+    returns-2
+    returns-3)

@@ -1,0 +1,56 @@
+-- Document 02, Req 06: the numbers of an answer: "the refusal number, then the rest in the papers' order, Req 01's additions last (Px/No in
+-- two's complement, each number of a none all ones), then zeros". Assumes nothing.
+use Prim.Native.Nat.{ℕ, _-_, _^_, _<_}
+use mathlib.Core.Bool.{cond}
+use mathlib.Core.List.{List, [], _∷_, _++_, map}
+use mathlib.Core.Path.{_≡_}
+use lib.Dec.{eqb}
+use lib.IntN.{ℤ, pos, negsuc}
+use lib.ListN.{length, getD, replicate}
+use Rattle.octets.specs.Octets.{bytesOf}
+use Rattle.sfdu_headers.specs.Words.{Word, number, signed, none}
+
+-- "a lent slice of 256 bytes as 8-byte numbers"
+abbrev pub answerSize : ℕ
+answerSize = 256
+
+abbrev pub numberSize : ℕ
+numberSize = 8
+
+abbrev pub numberCount : ℕ
+numberCount = 32
+
+-- The number whose 64 bits are all ones.
+abbrev pub allOnes : ℕ
+allOnes = 18446744073709551615
+
+-- A number below zero, of which the first is -1, has the bits that the numbers from 0 on have, each turned.
+abbrev pub twosComplement : ℤ → ℕ
+twosComplement (pos n) = n
+twosComplement (negsuc n) = allOnes - n
+
+abbrev pub valueOf : Word → ℕ
+valueOf (number n) = n
+valueOf (signed z) = twosComplement z
+valueOf none = allOnes
+
+-- The numbers of an answer's words.
+abbrev pub numbersOf : List Word → List ℕ
+numbersOf words = map valueOf words ++ replicate (numberCount - length words) 0
+
+-- The numbers of an answer, big-endian, one behind the other.
+unfoldable pub answerBytes : List ℕ → List ℕ
+answerBytes [] = []
+answerBytes (n ∷ ns) = bytesOf numberSize n ++ answerBytes ns
+
+-- The words of an answer that no none stands in.
+abbrev pub plain : List ℕ → List Word
+plain words = map number words
+
+-- The words of an answer that, accepted, has so many numbers: those of a none, which the ledger's words leave out, stand last.
+abbrev pub withNone : ℕ → List ℕ → List Word
+withNone size words = plain words ++ cond (eqb (getD words 0 0) 0) (replicate (size - length words) none) []
+
+-- A list is the numbers of these words, and the first, which a call returns, is one of 32 bits.
+abbrev pub Numbers : List ℕ → List Word → Type 0
+Numbers numbers words = (numbers ≡ numbersOf words) × (getD numbers 0 0 < 2 ^ 32)

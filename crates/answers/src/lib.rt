@@ -1,0 +1,63 @@
+// The numbers of an answer, for whoever exports, prints or times it (document 02, Req 06): the refusal's number, or 0 and the answer's
+// numbers in the papers' order; zeros behind them.
+pub mod ledgers;
+pub mod places;
+pub mod records;
+
+use dates::DateAnswer;
+use keys::KeyAnswer;
+use refusals::Refusal;
+ghost use mathlib.Core.Path.{_≡_};
+ghost use mathlib.Core.List.{[], _∷_};
+ghost use Prim.Native.Nat.{_*_, _<_};
+ghost use lib.ListN.{length, getD};
+ghost use Rattle.refusals.specs.Table.{numberOf};
+ghost use Rattle.dates.specs.Answers as Dates;
+ghost use Rattle.keys.specs.Words as Keys;
+ghost use Rattle.answers.specs.Numbers.{answerSize, numbersOf, plain, answerBytes, Numbers};
+
+// How many numbers an answer has, and how many bytes each.
+pub const NUMBERS: usize = 32;
+
+pub const NUMBER: usize = 8;
+
+pub const ANSWER: usize = NUMBER * NUMBERS;
+
+// Each number of a none: all its bits are ones.
+pub const NONE: u64 = 18446744073709551615;
+
+// A refusal that no number goes with.
+pub fn refused(why: Refusal) -> [u64; NUMBERS]
+    ensures { λ r. ⌜ Numbers r (plain (numberOf why ∷ [])) ⌝ }
+{
+    let mut numbers = [0u64; NUMBERS];
+    numbers[places::REFUSAL] = refusals::number(why) as u64;
+    numbers
+}
+
+pub fn key(answer: KeyAnswer) -> [u64; NUMBERS]
+    ensures { λ r. ⌜ Numbers r (plain (Keys.wordsOf answer)) ⌝ }
+{
+    match answer {
+        KeyAnswer::Key(key) => {
+            let mut numbers = [0u64; NUMBERS];
+            numbers[places::KEY] = key;
+            numbers
+        }
+        KeyAnswer::Refused(why) => refused(why),
+    }
+}
+
+pub fn date(answer: DateAnswer) -> [u64; NUMBERS]
+    ensures { λ r. ⌜ Numbers r (plain (Dates.wordsOf answer)) ⌝ }
+{
+    match answer {
+        DateAnswer::Date { year, day } => {
+            let mut numbers = [0u64; NUMBERS];
+            numbers[places::DATE_YEAR] = year as u64;
+            numbers[places::DATE_DAY] = day as u64;
+            numbers
+        }
+        DateAnswer::Refused(why) => refused(why),
+    }
+}

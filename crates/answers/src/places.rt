@@ -1,0 +1,112 @@
+// Where each number of an answer stands: its index among the 32. The refusal's number, or 0, stands first.
+pub const REFUSAL: usize = 0;
+
+// Of a refusal of a record, the offset or the count that goes with it.
+pub const FAULT: usize = 1;
+
+// A key; a row that was enrolled or found.
+pub const KEY: usize = 1;
+
+pub const ROW: usize = 1;
+
+// A date.
+pub const DATE_YEAR: usize = 1;
+
+pub const DATE_DAY: usize = 2;
+
+// A row report.
+pub const TICKED: usize = 1;
+
+pub const MISSING: usize = 2;
+
+pub const LOWEST: usize = 3;
+
+// The first gap.
+pub const GAP_NUMBER: usize = 1;
+
+pub const GAP_ROW: usize = 2;
+
+// Read headers, of both kinds.
+pub const KIND: usize = 1;
+
+pub const SIZE: usize = 2;
+
+pub const MAJOR: usize = 3;
+
+pub const MINOR: usize = 4;
+
+pub const MISSION: usize = 5;
+
+pub const FORMAT: usize = 6;
+
+// Read headers, of a telemetry record.
+pub const TELEMETRY_SPACECRAFT: usize = 7;
+
+pub const TELEMETRY_SOURCE: usize = 8;
+
+pub const TELEMETRY_RECEIVED: usize = 9;
+
+pub const TELEMETRY_NUMBER: usize = 10;
+
+pub const TELEMETRY_UPLINK: usize = 11;
+
+pub const TELEMETRY_MODE: usize = 12;
+
+pub const TELEMETRY_STREAM: usize = 13;
+
+pub const TELEMETRY_EQUIPMENT: usize = 14;
+
+pub const TELEMETRY_KEY: usize = 15;
+
+pub const TELEMETRY_DAYS: usize = 16;
+
+pub const TELEMETRY_MILLISECONDS: usize = 17;
+
+pub const TELEMETRY_EXTENDED: usize = 18;
+
+// Read headers, of an RSR record.
+pub const RSR_SOFTWARE: usize = 7;
+
+pub const RSR_NUMBER: usize = 8;
+
+pub const RSR_COMPLEX: usize = 9;
+
+pub const RSR_STATION: usize = 10;
+
+pub const RSR_RECEIVER: usize = 11;
+
+pub const RSR_SUBCHANNEL: usize = 12;
+
+pub const RSR_SPACECRAFT: usize = 13;
+
+pub const RSR_PASS: usize = 14;
+
+pub const RSR_UPLINK: usize = 15;
+
+pub const RSR_DOWNLINK: usize = 16;
+
+pub const RSR_MODE: usize = 17;
+
+pub const RSR_UPLINK_STATION: usize = 18;
+
+pub const RSR_EXPECTED: usize = 19;
+
+pub const RSR_BANDWIDTH: usize = 20;
+
+pub const RSR_OVERRIDDEN: usize = 21;
+
+pub const RSR_ATTENUATION: usize = 22;
+
+pub const RSR_RMS: usize = 23;
+
+pub const RSR_PEAK: usize = 24;
+
+pub const RSR_YEAR: usize = 25;
+
+pub const RSR_DAY: usize = 26;
+
+pub const RSR_FREQUENCY: usize = 27;
+
+pub const RSR_KEY: usize = 28;
+
+pub const RSR_DAY_COUNT: usize = 29;

@@ -1,0 +1,44 @@
+-- `host::calendar::hernganow_date` meets its contract. Assumes nothing.
+use mathlib.Core.Path.{ap}
+use Rattle.host.proofs.Exports.{unwritten, written}
+use Rattle.answers.specs.Numbers.{plain}
+use borrow.Author.Needs.{needs}
+use Rattle.host.proofs.calendar.hernganow_date.Statement.{statement}
+use Rattle.host.proofs.calendar.hernganow_date.Tie as tie
+
+unwritten-requires : tie.Need-unwritten-requires
+unwritten-requires c κs = search needs
+
+returns : tie.Need-returns
+returns c = unwritten _ _ (c .before .if1 .taken) (c .unwritten .ensures)
+
+date-of-requires : tie.Need-date-of-requires
+date-of-requires c κs = search needs
+
+date-requires : tie.Need-date-requires
+date-requires c κs = search needs
+
+write-requires : tie.Need-write-requires
+write-requires c κs = search needs
+
+same-length : tie.Need-same-length
+same-length c = search needs
+
+returns-2 : tie.Need-returns-2
+returns-2 c =
+    let wrote = c .before .before in
+    let told = wrote .before in
+    let called = told .before .before in
+    written _ _ (called .before .if1 .left) (ap plain (called .date-of .ensures)) (told .date .ensures) (wrote .write .ensures)
+
+pub hernganow-date-spec : {M : Type 1} → statement M
+hernganow-date-spec =
+    tie.close
+    (tie.spec
+    unwritten-requires
+    returns
+    date-of-requires
+    date-requires
+    write-requires
+    same-length
+    returns-2)

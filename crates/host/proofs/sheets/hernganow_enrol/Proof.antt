@@ -1,0 +1,46 @@
+-- `host::sheets::hernganow_enrol` meets its contract. Assumes nothing.
+use Rattle.host.proofs.Exports.{unwritten-on, written-on}
+use borrow.Author.Needs.{needs}
+use Rattle.host.proofs.sheets.hernganow_enrol.Statement.{statement}
+use Rattle.host.proofs.sheets.hernganow_enrol.Tie as tie
+
+unwritten-requires : tie.Need-unwritten-requires
+unwritten-requires c κs = search needs
+
+returns : tie.Need-returns
+returns c = unwritten-on _ _ _ (c .before .if1 .taken) (c .unwritten .ensures)
+
+enrol-requires : tie.Need-enrol-requires
+enrol-requires c κs = search needs
+
+row-requires : tie.Need-row-requires
+row-requires c κs = search needs
+
+write-requires : tie.Need-write-requires
+write-requires c κs = search needs
+
+same-length : tie.Need-same-length
+same-length c = search needs
+
+same-length-2 : tie.Need-same-length-2
+same-length-2 c = search needs
+
+returns-2 : tie.Need-returns-2
+returns-2 c =
+    let wrote = c .before .before in
+    let told = wrote .before in
+    let called = told .before .before .before .before in
+    written-on _ _ _ (called .before .before .if1 .left) (called .enrol .ensures) (told .row .ensures) (wrote .write .ensures)
+
+pub hernganow-enrol-spec : {M : Type 1} → statement M
+hernganow-enrol-spec =
+    tie.close
+    (tie.spec
+    unwritten-requires
+    returns
+    enrol-requires
+    row-requires
+    write-requires
+    same-length
+    same-length-2
+    returns-2)

@@ -1,0 +1,46 @@
+-- `host::sheets::hernganow_first_gap` meets its contract. Assumes nothing.
+use Prim.Native.Nat.{ℕ}
+use mathlib.Core.List.{List}
+use mathlib.Core.Path.{ap}
+use Rattle.host.proofs.Exports.{unwritten, written}
+use Rattle.answers.specs.Numbers.{withNone}
+use borrow.Author.Needs.{needs}
+use Rattle.host.proofs.sheets.hernganow_first_gap.Statement.{statement}
+use Rattle.host.proofs.sheets.hernganow_first_gap.Tie as tie
+
+unwritten-requires : tie.Need-unwritten-requires
+unwritten-requires c κs = search needs
+
+returns : tie.Need-returns
+returns c = unwritten _ _ (c .before .if1 .taken) (c .unwritten .ensures)
+
+first-gap-requires : tie.Need-first-gap-requires
+first-gap-requires c κs = search needs
+
+gap-requires : tie.Need-gap-requires
+gap-requires c κs = search needs
+
+write-requires : tie.Need-write-requires
+write-requires c κs = search needs
+
+same-length : tie.Need-same-length
+same-length c = search needs
+
+returns-2 : tie.Need-returns-2
+returns-2 c =
+    let wrote = c .before .before in
+    let told = wrote .before in
+    let called = told .before .before in
+    written _ _ (called .before .if1 .left) (ap (λ (o : List ℕ × List ℕ). withNone 3 (o .0)) (called .first-gap .ensures)) (told .gap .ensures) (wrote .write .ensures)
+
+pub hernganow-first-gap-spec : {M : Type 1} → statement M
+hernganow-first-gap-spec =
+    tie.close
+    (tie.spec
+    unwritten-requires
+    returns
+    first-gap-requires
+    gap-requires
+    write-requires
+    same-length
+    returns-2)

@@ -1,0 +1,44 @@
+-- `host::stream_keys::hernganow_rsr_key` meets its contract. Assumes nothing.
+use mathlib.Core.Path.{ap}
+use Rattle.host.proofs.Exports.{unwritten, written}
+use Rattle.answers.specs.Numbers.{plain}
+use borrow.Author.Needs.{needs}
+use Rattle.host.proofs.stream_keys.hernganow_rsr_key.Statement.{statement}
+use Rattle.host.proofs.stream_keys.hernganow_rsr_key.Tie as tie
+
+unwritten-requires : tie.Need-unwritten-requires
+unwritten-requires c κs = search needs
+
+returns : tie.Need-returns
+returns c = unwritten _ _ (c .before .if1 .taken) (c .unwritten .ensures)
+
+rsr-key-requires : tie.Need-rsr-key-requires
+rsr-key-requires c κs = search needs
+
+key-requires : tie.Need-key-requires
+key-requires c κs = search needs
+
+write-requires : tie.Need-write-requires
+write-requires c κs = search needs
+
+same-length : tie.Need-same-length
+same-length c = search needs
+
+returns-2 : tie.Need-returns-2
+returns-2 c =
+    let wrote = c .before .before in
+    let told = wrote .before in
+    let called = told .before .before in
+    written _ _ (called .before .if1 .left) (ap plain (called .rsr-key .ensures)) (told .key .ensures) (wrote .write .ensures)
+
+pub hernganow-rsr-key-spec : {M : Type 1} → statement M
+hernganow-rsr-key-spec =
+    tie.close
+    (tie.spec
+    unwritten-requires
+    returns
+    rsr-key-requires
+    key-requires
+    write-requires
+    same-length
+    returns-2)

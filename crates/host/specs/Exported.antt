@@ -1,0 +1,29 @@
+-- Document 02, Req 06: what an exported call returns and leaves, from the words that the library's call promises. "It returns the refusal
+-- number or 0 and writes its answer, a refusal's too". "38, judged first with nothing written, when that slice isn't 256 bytes."
+-- Assumes nothing.
+use Prim.Native.Nat.{ℕ}
+use mathlib.Core.Bool.{cond}
+use mathlib.Core.List.{List}
+use lib.Dec.{eqb}
+use lib.ListN.{length, getD}
+use Rattle.refusals.specs.Table.{numberOf}
+use Rattle.refusals.specs.declared.Refusal.the-variants.{AnswerLength}
+use Rattle.sfdu_headers.specs.Words.{Word}
+use Rattle.answers.specs.Numbers.{answerSize, numbersOf, answerBytes, plain}
+
+-- The number that is returned: the first of the answer's.
+abbrev pub returned : List Word → ℕ
+returned words = getD (numbersOf words) 0 0
+
+-- A call that changes nothing: what is returned, and the answer's slice.
+unfoldable pub exported : (words : List Word) (answer : List ℕ) → ℕ × List ℕ
+exported words answer = cond (eqb (length answer) answerSize) (returned words, answerBytes (numbersOf words)) (numberOf AnswerLength, answer)
+
+-- A call that promises words and a slice as it is left: what is returned, the answer's slice, and that slice.
+unfoldable pub exportedOn : (outcome : List Word × List ℕ) (answer lent : List ℕ) → ℕ × List ℕ × List ℕ
+exportedOn outcome answer lent =
+    cond (eqb (length answer) answerSize) (returned (outcome .0), answerBytes (numbersOf (outcome .0)), outcome .1) (numberOf AnswerLength, answer, lent)
+
+-- The words of the ledger's calls on a sheet, none of which is a none.
+abbrev pub told : List ℕ × List ℕ → List Word × List ℕ
+told outcome = (plain (outcome .0), outcome .1)

@@ -1,0 +1,20 @@
+// Dates.
+use crate::write::unwritten;
+use crate::write::write;
+use answers::ANSWER;
+ghost use mathlib.Core.Path.{_≡_};
+ghost use Rattle.dates.specs.Calendar.{dateOf};
+ghost use Rattle.answers.specs.Numbers.{plain};
+ghost use Rattle.host.specs.Exported.{exported};
+
+// The year and the day of a day count.
+#[no_mangle]
+pub extern "C" fn hernganow_date(count: u32, answer: &mut [u8]) -> u32
+    ensures { λ r. ⌜ (r, now (answer .exit)) ≡ exported (plain (dateOf count)) (now (answer .entry)) ⌝ }
+{
+    if answer.len() != ANSWER {
+        return unwritten();
+    }
+    let found = dates::date_of(count);
+    write(answer, answers::date(found))
+}

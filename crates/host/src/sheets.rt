@@ -1,0 +1,160 @@
+// The ledger sheet.
+use crate::write::unwritten;
+use crate::write::write;
+use answers::ANSWER;
+use answers::ledgers;
+ghost use mathlib.Core.Path.{_≡_};
+ghost use Rattle.ledger_model.specs.Step.{Enrol, Ask, Find, RowReport, FirstGap, Open, Tick, Untick, Save, Drop, Strike};
+ghost use Rattle.ledger_layout.specs.Layout.{call, onSheet, freshOn};
+ghost use Rattle.ledger_convert.specs.Convert.{convertOn};
+ghost use Rattle.answers.specs.Numbers.{plain, withNone};
+ghost use Rattle.host.specs.Exported.{exported, exportedOn, told};
+
+// Makes the slice a fresh sheet.
+#[no_mangle]
+pub extern "C" fn hernganow_fresh(sheet: &mut [u8], answer: &mut [u8]) -> u32
+    ensures { λ r. ⌜ (r, now (answer .exit), now (sheet .exit)) ≡ exportedOn (told (freshOn (now (sheet .entry)))) (now (answer .entry)) (now (sheet .entry)) ⌝ }
+{
+    if answer.len() != ANSWER {
+        return unwritten();
+    }
+    let found = ledger::fresh(sheet);
+    write(answer, ledgers::answer(found))
+}
+
+// Enrols a stream.
+#[no_mangle]
+pub extern "C" fn hernganow_enrol(sheet: &mut [u8], key: u64, first: u32, answer: &mut [u8]) -> u32
+    ensures { λ r. ⌜ (r, now (answer .exit), now (sheet .exit)) ≡ exportedOn (told (onSheet (call (Enrol key first)) (now (sheet .entry)))) (now (answer .entry)) (now (sheet .entry)) ⌝ }
+{
+    if answer.len() != ANSWER {
+        return unwritten();
+    }
+    let found = ledger::enrol(sheet, key, first);
+    write(answer, ledgers::row(found))
+}
+
+// Finds a stream.
+#[no_mangle]
+pub extern "C" fn hernganow_find(sheet: &[u8], key: u64, answer: &mut [u8]) -> u32
+    ensures { λ r. ⌜ (r, now (answer .exit)) ≡ exported (plain (onSheet (call (Ask (Find key))) (now (sheet .entry)) .0)) (now (answer .entry)) ⌝ }
+{
+    if answer.len() != ANSWER {
+        return unwritten();
+    }
+    let found = ledger::find(sheet, key);
+    write(answer, ledgers::row(found))
+}
+
+// Opens a row at a desk.
+#[no_mangle]
+pub extern "C" fn hernganow_open(sheet: &mut [u8], desk: u32, row: u32, answer: &mut [u8]) -> u32
+    ensures { λ r. ⌜ (r, now (answer .exit), now (sheet .exit)) ≡ exportedOn (told (onSheet (call (Open desk row)) (now (sheet .entry)))) (now (answer .entry)) (now (sheet .entry)) ⌝ }
+{
+    if answer.len() != ANSWER {
+        return unwritten();
+    }
+    let found = ledger::open(sheet, desk, row);
+    write(answer, ledgers::answer(found))
+}
+
+// Ticks a number.
+#[no_mangle]
+pub extern "C" fn hernganow_tick(sheet: &mut [u8], desk: u32, number: u32, answer: &mut [u8]) -> u32
+    ensures { λ r. ⌜ (r, now (answer .exit), now (sheet .exit)) ≡ exportedOn (told (onSheet (call (Tick desk number)) (now (sheet .entry)))) (now (answer .entry)) (now (sheet .entry)) ⌝ }
+{
+    if answer.len() != ANSWER {
+        return unwritten();
+    }
+    let found = ledger::tick(sheet, desk, number);
+    write(answer, ledgers::answer(found))
+}
+
+// Unticks a number.
+#[no_mangle]
+pub extern "C" fn hernganow_untick(
+    sheet: &mut [u8],
+    desk: u32,
+    number: u32,
+    answer: &mut [u8],
+) -> u32
+    ensures { λ r. ⌜ (r, now (answer .exit), now (sheet .exit)) ≡ exportedOn (told (onSheet (call (Untick desk number)) (now (sheet .entry)))) (now (answer .entry)) (now (sheet .entry)) ⌝ }
+{
+    if answer.len() != ANSWER {
+        return unwritten();
+    }
+    let found = ledger::untick(sheet, desk, number);
+    write(answer, ledgers::answer(found))
+}
+
+// Saves what a desk has worked on.
+#[no_mangle]
+pub extern "C" fn hernganow_save(sheet: &mut [u8], desk: u32, answer: &mut [u8]) -> u32
+    ensures { λ r. ⌜ (r, now (answer .exit), now (sheet .exit)) ≡ exportedOn (told (onSheet (call (Save desk)) (now (sheet .entry)))) (now (answer .entry)) (now (sheet .entry)) ⌝ }
+{
+    if answer.len() != ANSWER {
+        return unwritten();
+    }
+    let found = ledger::save(sheet, desk);
+    write(answer, ledgers::answer(found))
+}
+
+// Drops what a desk has open.
+#[no_mangle]
+pub extern "C" fn hernganow_drop(sheet: &mut [u8], desk: u32, answer: &mut [u8]) -> u32
+    ensures { λ r. ⌜ (r, now (answer .exit), now (sheet .exit)) ≡ exportedOn (told (onSheet (call (Drop desk)) (now (sheet .entry)))) (now (answer .entry)) (now (sheet .entry)) ⌝ }
+{
+    if answer.len() != ANSWER {
+        return unwritten();
+    }
+    let found = ledger::drop(sheet, desk);
+    write(answer, ledgers::answer(found))
+}
+
+// Strikes a row.
+#[no_mangle]
+pub extern "C" fn hernganow_strike(sheet: &mut [u8], row: u32, answer: &mut [u8]) -> u32
+    ensures { λ r. ⌜ (r, now (answer .exit), now (sheet .exit)) ≡ exportedOn (told (onSheet (call (Strike row)) (now (sheet .entry)))) (now (answer .entry)) (now (sheet .entry)) ⌝ }
+{
+    if answer.len() != ANSWER {
+        return unwritten();
+    }
+    let found = ledger::strike(sheet, row);
+    write(answer, ledgers::answer(found))
+}
+
+// Reports on a row: ticked, missing, and the lowest missing number or none.
+#[no_mangle]
+pub extern "C" fn hernganow_row_report(sheet: &[u8], row: u32, answer: &mut [u8]) -> u32
+    ensures { λ r. ⌜ (r, now (answer .exit)) ≡ exported (withNone 4 (onSheet (call (Ask (RowReport row))) (now (sheet .entry)) .0)) (now (answer .entry)) ⌝ }
+{
+    if answer.len() != ANSWER {
+        return unwritten();
+    }
+    let found = ledger::row_report(sheet, row);
+    write(answer, ledgers::report(found))
+}
+
+// Finds the first gap: the number and its row, or none.
+#[no_mangle]
+pub extern "C" fn hernganow_first_gap(sheet: &[u8], answer: &mut [u8]) -> u32
+    ensures { λ r. ⌜ (r, now (answer .exit)) ≡ exported (withNone 3 (onSheet (call (Ask FirstGap)) (now (sheet .entry)) .0)) (now (answer .entry)) ⌝ }
+{
+    if answer.len() != ANSWER {
+        return unwritten();
+    }
+    let found = ledger::first_gap(sheet);
+    write(answer, ledgers::gap(found))
+}
+
+// Makes a new sheet of an old one.
+#[no_mangle]
+pub extern "C" fn hernganow_convert(old: &[u8], new: &mut [u8], answer: &mut [u8]) -> u32
+    ensures { λ r. ⌜ (r, now (answer .exit), now (new .exit)) ≡ exportedOn (told (convertOn (now (old .entry)) (now (new .entry)))) (now (answer .entry)) (now (new .entry)) ⌝ }
+{
+    if answer.len() != ANSWER {
+        return unwritten();
+    }
+    let found = ledger_convert::convert(old, new);
+    write(answer, ledgers::answer(found))
+}

@@ -1,0 +1,44 @@
+// Stream keys.
+use crate::write::unwritten;
+use crate::write::write;
+use answers::ANSWER;
+ghost use mathlib.Core.Path.{_≡_};
+ghost use Rattle.keys.specs.Key.{telemetryKeyCall, rsrKeyCall};
+ghost use Rattle.answers.specs.Numbers.{plain};
+ghost use Rattle.host.specs.Exported.{exported};
+
+// The key of a telemetry stream.
+#[no_mangle]
+pub extern "C" fn hernganow_telemetry_key(
+    spacecraft: u32,
+    source: u32,
+    equipment: u32,
+    stream: u32,
+    answer: &mut [u8],
+) -> u32
+    ensures { λ r. ⌜ (r, now (answer .exit)) ≡ exported (plain (telemetryKeyCall spacecraft source equipment stream)) (now (answer .entry)) ⌝ }
+{
+    if answer.len() != ANSWER {
+        return unwritten();
+    }
+    let found = keys::telemetry_key(spacecraft, source, equipment, stream);
+    write(answer, answers::key(found))
+}
+
+// The key of an RSR stream.
+#[no_mangle]
+pub extern "C" fn hernganow_rsr_key(
+    spacecraft: u32,
+    station: u32,
+    receiver: u32,
+    subchannel: u32,
+    answer: &mut [u8],
+) -> u32
+    ensures { λ r. ⌜ (r, now (answer .exit)) ≡ exported (plain (rsrKeyCall spacecraft station receiver subchannel)) (now (answer .entry)) ⌝ }
+{
+    if answer.len() != ANSWER {
+        return unwritten();
+    }
+    let found = keys::rsr_key(spacecraft, station, receiver, subchannel);
+    write(answer, answers::key(found))
+}
