@@ -147,14 +147,14 @@ pub extern "C" fn hernganow_first_gap(sheet: &[u8], answer: &mut [u8]) -> u32
     write(answer, ledgers::gap(found))
 }
 
-// Makes a new sheet of an old one.
+// Makes the slice a new sheet of an old one.
 #[no_mangle]
-pub extern "C" fn hernganow_convert(old: &[u8], new: &mut [u8], answer: &mut [u8]) -> u32
-    ensures { λ r. ⌜ (r, now (answer .exit), now (new .exit)) ≡ exportedOn (told (convertOn (now (old .entry)) (now (new .entry)))) (now (answer .entry)) (now (new .entry)) ⌝ }
+pub extern "C" fn hernganow_convert(old: &[u8], sheet: &mut [u8], answer: &mut [u8]) -> u32
+    ensures { λ r. ⌜ (r, now (answer .exit), now (sheet .exit)) ≡ exportedOn (told (convertOn (now (old .entry)) (now (sheet .entry)))) (now (answer .entry)) (now (sheet .entry)) ⌝ }
 {
     if answer.len() != ANSWER {
         return unwritten();
     }
-    let found = ledger_convert::convert(old, new);
+    let found = ledger_convert::convert(old, sheet);
     write(answer, ledgers::answer(found))
 }

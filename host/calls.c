@@ -1,0 +1,219 @@
+/* Makes the calls of a call script (docs/call-script.md) that are exported, and holds each answer, all 256 bytes, and the sheet to the
+ * lines that the reference writes for the script. Each call is made with answers' slices of other lengths first, which must do nothing. */
+#include "../include/hernganow.h"
+
+#include <inttypes.h>
+#include <stdio.h>
+#include <stdlib.h>
+#include <string.h>
+
+#define FRAME 40
+#define MOST_SHEET 8192
+#define FILLED 165
+
+enum op {
+    READ_HEADERS = 4,
+    TELEMETRY_KEY = 6,
+    RSR_KEY = 7,
+    DATE = 12,
+    LOAD = 19,
+    FRESH = 20,
+    ENROL,
+    FIND,
+    OPEN,
+    TICK,
+    UNTICK,
+    SAVE,
+    DROP,
+    ROW_REPORT,
+    FIRST_GAP,
+    STRIKE,
+    CONVERT
+};
+
+struct frame {
+    uint32_t op, x, y, z, w;
+    uint64_t key;
+    const uint8_t *a;
+    size_t a_length;
+};
+
+/* The sheet that the script's calls are made on, and how many bytes of it are lent. */
+static uint8_t sheet[MOST_SHEET];
+static size_t sheet_length = HERNGANOW_SHEET;
+
+static uint64_t big_endian(const uint8_t *bytes, size_t length)
+{
+    uint64_t number = 0;
+    for (size_t i = 0; i < length; i++)
+        number = number << 8 | bytes[i];
+    return number;
+}
+
+static uint8_t *read_file(const char *path, size_t *length)
+{
+    FILE *file = fopen(path, "rb");
+    uint8_t *bytes = NULL;
+    if (file && !fseek(file, 0, SEEK_END)) {
+        *length = (size_t)ftell(file);
+        rewind(file);
+        bytes = malloc(*length + 1);
+    }
+    if (!bytes || fread(bytes, 1, *length, file) != *length) {
+        perror(path);
+        exit(2);
+    }
+    fclose(file);
+    bytes[*length] = 0;
+    return bytes;
+}
+
+static uint32_t crc(const uint8_t *bytes, size_t length)
+{
+    static uint32_t table[256];
+    if (!table[1])
+        for (uint32_t i = 0; i < 256; i++) {
+            uint32_t left = i;
+            for (int bit = 0; bit < 8; bit++)
+                left = left >> 1 ^ (left & 1 ? 0xedb88320u : 0);
+            table[i] = left;
+        }
+    uint32_t sum = UINT32_MAX;
+    for (size_t i = 0; i < length; i++)
+        sum = sum >> 8 ^ table[(sum ^ bytes[i]) & 255];
+    return ~sum;
+}
+
+static int is_exported(uint32_t op)
+{
+    return op == READ_HEADERS || op == TELEMETRY_KEY || op == RSR_KEY || op == DATE || (op >= LOAD && op <= CONVERT);
+}
+
+static uint32_t make(const struct frame *f, uint8_t *answer, size_t length)
+{
+    switch (f->op) {
+    case READ_HEADERS: return hernganow_read_headers(f->a, f->a_length, f->x, answer, length);
+    case TELEMETRY_KEY: return hernganow_telemetry_key(f->x, f->y, f->z, f->w, answer, length);
+    case RSR_KEY: return hernganow_rsr_key(f->x, f->y, f->z, f->w, answer, length);
+    case DATE: return hernganow_date(f->x, answer, length);
+    case FRESH: return hernganow_fresh(sheet, sheet_length, answer, length);
+    case ENROL: return hernganow_enrol(sheet, sheet_length, f->key, f->x, answer, length);
+    case FIND: return hernganow_find(sheet, sheet_length, f->key, answer, length);
+    case OPEN: return hernganow_open(sheet, sheet_length, f->x, f->y, answer, length);
+    case TICK: return hernganow_tick(sheet, sheet_length, f->x, f->y, answer, length);
+    case UNTICK: return hernganow_untick(sheet, sheet_length, f->x, f->y, answer, length);
+    case SAVE: return hernganow_save(sheet, sheet_length, f->x, answer, length);
+    case DROP: return hernganow_drop(sheet, sheet_length, f->x, answer, length);
+    case ROW_REPORT: return hernganow_row_report(sheet, sheet_length, f->x, answer, length);
+    case FIRST_GAP: return hernganow_first_gap(sheet, sheet_length, answer, length);
+    case STRIKE: return hernganow_strike(sheet, sheet_length, f->x, answer, length);
+    default: return hernganow_convert(f->a, f->a_length, sheet, sheet_length, answer, length);
+    }
+}
+
+/* What a frame does to the sheet before its call: op 19 is no call, and op 31 writes into a slice of its own. */
+static void prepare(const struct frame *f)
+{
+    if (f->op == LOAD) {
+        sheet_length = f->a_length;
+        memcpy(sheet, f->a, sheet_length);
+    } else if (f->op == CONVERT) {
+        sheet_length = f->z;
+        memset(sheet, FILLED, sheet_length);
+    }
+}
+
+/* With a slice of another length a call answers 38 and does nothing. */
+static int does_nothing(const struct frame *f)
+{
+    static const size_t lengths[] = {0, HERNGANOW_ANSWER - 1, HERNGANOW_ANSWER + 1};
+    static uint8_t before[MOST_SHEET];
+    memcpy(before, sheet, sizeof sheet);
+    for (size_t i = 0; i < sizeof lengths / sizeof lengths[0]; i++) {
+        uint8_t answer[HERNGANOW_ANSWER + 8], filled[sizeof answer];
+        memset(answer, FILLED, sizeof answer);
+        memset(filled, FILLED, sizeof filled);
+        if (make(f, answer, lengths[i]) != HERNGANOW_REFUSED_ANSWER_LENGTH)
+            return 0;
+        if (memcmp(answer, filled, sizeof answer) || memcmp(sheet, before, sizeof sheet))
+            return 0;
+    }
+    return 1;
+}
+
+/* The answer that a line's words tell, from the reference's words alone; on a sheet the line's last word is the crc of the sheet. */
+static void told(char *line, const struct frame *f, uint8_t answer[HERNGANOW_ANSWER], uint64_t *sum)
+{
+    size_t count = 0;
+    uint64_t numbers[HERNGANOW_ANSWER] = {0};
+    for (char *word = strtok(line, " "); word; word = strtok(NULL, " ")) {
+        int none = !strcmp(word, "none");
+        /* A first gap that is none is one word, and two numbers. */
+        if (none && f->op == FIRST_GAP)
+            numbers[count++] = HERNGANOW_NONE;
+        numbers[count++] = none ? HERNGANOW_NONE : word[0] == '-' ? -strtoull(word + 1, NULL, 10) : strtoull(word, NULL, 10);
+    }
+    if (f->op >= LOAD) {
+        *sum = numbers[--count];
+        numbers[count] = 0;
+    }
+    for (size_t i = 0; i < HERNGANOW_ANSWER; i++)
+        answer[i] = (uint8_t)(numbers[i / 8] >> (56 - 8 * (i % 8)));
+}
+
+/* Whether the call of a frame answers as its line tells. */
+static int is_right(const struct frame *f, char *line)
+{
+    uint8_t wanted[HERNGANOW_ANSWER], answer[HERNGANOW_ANSWER + 8], behind[8];
+    uint64_t sum = 0;
+    prepare(f);
+    told(line, f, wanted, &sum);
+    if (f->op != LOAD) {
+        memset(answer, FILLED, sizeof answer);
+        memset(behind, FILLED, sizeof behind);
+        if (!does_nothing(f))
+            return 0;
+        if (make(f, answer, HERNGANOW_ANSWER) != big_endian(wanted, 8))
+            return 0;
+        if (memcmp(answer, wanted, sizeof wanted) || memcmp(answer + HERNGANOW_ANSWER, behind, sizeof behind))
+            return 0;
+    }
+    return f->op < LOAD || crc(sheet, sheet_length) == sum;
+}
+
+int main(int count, char **words)
+{
+    if (count != 3) {
+        fputs("usage: calls SCRIPT LINES\nHolds the exported calls of a call script to the lines that the reference writes for it.\n", stderr);
+        return 2;
+    }
+    size_t length, lines_length, compared = 0, number = 0;
+    uint8_t *script = read_file(words[1], &length);
+    char *line = (char *)read_file(words[2], &lines_length), *lines = line;
+    for (size_t at = 0; at + FRAME <= length; number++) {
+        const uint8_t *head = script + at;
+        struct frame f = {
+            (uint32_t)big_endian(head, 4), (uint32_t)big_endian(head + 4, 4), (uint32_t)big_endian(head + 8, 4),
+            (uint32_t)big_endian(head + 12, 4), (uint32_t)big_endian(head + 16, 4), big_endian(head + 24, 8),
+            head + FRAME, (size_t)big_endian(head + 32, 4)};
+        at += FRAME + f.a_length + (size_t)big_endian(head + 36, 4);
+        char *end = strchr(line, '\n');
+        if (!end || at > length) {
+            fprintf(stderr, "%s: ends before frame %zu of %s\n", words[end ? 1 : 2], number, words[1]);
+            return 1;
+        }
+        *end = 0;
+        if (is_exported(f.op)) {
+            if (!is_right(&f, line)) {
+                fprintf(stderr, "%s: the call of frame %zu, op %" PRIu32 ", does not answer as its line tells\n", words[1], number, f.op);
+                return 1;
+            }
+            compared += f.op != LOAD;
+        }
+        line = end + 1;
+    }
+    printf("%zu calls compared\n", compared);
+    free(script);
+    free(lines);
+    return 0;
+}

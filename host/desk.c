@@ -1,0 +1,192 @@
+/* A desk's day: the records of a stream are ticked off in the ledger, one visit for each. Other desks may work on the same sheet. */
+#define _XOPEN_SOURCE 700
+#include "book.h"
+
+#include <inttypes.h>
+#include <stdio.h>
+#include <stdlib.h>
+#include <string.h>
+
+enum { TELEMETRY = 1, RSR = 2 };
+
+/* Days from 1 January 1900 to 1 January 1958, from which a telemetry record's received time counts. */
+#define DAYS_TO_1958 21184
+
+struct record {
+    size_t length;
+    uint64_t key;
+    uint32_t number;
+    uint32_t days; /* from 1 January 1900 */
+};
+
+static const char usage[] =
+    "usage: desk SHEET DESK STREAM\n"
+    "Ticks the records of a stream file off in the ledger sheet SHEET at desk DESK (0 to 7): a line for each record, with its key,\n"
+    "number, date, what was done and how many saves were stale, and at the end where the stream stopped and the first gap. A SHEET that is not there is begun.\n";
+
+static uint8_t answer[HERNGANOW_ANSWER];
+
+/* The stream file, whole. */
+static uint8_t *read_file(const char *path, size_t *length)
+{
+    FILE *file = fopen(path, "rb");
+    if (!file)
+        fail("opening", path);
+    uint8_t *bytes = NULL;
+    size_t room = 0;
+    *length = 0;
+    do {
+        if (*length == room && !(bytes = realloc(bytes, room = 2 * room + 65536)))
+            fail("reading", path);
+        *length += fread(bytes + *length, 1, room - *length, file);
+    } while (!feof(file) && !ferror(file));
+    if (ferror(file))
+        fail("reading", path);
+    fclose(file);
+    return bytes;
+}
+
+/* Reads the record that the bytes begin with, of either kind; returns 0 or the refusal. */
+static uint32_t read_record(const uint8_t *bytes, size_t length, struct record *record)
+{
+    uint32_t kind = TELEMETRY;
+    uint32_t refused = hernganow_read_headers(bytes, length, kind, answer, sizeof answer);
+    if (refused == HERNGANOW_REFUSED_WRONG_KIND) {
+        kind = RSR;
+        refused = hernganow_read_headers(bytes, length, kind, answer, sizeof answer);
+    }
+    if (refused)
+        return refused;
+    record->length = (size_t)hernganow_number(answer, HERNGANOW_AT_SIZE);
+    if (kind == TELEMETRY) {
+        record->key = hernganow_number(answer, HERNGANOW_AT_TELEMETRY_KEY);
+        record->number = (uint32_t)hernganow_number(answer, HERNGANOW_AT_TELEMETRY_NUMBER);
+        record->days = DAYS_TO_1958 + (uint32_t)hernganow_number(answer, HERNGANOW_AT_TELEMETRY_DAYS);
+    } else {
+        record->key = hernganow_number(answer, HERNGANOW_AT_RSR_KEY);
+        record->number = (uint32_t)hernganow_number(answer, HERNGANOW_AT_RSR_NUMBER);
+        record->days = (uint32_t)hernganow_number(answer, HERNGANOW_AT_RSR_DAY_COUNT);
+    }
+    return 0;
+}
+
+/* Ends what was begun on the book, which is kept where the last call was accepted. */
+static uint32_t settle(struct book *book, uint32_t refused)
+{
+    /* A stale save has closed the desk, which the file has to show. */
+    if (refused && refused != HERNGANOW_REFUSED_STALE)
+        book_abandon(book);
+    else
+        book_commit(book);
+    return refused;
+}
+
+/* The row of the record's stream, which is enrolled from this number on where it is not there. */
+static uint32_t enrolled(struct book *book, const struct record *record, uint32_t *row)
+{
+    book_begin(book);
+    uint32_t refused = hernganow_find(book->sheet, sizeof book->sheet, record->key, book->answer, sizeof book->answer);
+    if (refused == HERNGANOW_REFUSED_NO_ROW)
+        refused = settle(book, hernganow_enrol(book->sheet, sizeof book->sheet, record->key, record->number, book->answer, sizeof book->answer));
+    else
+        book_abandon(book);
+    *row = (uint32_t)book_number(book, HERNGANOW_AT_ROW);
+    return refused;
+}
+
+/* Opens the row and ticks the number. Where the tick is refused nothing is kept, so that the desk stays closed. */
+static uint32_t ticked(struct book *book, uint32_t desk, uint32_t row, uint32_t number)
+{
+    book_begin(book);
+    uint32_t refused = hernganow_open(book->sheet, sizeof book->sheet, desk, row, book->answer, sizeof book->answer);
+    if (!refused)
+        refused = hernganow_tick(book->sheet, sizeof book->sheet, desk, number, book->answer, sizeof book->answer);
+    return settle(book, refused);
+}
+
+static uint32_t saved(struct book *book, uint32_t desk)
+{
+    book_begin(book);
+    return settle(book, hernganow_save(book->sheet, sizeof book->sheet, desk, book->answer, sizeof book->answer));
+}
+
+/* A visit. Between the tick and the save others may save the row: then this save is stale, and the visit is made again. */
+static uint32_t visit(struct book *book, uint32_t desk, const struct record *record, uint32_t *stale)
+{
+    uint32_t row = 0;
+    uint32_t refused = enrolled(book, record, &row);
+    if (refused)
+        return refused;
+    for (*stale = 0;; ++*stale) {
+        refused = ticked(book, desk, row, record->number);
+        if (!refused)
+            refused = saved(book, desk);
+        if (refused != HERNGANOW_REFUSED_STALE)
+            return refused;
+    }
+}
+
+/* What a day that was cut short left open is dropped. */
+static void start_day(struct book *book, uint32_t desk)
+{
+    book_begin(book);
+    uint32_t refused = settle(book, hernganow_drop(book->sheet, sizeof book->sheet, desk, book->answer, sizeof book->answer));
+    if (refused && refused != HERNGANOW_REFUSED_DESK_CLOSED) {
+        fprintf(stderr, "%s: refused %" PRIu32 "\n", book->path, refused);
+        exit(1);
+    }
+}
+
+static void print_record(size_t place, const struct record *record, uint32_t refused, uint32_t stale)
+{
+    uint32_t undated = hernganow_date(record->days, answer, sizeof answer);
+    printf("%zu %" PRIu64 " %" PRIu32, place, record->key, record->number);
+    if (undated)
+        printf(" undated");
+    else
+        printf(" %04" PRIu64 "-%03" PRIu64, hernganow_number(answer, HERNGANOW_AT_DATE_YEAR), hernganow_number(answer, HERNGANOW_AT_DATE_DAY));
+    if (refused)
+        printf(" refused %" PRIu32 "\n", refused);
+    else if (stale)
+        printf(" ticked, stale %" PRIu32 "\n", stale);
+    else
+        printf(" ticked\n");
+}
+
+static void print_gap(struct book *book)
+{
+    book_begin(book);
+    book_abandon(book);
+    hernganow_first_gap(book->sheet, sizeof book->sheet, book->answer, sizeof book->answer);
+    if (book_number(book, HERNGANOW_AT_GAP_NUMBER) == HERNGANOW_NONE)
+        printf("no gap\n");
+    else
+        printf("gap %" PRIu64 " in row %" PRIu64 "\n", book_number(book, HERNGANOW_AT_GAP_NUMBER), book_number(book, HERNGANOW_AT_GAP_ROW));
+}
+
+int main(int count, char **words)
+{
+    if (count != 4 || strlen(words[2]) != 1 || words[2][0] < '0' || words[2][0] > '7') {
+        fputs(usage, stderr);
+        return 2;
+    }
+    uint32_t desk = (uint32_t)(words[2][0] - '0');
+    struct book book;
+    book_open(&book, words[1]);
+    start_day(&book, desk);
+    size_t length, place = 0;
+    uint8_t *stream = read_file(words[3], &length);
+    struct record record;
+    uint32_t refused = 0;
+    while (place < length && !(refused = read_record(stream + place, length - place, &record))) {
+        uint32_t stale = 0;
+        uint32_t unticked = visit(&book, desk, &record, &stale);
+        print_record(place, &record, unticked, stale);
+        place += record.length;
+    }
+    printf("stopped at %zu, %" PRIu32 "\n", place, refused);
+    print_gap(&book);
+    book_close(&book);
+    free(stream);
+    return 0;
+}

@@ -1,0 +1,270 @@
+/* Hernganow's calls on records, stream keys, dates and ledger sheets, for programs in C and C++. Link libhost.a (`rt staticlib host`).
+ *
+ * Each call answers as the proved library's call does, for every input whose pointers are good for their lengths and whose slices do not
+ * overlap. It returns 0, or the number of the refusal, and writes its answer, a refusal's too, into the last slice: HERNGANOW_ANSWER
+ * bytes, 32 numbers of 8 bytes, most significant byte first. The first is the number that is returned; HERNGANOW_AT_.. name the others.
+ * Each number of a none is HERNGANOW_NONE; numbers that the answer does not have are 0. A signed number is in two's complement.
+ *
+ * A slice that is not HERNGANOW_ANSWER bytes is refused first, with 38: the call does nothing and writes nothing. Of the refusals in a
+ * call's comment the first that applies is given; a refused call leaves the sheet as it was, but for 31.
+ *
+ * Nothing is kept between calls: a sheet may move, and different sheets may be worked on at the same time. */
+#ifndef HERNGANOW_H
+#define HERNGANOW_H
+
+#include <stddef.h>
+#include <stdint.h>
+
+#ifdef __cplusplus
+extern "C" {
+#endif
+
+/* How many bytes an answer and a ledger sheet have, and each number of a none. */
+#define HERNGANOW_ANSWER 256
+#define HERNGANOW_SHEET 6968
+#define HERNGANOW_NONE UINT64_MAX
+
+/* What a call returns: 0, or the number of a refusal. */
+enum hernganow_refusal {
+    HERNGANOW_ACCEPTED = 0,
+    /* Records: the reader. */
+    HERNGANOW_REFUSED_TOO_SHORT = 1, /* fewer bytes than a label */
+    HERNGANOW_REFUSED_AUTHORITY = 2, /* bytes 0 to 3 are not NJPL */
+    HERNGANOW_REFUSED_LABEL_CONTROL = 3, /* bytes 4 to 7 are not 2I00 */
+    HERNGANOW_REFUSED_UNKNOWN_KIND = 4, /* bytes 8 to 11 name no kind */
+    HERNGANOW_REFUSED_LABEL_LENGTH = 5, /* label length out of bounds */
+    HERNGANOW_REFUSED_TRUNCATED = 6, /* the record ends past the slice */
+    HERNGANOW_REFUSED_AGGREGATION_LABEL = 7, /* aggregation block: type or length */
+    HERNGANOW_REFUSED_PRIMARY_LABEL = 8, /* primary block: type or length */
+    HERNGANOW_REFUSED_SECONDARY_LABEL = 9, /* secondary block: type or length */
+    HERNGANOW_REFUSED_DATA_TYPE = 10, /* data block: type */
+    HERNGANOW_REFUSED_DATA_LENGTH = 11, /* data block: length */
+    HERNGANOW_REFUSED_WRONG_KIND = 15, /* a record of the other kind */
+    HERNGANOW_REFUSED_FIELD_RANGE = 12, /* a header field out of its range */
+    /* Records: samples (document 02, Req 08). */
+    HERNGANOW_REFUSED_SAMPLE_PAIR = 19, /* size and rate are not a listed pair */
+    HERNGANOW_REFUSED_SAMPLE_WORDS = 34, /* samples do not fill whole words */
+    HERNGANOW_REFUSED_SAMPLE_VALUE = 37, /* a sample that the size has no code for */
+    HERNGANOW_REFUSED_SAMPLE_SPACE = 35, /* lent list too short */
+    /* Records: the writer, lists, the listing program. */
+    HERNGANOW_REFUSED_WRITER_INPUT = 14, /* a value that no record can hold */
+    HERNGANOW_REFUSED_WRITER_SPACE = 13, /* lent slice too short */
+    HERNGANOW_REFUSED_LIST_FULL = 16, /* no entry of the list is free */
+    HERNGANOW_REFUSED_BUFFER_SIZE = 17, /* longer than the program's buffer */
+    /* The ledger. */
+    HERNGANOW_REFUSED_NOT_SHEET = 20, /* not a ledger sheet */
+    HERNGANOW_REFUSED_NO_DESK = 21, /* desk not 0 to 7 */
+    HERNGANOW_REFUSED_BAD_KEY = 22, /* key not valid, or a number too wide for its field */
+    HERNGANOW_REFUSED_FIRST_NUMBER = 32, /* first number is none of the stream's */
+    HERNGANOW_REFUSED_ALREADY_ENROLLED = 23, /* stream already enrolled */
+    HERNGANOW_REFUSED_LEDGER_FULL = 24, /* all 32 rows used */
+    HERNGANOW_REFUSED_NO_ROW = 25, /* no such row, or none with that key */
+    HERNGANOW_REFUSED_DESK_OPEN = 26, /* desk already has a row open */
+    HERNGANOW_REFUSED_DESK_CLOSED = 27, /* desk has none open */
+    HERNGANOW_REFUSED_OUTSIDE_ROW = 28, /* number outside the row */
+    HERNGANOW_REFUSED_ALREADY_TICKED = 29, /* already ticked */
+    HERNGANOW_REFUSED_NOT_TICKED = 30, /* not ticked */
+    HERNGANOW_REFUSED_STALE = 31, /* the row is not what the desk opened */
+    HERNGANOW_REFUSED_ROW_OPEN = 36, /* a desk has the row open */
+    /* Traces and seasons (document 02, Req 11 and Req 13). */
+    HERNGANOW_REFUSED_NOT_TRACE = 40, /* not a trace */
+    HERNGANOW_REFUSED_SEASON_LENGTH = 42, /* not a whole number of sheets, or over 16 */
+    HERNGANOW_REFUSED_KEY_IN_TWO_SHEETS = 41, /* a key stands in two sheets */
+    /* Dates. */
+    HERNGANOW_REFUSED_DAY_COUNT = 33, /* past the last day of the year 3000 */
+    /* Medium band tapes. */
+    HERNGANOW_REFUSED_TAPE_LENGTHS = 50, /* tape: lengths */
+    HERNGANOW_REFUSED_TAPE_LENGTH_WORD = 51, /* tape: length word */
+    HERNGANOW_REFUSED_TAPE_TIME = 52, /* tape: not a time */
+    HERNGANOW_REFUSED_TAPE_RATE = 53, /* tape: rate */
+    HERNGANOW_REFUSED_TAPE_BLOCK = 54, /* tape: block */
+    /* Mission agreements (document 02, Req 14). */
+    HERNGANOW_REFUSED_NOT_SETTINGS = 43, /* not a settings sheet */
+    HERNGANOW_REFUSED_UNKNOWN_EDITION = 44, /* unknown edition */
+    HERNGANOW_REFUSED_ALREADY_SET = 45, /* same mission and day already there */
+    HERNGANOW_REFUSED_SETTINGS_FULL = 46, /* all 64 settings used */
+    HERNGANOW_REFUSED_NO_SETTING = 47, /* no setting is old enough */
+    /* Calls from C (document 02, Req 06). */
+    HERNGANOW_REFUSED_ANSWER_LENGTH = 38 /* the answer's slice is not 256 bytes: nothing done, nothing written */
+};
+
+/* Where each number of an answer stands. */
+enum hernganow_at {
+    /* The number that is returned. */
+    HERNGANOW_AT_REFUSAL = 0,
+    /* Of a refusal of a record, the offset or the count that goes with it. */
+    HERNGANOW_AT_FAULT = 1,
+    /* A key; a row that was enrolled or found. */
+    HERNGANOW_AT_KEY = 1,
+    HERNGANOW_AT_ROW = 1,
+    /* A date. */
+    HERNGANOW_AT_DATE_YEAR = 1,
+    HERNGANOW_AT_DATE_DAY = 2,
+    /* A row report. */
+    HERNGANOW_AT_TICKED = 1,
+    HERNGANOW_AT_MISSING = 2,
+    HERNGANOW_AT_LOWEST = 3,
+    /* The first gap. */
+    HERNGANOW_AT_GAP_NUMBER = 1,
+    HERNGANOW_AT_GAP_ROW = 2,
+    /* Read headers, of both kinds. */
+    HERNGANOW_AT_KIND = 1,
+    HERNGANOW_AT_SIZE = 2,
+    HERNGANOW_AT_MAJOR = 3,
+    HERNGANOW_AT_MINOR = 4,
+    HERNGANOW_AT_MISSION = 5,
+    HERNGANOW_AT_FORMAT = 6,
+    /* Read headers, of a telemetry record. */
+    HERNGANOW_AT_TELEMETRY_SPACECRAFT = 7,
+    HERNGANOW_AT_TELEMETRY_SOURCE = 8,
+    HERNGANOW_AT_TELEMETRY_RECEIVED = 9,
+    HERNGANOW_AT_TELEMETRY_NUMBER = 10,
+    HERNGANOW_AT_TELEMETRY_UPLINK = 11,
+    HERNGANOW_AT_TELEMETRY_MODE = 12,
+    HERNGANOW_AT_TELEMETRY_STREAM = 13,
+    HERNGANOW_AT_TELEMETRY_EQUIPMENT = 14,
+    HERNGANOW_AT_TELEMETRY_KEY = 15,
+    HERNGANOW_AT_TELEMETRY_DAYS = 16,
+    HERNGANOW_AT_TELEMETRY_MILLISECONDS = 17,
+    HERNGANOW_AT_TELEMETRY_EXTENDED = 18,
+    /* Read headers, of an RSR record. */
+    HERNGANOW_AT_RSR_SOFTWARE = 7,
+    HERNGANOW_AT_RSR_NUMBER = 8,
+    HERNGANOW_AT_RSR_COMPLEX = 9,
+    HERNGANOW_AT_RSR_STATION = 10,
+    HERNGANOW_AT_RSR_RECEIVER = 11,
+    HERNGANOW_AT_RSR_SUBCHANNEL = 12,
+    HERNGANOW_AT_RSR_SPACECRAFT = 13,
+    HERNGANOW_AT_RSR_PASS = 14,
+    HERNGANOW_AT_RSR_UPLINK = 15,
+    HERNGANOW_AT_RSR_DOWNLINK = 16,
+    HERNGANOW_AT_RSR_MODE = 17,
+    HERNGANOW_AT_RSR_UPLINK_STATION = 18,
+    HERNGANOW_AT_RSR_EXPECTED = 19,
+    HERNGANOW_AT_RSR_BANDWIDTH = 20,
+    HERNGANOW_AT_RSR_OVERRIDDEN = 21,
+    HERNGANOW_AT_RSR_ATTENUATION = 22,
+    HERNGANOW_AT_RSR_RMS = 23,
+    HERNGANOW_AT_RSR_PEAK = 24,
+    HERNGANOW_AT_RSR_YEAR = 25,
+    HERNGANOW_AT_RSR_DAY = 26,
+    HERNGANOW_AT_RSR_FREQUENCY = 27,
+    HERNGANOW_AT_RSR_KEY = 28,
+    HERNGANOW_AT_RSR_DAY_COUNT = 29
+};
+
+/* The number of an answer at a place. */
+static inline uint64_t hernganow_number(const uint8_t *answer, enum hernganow_at at)
+{
+    uint64_t number = 0;
+    for (size_t i = 0; i < 8; i++)
+        number = number << 8 | answer[8 * (size_t)at + i];
+    return number;
+}
+
+/* ---- Records */
+
+/* The header fields of the record that the slice begins with, which has to be of the wanted kind: 1 telemetry, 2 RSR.
+ * Answers the kind, the record's length, the primary block's four numbers, the fields, the stream key; then, of telemetry, the received
+ * time in its three parts, of RSR, the day count of its year and day. HERNGANOW_AT_TELEMETRY_UPLINK may be none;
+ * HERNGANOW_AT_RSR_EXPECTED is signed.
+ * Refused: 1 to 11, 15, 12, in this order; but for 15, HERNGANOW_AT_FAULT is the offset of the wrong field from the record's start
+ * (1 and 6: how many bytes there were). */
+uint32_t hernganow_read_headers(
+    const uint8_t *record, size_t record_length,
+    uint32_t wanted,
+    uint8_t *answer, size_t answer_length);
+
+/* ---- Stream keys */
+
+/* The key of a telemetry stream. Answers the key. Refused: 22. */
+uint32_t hernganow_telemetry_key(
+    uint32_t spacecraft, uint32_t source, uint32_t equipment, uint32_t stream,
+    uint8_t *answer, size_t answer_length);
+
+/* The key of an RSR stream. Answers the key. Refused: 22. */
+uint32_t hernganow_rsr_key(
+    uint32_t spacecraft, uint32_t station, uint32_t receiver, uint32_t subchannel,
+    uint8_t *answer, size_t answer_length);
+
+/* ---- Dates */
+
+/* The date of a count of days from 1 January 1900. Answers the year and the day of the year. Refused: 33. */
+uint32_t hernganow_date(uint32_t count, uint8_t *answer, size_t answer_length);
+
+/* ---- The ledger sheet */
+
+/* Makes the slice a fresh sheet; what it held does not matter. Refused: 20, by the length alone. */
+uint32_t hernganow_fresh(uint8_t *sheet, size_t sheet_length, uint8_t *answer, size_t answer_length);
+
+/* Enrols a stream in the lowest free row, with no ticks. Answers the row. Refused: 20, 22, 32, 23, 24. */
+uint32_t hernganow_enrol(
+    uint8_t *sheet, size_t sheet_length,
+    uint64_t key, uint32_t first,
+    uint8_t *answer, size_t answer_length);
+
+/* Finds a stream. Answers its row. Refused: 20, 22, 25. */
+uint32_t hernganow_find(
+    const uint8_t *sheet, size_t sheet_length,
+    uint64_t key,
+    uint8_t *answer, size_t answer_length);
+
+/* Opens a row at a desk. Refused: 20, 21, 25, 26. */
+uint32_t hernganow_open(
+    uint8_t *sheet, size_t sheet_length,
+    uint32_t desk, uint32_t row,
+    uint8_t *answer, size_t answer_length);
+
+/* Ticks a number in what the desk has open. Refused: 20, 21, 27, 28, 29. */
+uint32_t hernganow_tick(
+    uint8_t *sheet, size_t sheet_length,
+    uint32_t desk, uint32_t number,
+    uint8_t *answer, size_t answer_length);
+
+/* Unticks a number in what the desk has open. Refused: 20, 21, 27, 28, 30. */
+uint32_t hernganow_untick(
+    uint8_t *sheet, size_t sheet_length,
+    uint32_t desk, uint32_t number,
+    uint8_t *answer, size_t answer_length);
+
+/* Saves what the desk has open, and closes the desk. Refused: 20, 21, 27, 31; 31 closes the desk too: open again, tick again. */
+uint32_t hernganow_save(
+    uint8_t *sheet, size_t sheet_length,
+    uint32_t desk,
+    uint8_t *answer, size_t answer_length);
+
+/* Drops what the desk has open. Refused: 20, 21, 27. */
+uint32_t hernganow_drop(
+    uint8_t *sheet, size_t sheet_length,
+    uint32_t desk,
+    uint8_t *answer, size_t answer_length);
+
+/* Strikes a row: its place is free again. Refused: 20, 25, 36. */
+uint32_t hernganow_strike(
+    uint8_t *sheet, size_t sheet_length,
+    uint32_t row,
+    uint8_t *answer, size_t answer_length);
+
+/* Reports on a row. Answers how many numbers are ticked, how many are missing, and the lowest missing one or none. Refused: 20, 25. */
+uint32_t hernganow_row_report(
+    const uint8_t *sheet, size_t sheet_length,
+    uint32_t row,
+    uint8_t *answer, size_t answer_length);
+
+/* Finds the first gap. Answers the number and its row, or none: both all ones. Refused: 20. */
+uint32_t hernganow_first_gap(
+    const uint8_t *sheet, size_t sheet_length,
+    uint8_t *answer, size_t answer_length);
+
+/* Makes the slice a sheet of an old one, of 6,776 bytes, whose rows had no used word; rows keep their places, open desks stay open.
+ * Refused: 20, where the old one is not right or the slice is not HERNGANOW_SHEET bytes. */
+uint32_t hernganow_convert(
+    const uint8_t *old, size_t old_length,
+    uint8_t *sheet, size_t sheet_length,
+    uint8_t *answer, size_t answer_length);
+
+#ifdef __cplusplus
+}
+#endif
+
+#endif
