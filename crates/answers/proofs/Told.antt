@@ -7,11 +7,14 @@ use Rattle.refusals.specs.Table.{numberOf}
 use Rattle.refusals.specs.declared.Refusal.{Refusal}
 use Rattle.refusals.proofs.Laws.{number-positive}
 use Rattle.sfdu_headers.specs.Words.{Word}
-use Rattle.answers.specs.Numbers.{Numbers, plain, withNone}
+use Rattle.answers.specs.Numbers.{Numbers, Few, plain, withNone}
+
+pub told-few : {A : Type 0} {a b : A} {numbers : List ℕ} (words : A → List Word) → a ≡ b → Few numbers (words b) → Few numbers (words a)
+told-few {numbers = ns} words e h = subst⁻¹ (λ x. Few ns (words x)) e h
 
 pub told : {A : Type 0} {a b : A} {numbers : List ℕ} (words : A → List Word) → a ≡ b → Numbers numbers (words b) → Numbers numbers (words a)
 told {numbers = ns} words e h = subst⁻¹ (λ x. Numbers ns (words x)) e h
 
 -- A refused answer has no none.
-pub refused-whole : {numbers : List ℕ} (size : ℕ) (why : Refusal) → Numbers numbers (plain (numberOf why ∷ [])) → Numbers numbers (withNone size (numberOf why ∷ []))
+pub refused-whole : {numbers : List ℕ} (size : ℕ) (why : Refusal) → Few numbers (plain (numberOf why ∷ [])) → Few numbers (withNone size (numberOf why ∷ []))
 refused-whole size why h = rw (ne-eqb (numberOf why) 0 (number-positive why)) h

@@ -54,3 +54,11 @@ withNone size words = plain words ++ cond (eqb (getD words 0 0) 0) (replicate (s
 -- A list is the numbers of these words, and the first, which a call returns, is one of 32 bits.
 abbrev pub Numbers : List ℕ → List Word → Type 0
 Numbers numbers words = (numbers ≡ numbersOf words) × (getD numbers 0 0 < 2 ^ 32)
+
+-- The same of a few numbers, behind which there are zeros alone.
+abbrev pub fewCount : ℕ
+fewCount = 4
+
+pub record Few (numbers : List ℕ) (words : List Word) : Type 0 where
+  pub same : numbers ++ replicate (numberCount - fewCount) 0 ≡ numbersOf words
+  pub small : getD numbers 0 0 < 2 ^ 32

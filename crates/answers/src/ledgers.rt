@@ -1,6 +1,6 @@
 // The numbers of the ledger's answers.
+use crate::FEW;
 use crate::NONE;
-use crate::NUMBERS;
 use crate::places;
 use crate::refused;
 use ledger_sheet::Answer;
@@ -9,23 +9,23 @@ use ledger_sheet::ReportAnswer;
 use ledger_sheet::RowAnswer;
 ghost use mathlib.Core.List.{[], _∷_};
 ghost use Rattle.ledger_sheet.specs.Words.{answerWords, rowWords, reportAnswerWords, gapWords};
-ghost use Rattle.answers.specs.Numbers.{Numbers, plain, withNone};
+ghost use Rattle.answers.specs.Numbers.{Few, plain, withNone};
 
-pub fn answer(answer: Answer) -> [u64; NUMBERS]
-    ensures { λ r. ⌜ Numbers r (plain (answerWords answer)) ⌝ }
+pub fn answer(answer: Answer) -> [u64; FEW]
+    ensures { λ r. ⌜ Few r (plain (answerWords answer)) ⌝ }
 {
     match answer {
-        Answer::Done => [0u64; NUMBERS],
+        Answer::Done => [0u64; FEW],
         Answer::Refused(why) => refused(why),
     }
 }
 
-pub fn row(answer: RowAnswer) -> [u64; NUMBERS]
-    ensures { λ r. ⌜ Numbers r (plain (rowWords answer)) ⌝ }
+pub fn row(answer: RowAnswer) -> [u64; FEW]
+    ensures { λ r. ⌜ Few r (plain (rowWords answer)) ⌝ }
 {
     match answer {
         RowAnswer::Row(row) => {
-            let mut numbers = [0u64; NUMBERS];
+            let mut numbers = [0u64; FEW];
             numbers[places::ROW] = row as u64;
             numbers
         }
@@ -34,12 +34,12 @@ pub fn row(answer: RowAnswer) -> [u64; NUMBERS]
 }
 
 // A row that has no gap has no lowest missing number.
-pub fn report(answer: ReportAnswer) -> [u64; NUMBERS]
-    ensures { λ r. ⌜ Numbers r (withNone 4 (reportAnswerWords answer)) ⌝ }
+pub fn report(answer: ReportAnswer) -> [u64; FEW]
+    ensures { λ r. ⌜ Few r (withNone 4 (reportAnswerWords answer)) ⌝ }
 {
     match answer {
         ReportAnswer::Whole { ticked } => {
-            let mut numbers = [0u64; NUMBERS];
+            let mut numbers = [0u64; FEW];
             numbers[places::TICKED] = ticked as u64;
             numbers[places::LOWEST] = NONE;
             numbers
@@ -49,7 +49,7 @@ pub fn report(answer: ReportAnswer) -> [u64; NUMBERS]
             missing,
             lowest,
         } => {
-            let mut numbers = [0u64; NUMBERS];
+            let mut numbers = [0u64; FEW];
             numbers[places::TICKED] = ticked as u64;
             numbers[places::MISSING] = missing as u64;
             numbers[places::LOWEST] = lowest as u64;
@@ -59,8 +59,8 @@ pub fn report(answer: ReportAnswer) -> [u64; NUMBERS]
     }
 }
 
-pub fn gap(answer: GapAnswer) -> [u64; NUMBERS]
-    ensures { λ r. ⌜ Numbers r (withNone 3 (gapWords answer)) ⌝ }
+pub fn gap(answer: GapAnswer) -> [u64; FEW]
+    ensures { λ r. ⌜ Few r (withNone 3 (gapWords answer)) ⌝ }
 {
     match answer {
         GapAnswer::Nothing => gap_at(NONE, NONE),
@@ -69,10 +69,10 @@ pub fn gap(answer: GapAnswer) -> [u64; NUMBERS]
     }
 }
 
-fn gap_at(number: u64, row: u64) -> [u64; NUMBERS]
-    ensures { λ r. ⌜ Numbers r (plain (0 ∷ number ∷ row ∷ [])) ⌝ }
+fn gap_at(number: u64, row: u64) -> [u64; FEW]
+    ensures { λ r. ⌜ Few r (plain (0 ∷ number ∷ row ∷ [])) ⌝ }
 {
-    let mut numbers = [0u64; NUMBERS];
+    let mut numbers = [0u64; FEW];
     numbers[places::GAP_NUMBER] = number;
     numbers[places::GAP_ROW] = row;
     numbers

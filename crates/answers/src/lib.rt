@@ -1,5 +1,5 @@
 // The numbers of an answer, for whoever exports, prints or times it (document 02, Req 06): the refusal's number, or 0 and the answer's
-// numbers in the papers' order; zeros behind them.
+// numbers in the papers' order; zeros behind them. Most answers have a few numbers, which are handed out without the zeros.
 pub mod ledgers;
 pub mod places;
 pub mod records;
@@ -14,7 +14,7 @@ ghost use lib.ListN.{length, getD};
 ghost use Rattle.refusals.specs.Table.{numberOf};
 ghost use Rattle.dates.specs.Answers as Dates;
 ghost use Rattle.keys.specs.Words as Keys;
-ghost use Rattle.answers.specs.Numbers.{answerSize, numbersOf, plain, answerBytes, Numbers};
+ghost use Rattle.answers.specs.Numbers.{answerSize, numbersOf, plain, answerBytes, Few};
 
 // How many numbers an answer has, and how many bytes each.
 pub const NUMBERS: usize = 32;
@@ -23,24 +23,27 @@ pub const NUMBER: usize = 8;
 
 pub const ANSWER: usize = NUMBER * NUMBERS;
 
+// How many numbers the longest answer but read headers' has.
+pub const FEW: usize = 4;
+
 // Each number of a none: all its bits are ones.
 pub const NONE: u64 = 18446744073709551615;
 
 // A refusal that no number goes with.
-pub fn refused(why: Refusal) -> [u64; NUMBERS]
-    ensures { λ r. ⌜ Numbers r (plain (numberOf why ∷ [])) ⌝ }
+pub fn refused(why: Refusal) -> [u64; FEW]
+    ensures { λ r. ⌜ Few r (plain (numberOf why ∷ [])) ⌝ }
 {
-    let mut numbers = [0u64; NUMBERS];
+    let mut numbers = [0u64; FEW];
     numbers[places::REFUSAL] = refusals::number(why) as u64;
     numbers
 }
 
-pub fn key(answer: KeyAnswer) -> [u64; NUMBERS]
-    ensures { λ r. ⌜ Numbers r (plain (Keys.wordsOf answer)) ⌝ }
+pub fn key(answer: KeyAnswer) -> [u64; FEW]
+    ensures { λ r. ⌜ Few r (plain (Keys.wordsOf answer)) ⌝ }
 {
     match answer {
         KeyAnswer::Key(key) => {
-            let mut numbers = [0u64; NUMBERS];
+            let mut numbers = [0u64; FEW];
             numbers[places::KEY] = key;
             numbers
         }
@@ -48,12 +51,12 @@ pub fn key(answer: KeyAnswer) -> [u64; NUMBERS]
     }
 }
 
-pub fn date(answer: DateAnswer) -> [u64; NUMBERS]
-    ensures { λ r. ⌜ Numbers r (plain (Dates.wordsOf answer)) ⌝ }
+pub fn date(answer: DateAnswer) -> [u64; FEW]
+    ensures { λ r. ⌜ Few r (plain (Dates.wordsOf answer)) ⌝ }
 {
     match answer {
         DateAnswer::Date { year, day } => {
-            let mut numbers = [0u64; NUMBERS];
+            let mut numbers = [0u64; FEW];
             numbers[places::DATE_YEAR] = year as u64;
             numbers[places::DATE_DAY] = day as u64;
             numbers

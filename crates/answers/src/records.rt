@@ -2,7 +2,6 @@
 use crate::NONE;
 use crate::NUMBERS;
 use crate::places;
-use crate::refused;
 use refusals::Refusal;
 use sfdu::Fault;
 use sfdu::Kind;
@@ -45,7 +44,10 @@ pub fn headers(found: Headers) -> [u64; NUMBERS]
             day_count,
         } => rsr(size, primary, source, signal, time, key, day_count),
         Headers::Refused(fault) => wrong(fault),
-        Headers::WrongKind => refused(Refusal::WrongKind),
+        Headers::WrongKind => wrong(Fault {
+            refusal: Refusal::WrongKind,
+            at: 0,
+        }),
     }
 }
 
@@ -54,7 +56,8 @@ fn wrong(fault: Fault) -> [u64; NUMBERS]
     ensures { λ r. ⌜ Numbers r (plain (faultWords fault)) ⌝ }
 {
     let refusal = fault.refusal;
-    let mut numbers = refused(refusal);
+    let mut numbers = [0u64; NUMBERS];
+    numbers[places::REFUSAL] = refusals::number(refusal) as u64;
     numbers[places::FAULT] = fault.at as u64;
     numbers
 }

@@ -4,16 +4,12 @@ use mathlib.Core.List.{List}
 use mathlib.Core.Logic.{_≢_}
 use mathlib.Core.Path.{_≡_, sym, ap, _∙_}
 use borrow.Author.Tests.{eq-eqb, ne-eqb}
-use lib.ListN.{length, getD}
+use lib.ListN.{length}
 use Rattle.refusals.specs.Table.{numberOf}
 use Rattle.refusals.specs.declared.Refusal.the-variants.{AnswerLength}
 use Rattle.sfdu_headers.specs.Words.{Word}
-use Rattle.answers.specs.Numbers.{answerSize, answerBytes, numbersOf, plain, Numbers}
-use Rattle.host.specs.Exported.{exported, exportedOn, told}
-
--- what `write` ensures: the number that it returns, and the slice
-abbrev pub Written : ℕ → (out numbers : List ℕ) → Type 0
-Written r out numbers = (r ≡ getD numbers 0 0) × (out ≡ answerBytes numbers)
+use Rattle.answers.specs.Numbers.{answerSize, numbersOf, plain}
+use Rattle.host.specs.Exported.{exported, exportedOn, told, Written}
 
 pub unwritten : {r : ℕ} (words : List Word) (answer : List ℕ) → length answer ≢ answerSize → r ≡ numberOf AnswerLength → (r, answer) ≡ exported words answer
 unfolding exported
@@ -25,11 +21,11 @@ unfolding exportedOn
 unwritten-on outcome answer lent h e = rw (ne-eqb _ _ h, e)
 
 pub written : {r : ℕ} {out numbers : List ℕ} {words : List Word} (promised : List Word) (answer : List ℕ) → length answer ≡ answerSize
-    → words ≡ promised → Numbers numbers words → Written r out numbers → (r, out) ≡ exported promised answer
+    → words ≡ promised → numbers ≡ numbersOf words → Written r out numbers → (r, out) ≡ exported promised answer
 unfolding exported
-written promised answer h e n w = rw (eq-eqb _ _ h, w .0, w .1, n .0, e)
+written promised answer h e n w = rw (eq-eqb _ _ h, w .0, w .1, n, e)
 
 pub written-on : {r : ℕ} {out numbers left words : List ℕ} (outcome : List ℕ × List ℕ) (answer lent : List ℕ) → length answer ≡ answerSize
-    → (words, left) ≡ outcome → Numbers numbers (plain words) → Written r out numbers → (r, out, left) ≡ exportedOn (told outcome) answer lent
+    → (words, left) ≡ outcome → numbers ≡ numbersOf (plain words) → Written r out numbers → (r, out, left) ≡ exportedOn (told outcome) answer lent
 unfolding exportedOn
-written-on outcome answer lent h e n w = rw (eq-eqb _ _ h, w .0, w .1, n .0, ← e)
+written-on outcome answer lent h e n w = rw (eq-eqb _ _ h, w .0, w .1, n, ← e)

@@ -4,12 +4,17 @@
 use Prim.Native.Nat.{ℕ}
 use mathlib.Core.Bool.{cond}
 use mathlib.Core.List.{List}
+use mathlib.Core.Path.{_≡_}
 use lib.Dec.{eqb}
 use lib.ListN.{length, getD}
 use Rattle.refusals.specs.Table.{numberOf}
 use Rattle.refusals.specs.declared.Refusal.the-variants.{AnswerLength}
 use Rattle.sfdu_headers.specs.Words.{Word}
 use Rattle.answers.specs.Numbers.{answerSize, numbersOf, answerBytes, plain}
+
+-- What is returned and left in the answer's slice where these are all the numbers of the answer.
+abbrev pub Written : ℕ → (left numbers : List ℕ) → Type 0
+Written r left numbers = (r ≡ getD numbers 0 0) × (left ≡ answerBytes numbers)
 
 -- The number that is returned: the first of the answer's.
 abbrev pub returned : List Word → ℕ

@@ -1,6 +1,6 @@
 // Dates.
 use crate::write::unwritten;
-use crate::write::write;
+use crate::write::write_few;
 use answers::ANSWER;
 ghost use mathlib.Core.Path.{_≡_};
 ghost use Rattle.dates.specs.Calendar.{dateOf};
@@ -16,5 +16,5 @@ pub extern "C" fn hernganow_date(count: u32, answer: &mut [u8]) -> u32
         return unwritten();
     }
     let found = dates::date_of(count);
-    write(answer, answers::date(found))
+    write_few(answer, answers::date(found))
 }

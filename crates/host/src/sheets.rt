@@ -1,6 +1,6 @@
 // The ledger sheet.
 use crate::write::unwritten;
-use crate::write::write;
+use crate::write::write_few;
 use answers::ANSWER;
 use answers::ledgers;
 ghost use mathlib.Core.Path.{_≡_};
@@ -19,7 +19,7 @@ pub extern "C" fn hernganow_fresh(sheet: &mut [u8], answer: &mut [u8]) -> u32
         return unwritten();
     }
     let found = ledger::fresh(sheet);
-    write(answer, ledgers::answer(found))
+    write_few(answer, ledgers::answer(found))
 }
 
 // Enrols a stream.
@@ -31,7 +31,7 @@ pub extern "C" fn hernganow_enrol(sheet: &mut [u8], key: u64, first: u32, answer
         return unwritten();
     }
     let found = ledger::enrol(sheet, key, first);
-    write(answer, ledgers::row(found))
+    write_few(answer, ledgers::row(found))
 }
 
 // Finds a stream.
@@ -43,7 +43,7 @@ pub extern "C" fn hernganow_find(sheet: &[u8], key: u64, answer: &mut [u8]) -> u
         return unwritten();
     }
     let found = ledger::find(sheet, key);
-    write(answer, ledgers::row(found))
+    write_few(answer, ledgers::row(found))
 }
 
 // Opens a row at a desk.
@@ -55,7 +55,7 @@ pub extern "C" fn hernganow_open(sheet: &mut [u8], desk: u32, row: u32, answer: 
         return unwritten();
     }
     let found = ledger::open(sheet, desk, row);
-    write(answer, ledgers::answer(found))
+    write_few(answer, ledgers::answer(found))
 }
 
 // Ticks a number.
@@ -67,7 +67,7 @@ pub extern "C" fn hernganow_tick(sheet: &mut [u8], desk: u32, number: u32, answe
         return unwritten();
     }
     let found = ledger::tick(sheet, desk, number);
-    write(answer, ledgers::answer(found))
+    write_few(answer, ledgers::answer(found))
 }
 
 // Unticks a number.
@@ -84,7 +84,7 @@ pub extern "C" fn hernganow_untick(
         return unwritten();
     }
     let found = ledger::untick(sheet, desk, number);
-    write(answer, ledgers::answer(found))
+    write_few(answer, ledgers::answer(found))
 }
 
 // Saves what a desk has worked on.
@@ -96,7 +96,7 @@ pub extern "C" fn hernganow_save(sheet: &mut [u8], desk: u32, answer: &mut [u8])
         return unwritten();
     }
     let found = ledger::save(sheet, desk);
-    write(answer, ledgers::answer(found))
+    write_few(answer, ledgers::answer(found))
 }
 
 // Drops what a desk has open.
@@ -108,7 +108,7 @@ pub extern "C" fn hernganow_drop(sheet: &mut [u8], desk: u32, answer: &mut [u8])
         return unwritten();
     }
     let found = ledger::drop(sheet, desk);
-    write(answer, ledgers::answer(found))
+    write_few(answer, ledgers::answer(found))
 }
 
 // Strikes a row.
@@ -120,7 +120,7 @@ pub extern "C" fn hernganow_strike(sheet: &mut [u8], row: u32, answer: &mut [u8]
         return unwritten();
     }
     let found = ledger::strike(sheet, row);
-    write(answer, ledgers::answer(found))
+    write_few(answer, ledgers::answer(found))
 }
 
 // Reports on a row: ticked, missing, and the lowest missing number or none.
@@ -132,7 +132,7 @@ pub extern "C" fn hernganow_row_report(sheet: &[u8], row: u32, answer: &mut [u8]
         return unwritten();
     }
     let found = ledger::row_report(sheet, row);
-    write(answer, ledgers::report(found))
+    write_few(answer, ledgers::report(found))
 }
 
 // Finds the first gap: the number and its row, or none.
@@ -144,7 +144,7 @@ pub extern "C" fn hernganow_first_gap(sheet: &[u8], answer: &mut [u8]) -> u32
         return unwritten();
     }
     let found = ledger::first_gap(sheet);
-    write(answer, ledgers::gap(found))
+    write_few(answer, ledgers::gap(found))
 }
 
 // Makes the slice a new sheet of an old one.
@@ -156,5 +156,5 @@ pub extern "C" fn hernganow_convert(old: &[u8], sheet: &mut [u8], answer: &mut [
         return unwritten();
     }
     let found = ledger_convert::convert(old, sheet);
-    write(answer, ledgers::answer(found))
+    write_few(answer, ledgers::answer(found))
 }

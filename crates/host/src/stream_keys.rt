@@ -1,6 +1,6 @@
 // Stream keys.
 use crate::write::unwritten;
-use crate::write::write;
+use crate::write::write_few;
 use answers::ANSWER;
 ghost use mathlib.Core.Path.{_≡_};
 ghost use Rattle.keys.specs.Key.{telemetryKeyCall, rsrKeyCall};
@@ -22,7 +22,7 @@ pub extern "C" fn hernganow_telemetry_key(
         return unwritten();
     }
     let found = keys::telemetry_key(spacecraft, source, equipment, stream);
-    write(answer, answers::key(found))
+    write_few(answer, answers::key(found))
 }
 
 // The key of an RSR stream.
@@ -40,5 +40,5 @@ pub extern "C" fn hernganow_rsr_key(
         return unwritten();
     }
     let found = keys::rsr_key(spacecraft, station, receiver, subchannel);
-    write(answer, answers::key(found))
+    write_few(answer, answers::key(found))
 }

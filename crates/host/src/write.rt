@@ -1,15 +1,23 @@
 // An answer's numbers, written into the slice that is lent for them.
 use answers::ANSWER;
+use answers::FEW;
 use answers::NUMBER;
 use answers::NUMBERS;
+use octets::clear;
 use octets::write_be;
 use refusals::Refusal;
 ghost use mathlib.Core.Path.{_≡_};
-ghost use Prim.Native.Nat.{_<_, _^_};
-ghost use lib.ListN.{length, getD};
+ghost use Prim.Native.Nat.{_-_, _*_, _<_, _≤_, _^_};
+ghost use mathlib.Core.List.{_++_};
+ghost use lib.ListN.{length, getD, replicate};
+ghost use Rattle.octets.specs.Octets.{put};
 ghost use Rattle.refusals.specs.Table.{numberOf};
 ghost use Rattle.refusals.specs.declared.Refusal.the-variants.{AnswerLength};
-ghost use Rattle.answers.specs.Numbers.{answerSize, answerBytes};
+ghost use Rattle.answers.specs.Numbers.{answerSize, numberSize, numberCount, fewCount, answerBytes};
+ghost use Rattle.host.specs.Exported.{Written};
+
+// The bytes of a few numbers.
+const FEW_BYTES: usize = NUMBER * FEW;
 
 // What a call returns that was lent an answer's slice of another length.
 pub fn unwritten() -> u32
@@ -18,13 +26,31 @@ pub fn unwritten() -> u32
     refusals::number(Refusal::AnswerLength)
 }
 
-// Writes the numbers, and returns the first.
+// Writes all the numbers of an answer, and returns the first.
 pub fn write(answer: &mut [u8], numbers: [u64; NUMBERS]) -> u32
     requires { ⌜ (length (now answer) ≡ answerSize) × (getD numbers 0 0 < 2 ^ 32) ⌝ }
-    ensures { λ r. ⌜ (r ≡ getD numbers 0 0) × (now (answer .exit) ≡ answerBytes numbers) ⌝ }
+    ensures { λ r. ⌜ Written r (now (answer .exit)) numbers ⌝ }
 {
-    for i in 0..NUMBERS {
+    write_numbers(answer, &numbers);
+    numbers[0] as u32
+}
+
+// Writes a few numbers of an answer and zeros behind them, and returns the first.
+pub fn write_few(answer: &mut [u8], numbers: [u64; FEW]) -> u32
+    requires { ⌜ (length (now answer) ≡ answerSize) × (getD numbers 0 0 < 2 ^ 32) ⌝ }
+    ensures { λ r. ⌜ Written r (now (answer .exit)) (numbers ++ replicate (numberCount - fewCount) 0) ⌝ }
+{
+    write_numbers(answer, &numbers);
+    clear(answer, FEW_BYTES, ANSWER - FEW_BYTES);
+    numbers[0] as u32
+}
+
+// Writes numbers from the slice's start on.
+fn write_numbers(answer: &mut [u8], numbers: &[u64])
+    requires { ⌜ numberSize * length (now numbers) ≤ length (now answer) ⌝ }
+    ensures { λ _. ⌜ now (answer .exit) ≡ put (now (answer .entry)) 0 (answerBytes (now (numbers .entry))) ⌝ }
+{
+    for i in 0..numbers.len() {
         write_be(answer, NUMBER * i, NUMBER, numbers[i]);
     }
-    numbers[0] as u32
 }

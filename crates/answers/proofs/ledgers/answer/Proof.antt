@@ -1,5 +1,5 @@
 -- `answers::ledgers::answer` meets its contract. Assumes nothing.
-use Rattle.answers.proofs.Told.{told}
+use Rattle.answers.proofs.Told.{told-few}
 use Rattle.answers.specs.Numbers.{plain, withNone}
 use Rattle.ledger_sheet.specs.Words.{answerWords, rowWords, reportAnswerWords, gapWords}
 use borrow.Author.Needs.{needs}
@@ -16,10 +16,10 @@ refused-requires : tie.Need-refused-requires
 refused-requires c κs = search needs
 
 returns : tie.Need-returns
-returns c = told (λ a. plain (answerWords a)) (c .enum-told .given .1) (search needs)
+returns c = told-few (λ a. plain (answerWords a)) (c .enum-told .given .1) (search needs)
 
 returns-2 : tie.Need-returns-2
-returns-2 c = told (λ a. plain (answerWords a)) (c .before .before .answer .given .1) (c .refused .ensures)
+returns-2 c = told-few (λ a. plain (answerWords a)) (c .before .before .answer .given .1) (c .refused .ensures)
 
 pub answer-spec : {M : Type 1} → statement M
 answer-spec = tie.close (tie.spec enum-told enum-known-answer refused-requires returns returns-2)

@@ -1,5 +1,5 @@
 -- `answers::ledgers::gap` meets its contract. Assumes nothing.
-use Rattle.answers.proofs.Told.{told, refused-whole}
+use Rattle.answers.proofs.Told.{told-few, refused-whole}
 use Rattle.answers.specs.Numbers.{plain, withNone}
 use Rattle.ledger_sheet.specs.Words.{answerWords, rowWords, reportAnswerWords, gapWords}
 use borrow.Author.Needs.{needs}
@@ -31,13 +31,13 @@ refused-requires : tie.Need-refused-requires
 refused-requires c κs = search needs
 
 returns : tie.Need-returns
-returns c = told (λ a. withNone 3 (gapWords a)) (c .before .enum-told .given .1) (c .gap-at .ensures)
+returns c = told-few (λ a. withNone 3 (gapWords a)) (c .before .enum-told .given .1) (record { same = c .gap-at .ensures .same; small = c .gap-at .ensures .small })
 
 returns-2 : tie.Need-returns-2
-returns-2 c = told (λ a. withNone 3 (gapWords a)) (c .before .before .answer .given .1) (c .gap-at2 .ensures)
+returns-2 c = told-few (λ a. withNone 3 (gapWords a)) (c .before .before .answer .given .1) (c .gap-at2 .ensures)
 
 returns-3 : tie.Need-returns-3
-returns-3 c = told (λ a. withNone 3 (gapWords a)) (c .before .before .answer2 .given .1) (refused-whole 3 (c .before .before .answer2 .given .0 .0) (c .refused .ensures))
+returns-3 c = told-few (λ a. withNone 3 (gapWords a)) (c .before .before .answer2 .given .1) (refused-whole 3 (c .before .before .answer2 .given .0 .0) (c .refused .ensures))
 
 pub gap-spec : {M : Type 1} → statement M
 gap-spec =

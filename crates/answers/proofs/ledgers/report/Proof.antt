@@ -1,5 +1,5 @@
 -- `answers::ledgers::report` meets its contract. Assumes nothing.
-use Rattle.answers.proofs.Told.{told, refused-whole}
+use Rattle.answers.proofs.Told.{told-few, refused-whole}
 use Rattle.answers.specs.Numbers.{plain, withNone}
 use Rattle.ledger_sheet.specs.Words.{answerWords, rowWords, reportAnswerWords, gapWords}
 use borrow.Author.Needs.{needs}
@@ -46,13 +46,13 @@ refused-requires : tie.Need-refused-requires
 refused-requires c κs = search needs
 
 returns : tie.Need-returns
-returns c = told (λ a. withNone 4 (reportAnswerWords a)) (c .before .answer .given .1) (search needs)
+returns c = told-few (λ a. withNone 4 (reportAnswerWords a)) (c .before .answer .given .1) (search needs)
 
 returns-2 : tie.Need-returns-2
-returns-2 c = told (λ a. withNone 4 (reportAnswerWords a)) (c .before .answer2 .given .1) (search needs)
+returns-2 c = told-few (λ a. withNone 4 (reportAnswerWords a)) (c .before .answer2 .given .1) (search needs)
 
 returns-3 : tie.Need-returns-3
-returns-3 c = told (λ a. withNone 4 (reportAnswerWords a)) (c .before .before .answer3 .given .1) (refused-whole 4 (c .before .before .answer3 .given .0 .0) (c .refused .ensures))
+returns-3 c = told-few (λ a. withNone 4 (reportAnswerWords a)) (c .before .before .answer3 .given .1) (refused-whole 4 (c .before .before .answer3 .given .0 .0) (c .refused .ensures))
 
 pub report-spec : {M : Type 1} → statement M
 report-spec =

@@ -26,8 +26,8 @@ wrong-requires c κs = search needs
 enum-told : tie.Need-enum-told
 enum-told c = search needs
 
-refused-requires : tie.Need-refused-requires
-refused-requires c κs = search needs
+wrong-requires-2 : tie.Need-wrong-requires-2
+wrong-requires-2 c κs = search needs
 
 returns : tie.Need-returns
 returns c = told wordsOf (c .before .before .found .given .1) (c .telemetry .ensures)
@@ -39,7 +39,7 @@ returns-3 : tie.Need-returns-3
 returns-3 c = told wordsOf (c .before .before .found3 .given .1) (c .wrong .ensures)
 
 returns-4 : tie.Need-returns-4
-returns-4 c = told wordsOf (c .before .enum-told .given .1) (c .refused .ensures)
+returns-4 c = told wordsOf (c .before .enum-told .given .1) (c .wrong2 .ensures)
 
 pub headers-spec : {M : Type 1} → statement M
 headers-spec =
@@ -52,7 +52,7 @@ headers-spec =
     enum-known-found-3
     wrong-requires
     enum-told
-    refused-requires
+    wrong-requires-2
     returns
     returns-2
     returns-3

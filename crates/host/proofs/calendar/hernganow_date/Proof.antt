@@ -18,8 +18,8 @@ date-of-requires c κs = search needs
 date-requires : tie.Need-date-requires
 date-requires c κs = search needs
 
-write-requires : tie.Need-write-requires
-write-requires c κs = search needs
+write-few-requires : tie.Need-write-few-requires
+write-few-requires c κs = search needs
 
 same-length : tie.Need-same-length
 same-length c = search needs
@@ -29,7 +29,7 @@ returns-2 c =
     let wrote = c .before .before in
     let told = wrote .before in
     let called = told .before .before in
-    written _ _ (called .before .if1 .left) (ap plain (called .date-of .ensures)) (told .date .ensures) (wrote .write .ensures)
+    written _ _ (called .before .if1 .left) (ap plain (called .date-of .ensures)) (told .date .ensures .same) (wrote .write-few .ensures)
 
 pub hernganow-date-spec : {M : Type 1} → statement M
 hernganow-date-spec =
@@ -39,6 +39,6 @@ hernganow-date-spec =
     returns
     date-of-requires
     date-requires
-    write-requires
+    write-few-requires
     same-length
     returns-2)

@@ -27,7 +27,7 @@ returns-2 c =
     let wrote = c .before .before in
     let told = wrote .before in
     let called = told .before .before in
-    written _ _ (called .before .if1 .left) (called .read-headers .ensures) (told .headers .ensures) (wrote .write .ensures)
+    written _ _ (called .before .if1 .left) (called .read-headers .ensures) (told .headers .ensures .0) (wrote .write .ensures)
 
 pub hernganow-read-headers-spec : {M : Type 1} → statement M
 hernganow-read-headers-spec =

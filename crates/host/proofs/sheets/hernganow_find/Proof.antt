@@ -20,8 +20,8 @@ find-requires c κs = search needs
 row-requires : tie.Need-row-requires
 row-requires c κs = search needs
 
-write-requires : tie.Need-write-requires
-write-requires c κs = search needs
+write-few-requires : tie.Need-write-few-requires
+write-few-requires c κs = search needs
 
 same-length : tie.Need-same-length
 same-length c = search needs
@@ -31,7 +31,7 @@ returns-2 c =
     let wrote = c .before .before in
     let told = wrote .before in
     let called = told .before .before in
-    written _ _ (called .before .if1 .left) (ap (λ (o : List ℕ × List ℕ). plain (o .0)) (called .find .ensures)) (told .row .ensures) (wrote .write .ensures)
+    written _ _ (called .before .if1 .left) (ap (λ (o : List ℕ × List ℕ). plain (o .0)) (called .find .ensures)) (told .row .ensures .same) (wrote .write-few .ensures)
 
 pub hernganow-find-spec : {M : Type 1} → statement M
 hernganow-find-spec =
@@ -41,6 +41,6 @@ hernganow-find-spec =
     returns
     find-requires
     row-requires
-    write-requires
+    write-few-requires
     same-length
     returns-2)

@@ -16,8 +16,8 @@ fresh-requires c κs = search needs
 answer-requires : tie.Need-answer-requires
 answer-requires c κs = search needs
 
-write-requires : tie.Need-write-requires
-write-requires c κs = search needs
+write-few-requires : tie.Need-write-few-requires
+write-few-requires c κs = search needs
 
 same-length : tie.Need-same-length
 same-length c = search needs
@@ -30,7 +30,7 @@ returns-2 c =
     let wrote = c .before .before in
     let told = wrote .before in
     let called = told .before .before .before .before in
-    written-on _ _ _ (called .before .before .if1 .left) (called .fresh .ensures) (told .answer .ensures) (wrote .write .ensures)
+    written-on _ _ _ (called .before .before .if1 .left) (called .fresh .ensures) (told .answer .ensures .same) (wrote .write-few .ensures)
 
 pub hernganow-fresh-spec : {M : Type 1} → statement M
 hernganow-fresh-spec =
@@ -40,7 +40,7 @@ hernganow-fresh-spec =
     returns
     fresh-requires
     answer-requires
-    write-requires
+    write-few-requires
     same-length
     same-length-2
     returns-2)

@@ -20,8 +20,8 @@ row-report-requires c κs = search needs
 report-requires : tie.Need-report-requires
 report-requires c κs = search needs
 
-write-requires : tie.Need-write-requires
-write-requires c κs = search needs
+write-few-requires : tie.Need-write-few-requires
+write-few-requires c κs = search needs
 
 same-length : tie.Need-same-length
 same-length c = search needs
@@ -31,7 +31,7 @@ returns-2 c =
     let wrote = c .before .before in
     let told = wrote .before in
     let called = told .before .before in
-    written _ _ (called .before .if1 .left) (ap (λ (o : List ℕ × List ℕ). withNone 4 (o .0)) (called .row-report .ensures)) (told .report .ensures) (wrote .write .ensures)
+    written _ _ (called .before .if1 .left) (ap (λ (o : List ℕ × List ℕ). withNone 4 (o .0)) (called .row-report .ensures)) (told .report .ensures .same) (wrote .write-few .ensures)
 
 pub hernganow-row-report-spec : {M : Type 1} → statement M
 hernganow-row-report-spec =
@@ -41,6 +41,6 @@ hernganow-row-report-spec =
     returns
     row-report-requires
     report-requires
-    write-requires
+    write-few-requires
     same-length
     returns-2)

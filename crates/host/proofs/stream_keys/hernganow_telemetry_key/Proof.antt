@@ -18,8 +18,8 @@ telemetry-key-requires c κs = search needs
 key-requires : tie.Need-key-requires
 key-requires c κs = search needs
 
-write-requires : tie.Need-write-requires
-write-requires c κs = search needs
+write-few-requires : tie.Need-write-few-requires
+write-few-requires c κs = search needs
 
 same-length : tie.Need-same-length
 same-length c = search needs
@@ -29,7 +29,7 @@ returns-2 c =
     let wrote = c .before .before in
     let told = wrote .before in
     let called = told .before .before in
-    written _ _ (called .before .if1 .left) (ap plain (called .telemetry-key .ensures)) (told .key .ensures) (wrote .write .ensures)
+    written _ _ (called .before .if1 .left) (ap plain (called .telemetry-key .ensures)) (told .key .ensures .same) (wrote .write-few .ensures)
 
 pub hernganow-telemetry-key-spec : {M : Type 1} → statement M
 hernganow-telemetry-key-spec =
@@ -39,6 +39,6 @@ hernganow-telemetry-key-spec =
     returns
     telemetry-key-requires
     key-requires
-    write-requires
+    write-few-requires
     same-length
     returns-2)
