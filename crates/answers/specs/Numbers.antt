@@ -7,16 +7,9 @@ use mathlib.Core.Path.{_≡_}
 use lib.Dec.{eqb}
 use lib.IntN.{ℤ, pos, negsuc}
 use lib.ListN.{length, getD, replicate}
-use Rattle.octets.specs.Octets.{bytesOf}
 use Rattle.sfdu_headers.specs.Words.{Word, number, signed, none}
 
--- "a lent slice of 256 bytes as 8-byte numbers"
-abbrev pub answerSize : ℕ
-answerSize = 256
-
-abbrev pub numberSize : ℕ
-numberSize = 8
-
+-- How many numbers an answer has.
 abbrev pub numberCount : ℕ
 numberCount = 32
 
@@ -37,11 +30,6 @@ valueOf none = allOnes
 -- The numbers of an answer's words.
 abbrev pub numbersOf : List Word → List ℕ
 numbersOf words = map valueOf words ++ replicate (numberCount - length words) 0
-
--- The numbers of an answer, big-endian, one behind the other.
-unfoldable pub answerBytes : List ℕ → List ℕ
-answerBytes [] = []
-answerBytes (n ∷ ns) = bytesOf numberSize n ++ answerBytes ns
 
 -- The words of an answer that no none stands in.
 abbrev pub plain : List ℕ → List Word

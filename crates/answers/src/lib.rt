@@ -7,14 +7,11 @@ pub mod records;
 use dates::DateAnswer;
 use keys::KeyAnswer;
 use refusals::Refusal;
-ghost use mathlib.Core.Path.{_≡_};
 ghost use mathlib.Core.List.{[], _∷_};
-ghost use Prim.Native.Nat.{_*_, _<_};
-ghost use lib.ListN.{length, getD};
 ghost use Rattle.refusals.specs.Table.{numberOf};
 ghost use Rattle.dates.specs.Answers as Dates;
 ghost use Rattle.keys.specs.Words as Keys;
-ghost use Rattle.answers.specs.Numbers.{answerSize, numbersOf, plain, answerBytes, Few};
+ghost use Rattle.answers.specs.Numbers.{plain, Few};
 
 // How many numbers an answer has, and how many bytes each.
 pub const NUMBERS: usize = 32;

@@ -8,8 +8,8 @@ use lib.ListN.{length}
 use Rattle.refusals.specs.Table.{numberOf}
 use Rattle.refusals.specs.declared.Refusal.the-variants.{AnswerLength}
 use Rattle.sfdu_headers.specs.Words.{Word}
-use Rattle.answers.specs.Numbers.{answerSize, numbersOf, plain}
-use Rattle.host.specs.Exported.{exported, exportedOn, told, Written}
+use Rattle.answers.specs.Numbers.{numbersOf, plain}
+use Rattle.host.specs.Exported.{answerSize, exported, exportedOn, told, Written}
 
 pub unwritten : {r : ℕ} (words : List Word) (answer : List ℕ) → length answer ≢ answerSize → r ≡ numberOf AnswerLength → (r, answer) ≡ exported words answer
 unfolding exported

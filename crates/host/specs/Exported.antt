@@ -3,14 +3,27 @@
 -- Assumes nothing.
 use Prim.Native.Nat.{ℕ}
 use mathlib.Core.Bool.{cond}
-use mathlib.Core.List.{List}
+use mathlib.Core.List.{List, [], _∷_, _++_}
 use mathlib.Core.Path.{_≡_}
 use lib.Dec.{eqb}
 use lib.ListN.{length, getD}
+use Rattle.octets.specs.Octets.{bytesOf}
 use Rattle.refusals.specs.Table.{numberOf}
 use Rattle.refusals.specs.declared.Refusal.the-variants.{AnswerLength}
 use Rattle.sfdu_headers.specs.Words.{Word}
-use Rattle.answers.specs.Numbers.{answerSize, numbersOf, answerBytes, plain}
+use Rattle.answers.specs.Numbers.{numbersOf, plain}
+
+-- "a lent slice of 256 bytes as 8-byte numbers"
+abbrev pub answerSize : ℕ
+answerSize = 256
+
+abbrev pub numberSize : ℕ
+numberSize = 8
+
+-- The numbers of an answer, big-endian, one behind the other.
+unfoldable pub answerBytes : List ℕ → List ℕ
+answerBytes [] = []
+answerBytes (n ∷ ns) = bytesOf numberSize n ++ answerBytes ns
 
 -- What is returned and left in the answer's slice where these are all the numbers of the answer.
 abbrev pub Written : ℕ → (left numbers : List ℕ) → Type 0

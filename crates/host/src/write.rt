@@ -13,8 +13,8 @@ ghost use lib.ListN.{length, getD, replicate};
 ghost use Rattle.octets.specs.Octets.{put};
 ghost use Rattle.refusals.specs.Table.{numberOf};
 ghost use Rattle.refusals.specs.declared.Refusal.the-variants.{AnswerLength};
-ghost use Rattle.answers.specs.Numbers.{answerSize, numberSize, numberCount, fewCount, answerBytes};
-ghost use Rattle.host.specs.Exported.{Written};
+ghost use Rattle.answers.specs.Numbers.{numberCount, fewCount};
+ghost use Rattle.host.specs.Exported.{answerSize, numberSize, answerBytes, Written};
 
 // The bytes of a few numbers.
 const FEW_BYTES: usize = NUMBER * FEW;

@@ -3,7 +3,8 @@ use Prim.Native.Nat.{ℕ, _*_}
 use mathlib.Core.Path.{refl, sym, ap, _∙_}
 use mir.Syntax.{w64}
 use borrow.Kind.Array.{eInt, good-length}
-use Rattle.answers.specs.Numbers.{numberSize, numberCount}
+use Rattle.answers.specs.Numbers.{numberCount}
+use Rattle.host.specs.Exported.{numberSize}
 use Rattle.host.proofs.Bytes.{put-whole}
 use borrow.Author.Needs.{needs}
 use Rattle.host.proofs.write.write.Statement.{statement}

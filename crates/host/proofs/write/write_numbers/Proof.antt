@@ -7,7 +7,7 @@ use lib.ListN.{length, take, getD}
 use lib.Seq.{take-length}
 use Rattle.octets.specs.Octets.{put, bytesOf}
 use Rattle.octets.proofs.Laws.{put-none, length-put, length-bytesOf}
-use Rattle.answers.specs.Numbers.{numberSize, answerBytes}
+use Rattle.host.specs.Exported.{numberSize, answerBytes}
 use Rattle.host.proofs.Bytes.{put-more}
 use Rattle.host.proofs.write.write_numbers.Statement.{statement}
 use Rattle.host.proofs.write.write_numbers.Tie as tie
