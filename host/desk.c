@@ -21,8 +21,9 @@ struct record {
 
 static const char usage[] =
     "usage: desk SHEET DESK STREAM\n"
-    "Ticks the records of a stream file off in the ledger sheet SHEET at desk DESK (0 to 7): a line for each record, with its key,\n"
-    "number, date, what was done and how many saves were stale, and at the end where the stream stopped and the first gap. A SHEET that is not there is begun.\n";
+    "Ticks the records of a stream file off in the ledger sheet SHEET at desk DESK (0 to 7): a line for each record, with its place, key,\n"
+    "number, date, what was done and how many saves were stale, and at the end where the stream stopped and the first gap. A SHEET\n"
+    "that is not there is begun.\n";
 
 static uint8_t answer[HERNGANOW_ANSWER];
 

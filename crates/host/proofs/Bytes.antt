@@ -12,17 +12,17 @@ use Rattle.octets.proofs.Puts.{put-start, put-next}
 use Rattle.answers.specs.Numbers.{numberCount, fewCount}
 use Rattle.host.specs.Exported.{answerSize, numberSize, answerBytes}
 
-pub length-answer : (ns : List ℕ) → length (answerBytes ns) ≡ numberSize * length ns
-unfolding answerBytes
-length-answer [] = refl
-length-answer (n ∷ ns) =
-    length-append (bytesOf numberSize n) (answerBytes ns) ∙ omega (arith, length-bytesOf numberSize n, length-answer ns)
-
 -- one number more
 pub answer-more : (ns : List ℕ) (n : ℕ) → answerBytes (ns ++ n ∷ []) ≡ answerBytes ns ++ bytesOf numberSize n
 unfolding answerBytes
 answer-more [] n = append-nil (bytesOf numberSize n)
 answer-more (m ∷ ns) n = ap (λ (l : List ℕ). bytesOf numberSize m ++ l) (answer-more ns n) ∙ sym (append-assoc (bytesOf numberSize m) _ _)
+
+pub length-answer : (ns : List ℕ) → length (answerBytes ns) ≡ numberSize * length ns
+unfolding answerBytes
+length-answer [] = refl
+length-answer (n ∷ ns) =
+    length-append (bytesOf numberSize n) (answerBytes ns) ∙ omega (arith, length-bytesOf numberSize n, length-answer ns)
 
 -- the bytes of the first i numbers put in, and those of the next behind them
 pub put-more : {s t : List ℕ} (s₀ ns : List ℕ) (i : ℕ) → s ≡ put s₀ 0 (answerBytes (take i ns)) → t ≡ put s (numberSize * i) (bytesOf numberSize (getD ns i 0))

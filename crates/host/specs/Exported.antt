@@ -37,11 +37,9 @@ returned words = getD (numbersOf words) 0 0
 unfoldable pub exported : (words : List Word) (answer : List ℕ) → ℕ × List ℕ
 exported words answer = cond (eqb (length answer) answerSize) (returned words, answerBytes (numbersOf words)) (numberOf AnswerLength, answer)
 
--- A call that promises words and a slice as it is left: what is returned, the answer's slice, and that slice.
-unfoldable pub exportedOn : (outcome : List Word × List ℕ) (answer lent : List ℕ) → ℕ × List ℕ × List ℕ
-exportedOn outcome answer lent =
-    cond (eqb (length answer) answerSize) (returned (outcome .0), answerBytes (numbersOf (outcome .0)), outcome .1) (numberOf AnswerLength, answer, lent)
-
--- The words of the ledger's calls on a sheet, none of which is a none.
-abbrev pub told : List ℕ × List ℕ → List Word × List ℕ
-told outcome = (plain (outcome .0), outcome .1)
+-- A call that changes a lent slice, and promises the words of its answer, none of which is a none, and the slice as it is left: what is
+-- returned, the answer's slice, and that slice.
+unfoldable pub exportedOn : (promised : List ℕ → List ℕ × List ℕ) (answer lent : List ℕ) → ℕ × List ℕ × List ℕ
+exportedOn promised answer lent =
+    let words = plain (promised lent .0) in
+    cond (eqb (length answer) answerSize) (returned words, answerBytes (numbersOf words), promised lent .1) (numberOf AnswerLength, answer, lent)

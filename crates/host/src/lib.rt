@@ -4,4 +4,4 @@ pub mod calendar;
 pub mod records;
 pub mod sheets;
 pub mod stream_keys;
-pub mod write;
+mod write;

@@ -8,12 +8,12 @@ ghost use Rattle.ledger_model.specs.Step.{Enrol, Ask, Find, RowReport, FirstGap
 ghost use Rattle.ledger_layout.specs.Layout.{call, onSheet, freshOn};
 ghost use Rattle.ledger_convert.specs.Convert.{convertOn};
 ghost use Rattle.answers.specs.Numbers.{plain, withNone};
-ghost use Rattle.host.specs.Exported.{exported, exportedOn, told};
+ghost use Rattle.host.specs.Exported.{exported, exportedOn};
 
 // Makes the slice a fresh sheet.
 #[no_mangle]
 pub extern "C" fn hernganow_fresh(sheet: &mut [u8], answer: &mut [u8]) -> u32
-    ensures { λ r. ⌜ (r, now (answer .exit), now (sheet .exit)) ≡ exportedOn (told (freshOn (now (sheet .entry)))) (now (answer .entry)) (now (sheet .entry)) ⌝ }
+    ensures { λ r. ⌜ (r, now (answer .exit), now (sheet .exit)) ≡ exportedOn freshOn (now (answer .entry)) (now (sheet .entry)) ⌝ }
 {
     if answer.len() != ANSWER {
         return unwritten();
@@ -25,7 +25,7 @@ pub extern "C" fn hernganow_fresh(sheet: &mut [u8], answer: &mut [u8]) -> u32
 // Enrols a stream.
 #[no_mangle]
 pub extern "C" fn hernganow_enrol(sheet: &mut [u8], key: u64, first: u32, answer: &mut [u8]) -> u32
-    ensures { λ r. ⌜ (r, now (answer .exit), now (sheet .exit)) ≡ exportedOn (told (onSheet (call (Enrol key first)) (now (sheet .entry)))) (now (answer .entry)) (now (sheet .entry)) ⌝ }
+    ensures { λ r. ⌜ (r, now (answer .exit), now (sheet .exit)) ≡ exportedOn (onSheet (call (Enrol key first))) (now (answer .entry)) (now (sheet .entry)) ⌝ }
 {
     if answer.len() != ANSWER {
         return unwritten();
@@ -49,7 +49,7 @@ pub extern "C" fn hernganow_find(sheet: &[u8], key: u64, answer: &mut [u8]) -> u
 // Opens a row at a desk.
 #[no_mangle]
 pub extern "C" fn hernganow_open(sheet: &mut [u8], desk: u32, row: u32, answer: &mut [u8]) -> u32
-    ensures { λ r. ⌜ (r, now (answer .exit), now (sheet .exit)) ≡ exportedOn (told (onSheet (call (Open desk row)) (now (sheet .entry)))) (now (answer .entry)) (now (sheet .entry)) ⌝ }
+    ensures { λ r. ⌜ (r, now (answer .exit), now (sheet .exit)) ≡ exportedOn (onSheet (call (Open desk row))) (now (answer .entry)) (now (sheet .entry)) ⌝ }
 {
     if answer.len() != ANSWER {
         return unwritten();
@@ -61,7 +61,7 @@ pub extern "C" fn hernganow_open(sheet: &mut [u8], desk: u32, row: u32, answer: 
 // Ticks a number.
 #[no_mangle]
 pub extern "C" fn hernganow_tick(sheet: &mut [u8], desk: u32, number: u32, answer: &mut [u8]) -> u32
-    ensures { λ r. ⌜ (r, now (answer .exit), now (sheet .exit)) ≡ exportedOn (told (onSheet (call (Tick desk number)) (now (sheet .entry)))) (now (answer .entry)) (now (sheet .entry)) ⌝ }
+    ensures { λ r. ⌜ (r, now (answer .exit), now (sheet .exit)) ≡ exportedOn (onSheet (call (Tick desk number))) (now (answer .entry)) (now (sheet .entry)) ⌝ }
 {
     if answer.len() != ANSWER {
         return unwritten();
@@ -78,7 +78,7 @@ pub extern "C" fn hernganow_untick(
     number: u32,
     answer: &mut [u8],
 ) -> u32
-    ensures { λ r. ⌜ (r, now (answer .exit), now (sheet .exit)) ≡ exportedOn (told (onSheet (call (Untick desk number)) (now (sheet .entry)))) (now (answer .entry)) (now (sheet .entry)) ⌝ }
+    ensures { λ r. ⌜ (r, now (answer .exit), now (sheet .exit)) ≡ exportedOn (onSheet (call (Untick desk number))) (now (answer .entry)) (now (sheet .entry)) ⌝ }
 {
     if answer.len() != ANSWER {
         return unwritten();
@@ -90,7 +90,7 @@ pub extern "C" fn hernganow_untick(
 // Saves what a desk has worked on.
 #[no_mangle]
 pub extern "C" fn hernganow_save(sheet: &mut [u8], desk: u32, answer: &mut [u8]) -> u32
-    ensures { λ r. ⌜ (r, now (answer .exit), now (sheet .exit)) ≡ exportedOn (told (onSheet (call (Save desk)) (now (sheet .entry)))) (now (answer .entry)) (now (sheet .entry)) ⌝ }
+    ensures { λ r. ⌜ (r, now (answer .exit), now (sheet .exit)) ≡ exportedOn (onSheet (call (Save desk))) (now (answer .entry)) (now (sheet .entry)) ⌝ }
 {
     if answer.len() != ANSWER {
         return unwritten();
@@ -102,7 +102,7 @@ pub extern "C" fn hernganow_save(sheet: &mut [u8], desk: u32, answer: &mut [u8])
 // Drops what a desk has open.
 #[no_mangle]
 pub extern "C" fn hernganow_drop(sheet: &mut [u8], desk: u32, answer: &mut [u8]) -> u32
-    ensures { λ r. ⌜ (r, now (answer .exit), now (sheet .exit)) ≡ exportedOn (told (onSheet (call (Drop desk)) (now (sheet .entry)))) (now (answer .entry)) (now (sheet .entry)) ⌝ }
+    ensures { λ r. ⌜ (r, now (answer .exit), now (sheet .exit)) ≡ exportedOn (onSheet (call (Drop desk))) (now (answer .entry)) (now (sheet .entry)) ⌝ }
 {
     if answer.len() != ANSWER {
         return unwritten();
@@ -114,7 +114,7 @@ pub extern "C" fn hernganow_drop(sheet: &mut [u8], desk: u32, answer: &mut [u8])
 // Strikes a row.
 #[no_mangle]
 pub extern "C" fn hernganow_strike(sheet: &mut [u8], row: u32, answer: &mut [u8]) -> u32
-    ensures { λ r. ⌜ (r, now (answer .exit), now (sheet .exit)) ≡ exportedOn (told (onSheet (call (Strike row)) (now (sheet .entry)))) (now (answer .entry)) (now (sheet .entry)) ⌝ }
+    ensures { λ r. ⌜ (r, now (answer .exit), now (sheet .exit)) ≡ exportedOn (onSheet (call (Strike row))) (now (answer .entry)) (now (sheet .entry)) ⌝ }
 {
     if answer.len() != ANSWER {
         return unwritten();
@@ -150,7 +150,7 @@ pub extern "C" fn hernganow_first_gap(sheet: &[u8], answer: &mut [u8]) -> u32
 // Makes the slice a new sheet of an old one.
 #[no_mangle]
 pub extern "C" fn hernganow_convert(old: &[u8], sheet: &mut [u8], answer: &mut [u8]) -> u32
-    ensures { λ r. ⌜ (r, now (answer .exit), now (sheet .exit)) ≡ exportedOn (told (convertOn (now (old .entry)) (now (sheet .entry)))) (now (answer .entry)) (now (sheet .entry)) ⌝ }
+    ensures { λ r. ⌜ (r, now (answer .exit), now (sheet .exit)) ≡ exportedOn (convertOn (now (old .entry))) (now (answer .entry)) (now (sheet .entry)) ⌝ }
 {
     if answer.len() != ANSWER {
         return unwritten();

@@ -31,13 +31,17 @@ refused-requires : tie.Need-refused-requires
 refused-requires c κs = search needs
 
 returns : tie.Need-returns
-returns c = told-few (λ a. withNone 3 (gapWords a)) (c .before .enum-told .given .1) (record { same = c .gap-at .ensures .same; small = c .gap-at .ensures .small })
+returns c =
+    let words = c .before .enum-told .given .1 in
+    told-few (λ a. withNone 3 (gapWords a)) words (record { same = c .gap-at .ensures .same; small = c .gap-at .ensures .small })
 
 returns-2 : tie.Need-returns-2
 returns-2 c = told-few (λ a. withNone 3 (gapWords a)) (c .before .before .answer .given .1) (c .gap-at2 .ensures)
 
 returns-3 : tie.Need-returns-3
-returns-3 c = told-few (λ a. withNone 3 (gapWords a)) (c .before .before .answer2 .given .1) (refused-whole 3 (c .before .before .answer2 .given .0 .0) (c .refused .ensures))
+returns-3 c =
+    let words = c .before .before .answer2 .given .1 in
+    told-few (λ a. withNone 3 (gapWords a)) words (refused-whole 3 (c .before .before .answer2 .given .0 .0) (c .refused .ensures))
 
 pub gap-spec : {M : Type 1} → statement M
 gap-spec =

@@ -52,7 +52,9 @@ returns-2 : tie.Need-returns-2
 returns-2 c = told-few (λ a. withNone 4 (reportAnswerWords a)) (c .before .answer2 .given .1) (search needs)
 
 returns-3 : tie.Need-returns-3
-returns-3 c = told-few (λ a. withNone 4 (reportAnswerWords a)) (c .before .before .answer3 .given .1) (refused-whole 4 (c .before .before .answer3 .given .0 .0) (c .refused .ensures))
+returns-3 c =
+    let words = c .before .before .answer3 .given .1 in
+    told-few (λ a. withNone 4 (reportAnswerWords a)) words (refused-whole 4 (c .before .before .answer3 .given .0 .0) (c .refused .ensures))
 
 pub report-spec : {M : Type 1} → statement M
 report-spec =

@@ -31,7 +31,8 @@ returns-2 c =
     let wrote = c .before .before in
     let told = wrote .before in
     let called = told .before .before in
-    written _ _ (called .before .if1 .left) (ap (λ (o : List ℕ × List ℕ). plain (o .0)) (called .find .ensures)) (told .row .ensures .same) (wrote .write-few .ensures)
+    let words = ap (λ (o : List ℕ × List ℕ). plain (o .0)) (called .find .ensures) in
+    written _ _ (called .before .if1 .left) words (told .row .ensures .same) (wrote .write-few .ensures)
 
 pub hernganow-find-spec : {M : Type 1} → statement M
 hernganow-find-spec =

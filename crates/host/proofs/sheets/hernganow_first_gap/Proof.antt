@@ -31,7 +31,8 @@ returns-2 c =
     let wrote = c .before .before in
     let told = wrote .before in
     let called = told .before .before in
-    written _ _ (called .before .if1 .left) (ap (λ (o : List ℕ × List ℕ). withNone 3 (o .0)) (called .first-gap .ensures)) (told .gap .ensures .same) (wrote .write-few .ensures)
+    let words = ap (λ (o : List ℕ × List ℕ). withNone 3 (o .0)) (called .first-gap .ensures) in
+    written _ _ (called .before .if1 .left) words (told .gap .ensures .same) (wrote .write-few .ensures)
 
 pub hernganow-first-gap-spec : {M : Type 1} → statement M
 hernganow-first-gap-spec =

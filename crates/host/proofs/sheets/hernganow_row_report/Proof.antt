@@ -31,7 +31,8 @@ returns-2 c =
     let wrote = c .before .before in
     let told = wrote .before in
     let called = told .before .before in
-    written _ _ (called .before .if1 .left) (ap (λ (o : List ℕ × List ℕ). withNone 4 (o .0)) (called .row-report .ensures)) (told .report .ensures .same) (wrote .write-few .ensures)
+    let words = ap (λ (o : List ℕ × List ℕ). withNone 4 (o .0)) (called .row-report .ensures) in
+    written _ _ (called .before .if1 .left) words (told .report .ensures .same) (wrote .write-few .ensures)
 
 pub hernganow-row-report-spec : {M : Type 1} → statement M
 hernganow-row-report-spec =

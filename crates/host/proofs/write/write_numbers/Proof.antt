@@ -17,7 +17,8 @@ unfolding answerBytes
 start s = put-none s 0
 
 abbrev Inv-loop : tie.InvT-loop
-Inv-loop answer₀ numbers i₀ i-end answer i = (i ≤ length numbers) × (i-end ≡ length numbers) × (answer ≡ put answer₀ 0 (answerBytes (take i numbers))) × (length answer ≡ length answer₀)
+Inv-loop answer₀ numbers i₀ i-end answer i =
+    (i ≤ length numbers) × (i-end ≡ length numbers) × (answer ≡ put answer₀ 0 (answerBytes (take i numbers))) × (length answer ≡ length answer₀)
 
 abbrev μ-loop : tie.MeasureT-loop
 μ-loop answer₀ numbers i₀ i-end answer i = length numbers - i
