@@ -1,0 +1,10 @@
+pub mod Values
+pub mod Runs
+pub mod Unpacking
+pub mod Packed
+pub mod Table
+pub mod Parts
+pub mod Judged
+pub mod Again
+pub mod RoundTrip
+pub mod Examples

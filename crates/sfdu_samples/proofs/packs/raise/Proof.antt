@@ -1,0 +1,53 @@
+-- `sfdu_samples::packs::raise` meets its contract: by the number's sign. Assumes nothing.
+use Prim.Native.Nat.{suc, _<_}
+use native.Mathlib.Omega.{arith}
+use mathlib.Core.Path.{_≡_, refl}
+use borrow.Author.Needs.{needs, sfits-of}
+use borrow.Author.Tests.{le-ltb}
+use lib.IntN.{ℤ, pos, negsuc, _+ℤ_}
+use mir.Syntax.{w32, w64}
+use mir.Val.{SFits}
+use mir.ValLaws.{toZ-pos, toZ-ofZ}
+use Rattle.sfdu_samples.specs.Inner.{raised}
+use Rattle.sfdu_samples.proofs.packs.raise.Statement.{statement}
+use Rattle.sfdu_samples.proofs.packs.raise.Tie as tie
+
+wide : (z : ℤ) → SFits w32 z → SFits w64 z
+wide z f = sfits-of (omega (arith, f .sfits))
+
+sum : (z : ℤ) → SFits w32 z → z +ℤ pos 2147483648 ≡ pos (raised z)
+unfolding raised
+sum (pos n) f = refl
+sum (negsuc n) f = let l = f .sfits in rw (le-ltb 2147483648 (suc n) (omega arith))
+
+small : (z : ℤ) → SFits w32 z → raised z < 4294967296
+unfolding raised
+small (pos n) f = omega (arith, f .sfits)
+small (negsuc n) f = omega arith
+
+cast-result : tie.Need-cast-result
+cast-result c = rw (toZ-ofZ w32 (c .args .z) (c .fits .z)) (wide _ (c .fits .z))
+
+cast-result-2 : tie.Need-cast-result-2
+cast-result-2 c = search needs
+
+add-result : tie.Need-add-result
+add-result c =
+    let z = c .args .z in
+    let f = c .fits .z in
+    rw (toZ-ofZ w32 z f, toZ-ofZ w64 z (wide z f), sum z f) (sfits-of (omega (arith, small z f)))
+
+cast-result-3 : tie.Need-cast-result-3
+cast-result-3 c =
+    let z = c .args .z in
+    let f = c .fits .z in
+    rw (toZ-ofZ w32 z f, toZ-ofZ w64 z (wide z f), sum z f, toZ-pos w64 (raised z) (omega (arith, small z f))) (tt, omega (arith, small z f))
+
+returns : tie.Need-returns
+returns c =
+    let z = c .args .z in
+    let f = c .fits .z in
+    rw (toZ-ofZ w32 z f, toZ-ofZ w64 z (wide z f), sum z f, toZ-pos w64 (raised z) (omega (arith, small z f)))
+
+pub raise-spec : {M : Type 1} → statement M
+raise-spec = tie.close (tie.spec cast-result cast-result-2 add-result cast-result-3 returns)

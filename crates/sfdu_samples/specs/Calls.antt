@@ -1,0 +1,67 @@
+-- Document 02, Req 08: what the calls refuse, what they answer, and what the lent list holds after them. Assumes nothing.
+use Prim.Native.Nat.{ℕ, _%_}
+use mathlib.Core.Bool.{not}
+use mathlib.Core.List.{List, [], _∷_, _++_}
+use lib.Dec.{eqb, ltb}
+use lib.IntN.{ℤ}
+use lib.ListN.{length, drop}
+use Rattle.refusals.specs.Judge.{Rule, _when_, judge}
+use Rattle.refusals.specs.Table.{numberOf}
+use Rattle.sfdu.specs.Read.{faultWords, dataPart}
+use Rattle.sfdu_headers.specs.Fields.{byteAt, fieldAt}
+use Rattle.sfdu_rsr.specs.Record.{only, rsrRules}
+use Rattle.sfdu_samples.specs.declared.Answer.{Answer}
+use Rattle.sfdu_samples.specs.declared.Answer.the-variants.{Count, Header, Refused}
+use Rattle.sfdu_samples.specs.Rates.{isListed}
+use Rattle.sfdu_samples.specs.Packing.{perWord, unpacked, packed, allCoded}
+
+-- An answer in words: 0 and the count, or the refusal's number, with the number that goes with it where one does.
+abbrev pub wordsOf : Answer → List ℕ
+wordsOf (Count n) = 0 ∷ n ∷ []
+wordsOf (Header f) = faultWords f
+wordsOf (Refused r) = only (numberOf r)
+
+-- A list with xs at its start; the rest stays.
+abbrev pub fills : {A : Type 0} → List A → List A → List A
+fills xs old = xs ++ drop (length xs) old
+
+-- A call that writes xs into a lent list, unless a rule refuses it: the answer, and the list after it.
+abbrev pub writes : {A : Type 0} → List (Rule (List ℕ)) → (xs old : List A) → List ℕ × List A
+writes rules xs old = judge (λ refusal. (refusal, old)) rules (0 ∷ length xs ∷ [], fills xs old)
+
+-- ---- unpack
+
+-- Document 004, section 3.5, of a record s: "Sample resolution in bits per data sample", "Sample rate in Kilo-samples per second".
+abbrev pub sizeOf : List ℕ → ℕ
+sizeOf s = byteAt s 36
+
+abbrev pub rateOf : List ℕ → ℕ
+rateOf s = fieldAt s 38 2
+
+-- Of a data part d of that size and rate.
+abbrev pub dataRules : (size rate : ℕ) → List ℕ → List ℤ → List (Rule (List ℕ))
+dataRules size rate d old =
+    (only 19 when not (isListed size rate))
+    ∷ (only 34 when not (eqb (length d % 4) 0))
+    ∷ (only 35 when ltb (length old) (length (unpacked size d)))
+    ∷ []
+
+-- Read headers' refusals for kind 2, then 19, 34, 35.
+abbrev pub unpackRules : List ℕ → List ℤ → List (Rule (List ℕ))
+unpackRules s old = rsrRules s ++ dataRules (sizeOf s) (rateOf s) (dataPart s) old
+
+unfoldable pub unpacking : List ℕ → List ℤ → List ℕ × List ℤ
+unpacking s old = writes (unpackRules s old) (unpacked (sizeOf s) (dataPart s)) old
+
+-- ---- pack
+
+abbrev pub packRules : (size rate : ℕ) → List ℤ → List ℕ → List (Rule (List ℕ))
+packRules size rate xs old =
+    (only 19 when not (isListed size rate))
+    ∷ (only 34 when not (eqb (length xs % perWord size) 0))
+    ∷ (only 37 when not (allCoded size xs))
+    ∷ (only 35 when ltb (length old) (length (packed size xs)))
+    ∷ []
+
+unfoldable pub packing : (size rate : ℕ) → List ℤ → List ℕ → List ℕ × List ℕ
+packing size rate xs old = writes (packRules size rate xs old) (packed size xs) old

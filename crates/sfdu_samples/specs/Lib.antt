@@ -1,0 +1,5 @@
+pub mod Rates
+pub mod Packing
+pub mod Calls
+pub mod Inner
+pub mod RoundTrip

@@ -1,0 +1,29 @@
+-- Document 02, Req 08, the round trip: "Unpacking then packing gives the same data part", and the other way. For every listed
+-- size; the statements speak of what the contracts of unpack and pack cite. Assumes nothing.
+use Prim.Native.Nat.{ℕ, _≤_, _<_}
+use mathlib.Core.Bool.{true}
+use mathlib.Core.List.{List, [], _∷_}
+use mathlib.Core.Path.{_≡_}
+use lib.IntN.{ℤ}
+use lib.ListN.{length, getD, take}
+use Rattle.refusals.specs.Judge.{noneApplies}
+use Rattle.sfdu.specs.Read.{dataPart}
+use Rattle.sfdu_rsr.specs.Record.{rsrRules}
+use Rattle.sfdu_samples.specs.Calls.{fills, sizeOf, rateOf, unpacking, packing}
+
+-- Where unpack answers N, pack makes of the list's first N numbers, with the record's size and rate, the record's data part, in any
+-- slice that has room for it.
+abbrev pub UnpackedPacksAgain : Type 0
+UnpackedPacksAgain =
+    (s : List ℕ) → ((i : ℕ) → getD s i 0 < 256) → (list : List ℤ) (n : ℕ) → unpacking s list .0 ≡ 0 ∷ n ∷ []
+    → (out : List ℕ) → length (dataPart s) ≤ length out
+    → packing (sizeOf s) (rateOf s) (take n (unpacking s list .1)) out ≡ (0 ∷ length (dataPart s) ∷ [], fills (dataPart s) out)
+
+-- Where pack answers N, unpack finds the same numbers in every record that read headers accepts, that has that size and rate and
+-- those first N bytes for its data part, in any list that has room for them.
+abbrev pub PackedUnpacksAgain : Type 0
+PackedUnpacksAgain =
+    (s : List ℕ) → noneApplies (rsrRules s) ≡ true
+    → (xs : List ℤ) (out : List ℕ) (n : ℕ) → packing (sizeOf s) (rateOf s) xs out .0 ≡ 0 ∷ n ∷ []
+    → dataPart s ≡ take n (packing (sizeOf s) (rateOf s) xs out .1)
+    → (list : List ℤ) → length xs ≤ length list → unpacking s list ≡ (0 ∷ length xs ∷ [], fills xs list)
