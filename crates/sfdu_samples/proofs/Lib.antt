@@ -8,3 +8,4 @@ pub mod Judged
 pub mod Again
 pub mod RoundTrip
 pub mod Examples
+pub mod Words

@@ -1,0 +1,94 @@
+// The sub-channel gain multiplier of an RSR record (document 02, Req 14): for an edition, and for the edition that the mission's
+// agreement has on the record's day.
+ghost use mathlib.Core.Path.{_≡_};
+ghost use mathlib.Core.List.{[], _∷_};
+ghost use Prim.Native.Nat.{_≤_};
+ghost use lib.ListN.{length};
+ghost use Rattle.sfdu.specs.declared.Kind.the-variants.{Rsr as RsrKind};
+ghost use Rattle.sfdu.specs.Nesting.{dataValueAt};
+ghost use Rattle.sfdu_headers.specs.Words.{number};
+ghost use Rattle.sfdu_gain.specs.Gain.{wordsOf, gainOf, gaining, agreedGain};
+ghost use Rattle.sfdu_gain.specs.Inner.{toldGain};
+use octets::read_u32;
+use refusals::Refusal;
+use settings::Asked;
+use settings::NEW;
+use settings::ask;
+use settings::is_known;
+use sfdu::Fault;
+use sfdu::SECONDARY_AT;
+use sfdu_rsr::Rsr;
+use sfdu_rsr::read_rsr;
+
+// The multiplier's four bytes as one number; none in the old edition; or a refusal, read headers' 1 to 12 with the number that goes
+// with them.
+pub enum GainAnswer {
+    Multiplier(u32),
+    Nothing,
+    Header(Fault),
+    Refused(Refusal),
+}
+
+// Where it stands, from the record's start.
+const GAIN_AT: usize = SECONDARY_AT + 208;
+
+pub fn gain(s: &[u8], edition: u32) -> GainAnswer
+    ensures { λ r. ⌜ wordsOf r ≡ gaining edition (now (s .entry)) ⌝ }
+{
+    let found = read_rsr(s);
+    match found {
+        Rsr::Record {
+            size: _,
+            mission: _,
+            day_count: _,
+        } => {
+            if !is_known(edition) {
+                return GainAnswer::Refused(Refusal::UnknownEdition);
+            }
+            gain_in(s, edition)
+        }
+        Rsr::Refused(f) => GainAnswer::Header(f),
+        Rsr::WrongKind => GainAnswer::Refused(Refusal::WrongKind),
+    }
+}
+
+// With the edition of the setting for the record's mission on its day.
+pub fn agreed_gain(sheet: &[u8], s: &[u8]) -> GainAnswer
+    ensures { λ r. ⌜ wordsOf r ≡ agreedGain (now (sheet .entry)) (now (s .entry)) ⌝ }
+{
+    let found = read_rsr(s);
+    match found {
+        Rsr::Record {
+            size: _,
+            mission,
+            day_count,
+        } => told_gain(s, ask(sheet, mission, day_count)),
+        Rsr::Refused(f) => GainAnswer::Header(f),
+        Rsr::WrongKind => GainAnswer::Refused(Refusal::WrongKind),
+    }
+}
+
+fn told_gain(s: &[u8], asked: Asked) -> GainAnswer
+    requires { ⌜ dataValueAt RsrKind ≤ length (now s) ⌝ }
+    ensures { λ r. ⌜ wordsOf r ≡ toldGain asked (now (s .entry)) ⌝ }
+{
+    match asked {
+        Asked::Given {
+            edition,
+            day: _,
+            frame: _,
+        } => gain_in(s, edition),
+        Asked::Refused(why) => GainAnswer::Refused(why),
+    }
+}
+
+// Of a whole RSR record, in an edition that there is.
+fn gain_in(s: &[u8], edition: u32) -> GainAnswer
+    requires { ⌜ dataValueAt RsrKind ≤ length (now s) ⌝ }
+    ensures { λ r. ⌜ wordsOf r ≡ number 0 ∷ gainOf edition (now (s .entry)) ∷ [] ⌝ }
+{
+    if edition == NEW {
+        return GainAnswer::Multiplier(read_u32(s, GAIN_AT));
+    }
+    GainAnswer::Nothing
+}

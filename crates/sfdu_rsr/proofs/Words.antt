@@ -1,0 +1,17 @@
+-- Different answers have different words. Assumes nothing.
+use mathlib.Core.Path.{_≡_, refl, ap}
+use Rattle.sfdu.proofs.Words.{same-fault}
+use Rattle.sfdu_rsr.specs.declared.Rsr.{Rsr}
+use Rattle.sfdu_rsr.specs.declared.Rsr.the-variants.{Record, Refused, WrongKind}
+use Rattle.sfdu_rsr.specs.Record.{wordsOf}
+
+pub same-rsr : (a b : Rsr) → wordsOf a ≡ wordsOf b → a ≡ b
+same-rsr (Record n m d) (Record o p q) e = cc
+same-rsr (Record n m d) (Refused f) e = cc
+same-rsr (Record n m d) WrongKind e = cc
+same-rsr (Refused f) (Record n m d) e = cc
+same-rsr (Refused f) (Refused g) e = ap Refused (same-fault f g e)
+same-rsr (Refused f) WrongKind e = cc
+same-rsr WrongKind (Record n m d) e = cc
+same-rsr WrongKind (Refused f) e = cc
+same-rsr WrongKind WrongKind e = refl
