@@ -15,7 +15,7 @@ const SEASON: u32 = 33;
 
 pub fn call(f: Frame, a: &[u8], b: &[u8], sheet: &mut [u8], n: usize) -> Line {
     if f.op < NEW_SHEET {
-        return call_lines::on_bytes(f, a, b);
+        return on_bytes(f, a, b);
     }
     if f.op == NEW_SHEET {
         return sheets::new_sheet(a, sheet);
@@ -27,4 +27,11 @@ pub fn call(f: Frame, a: &[u8], b: &[u8], sheet: &mut [u8], n: usize) -> Line {
         return seasons::season(a);
     }
     sheets::on_sheet(f, sheet, n)
+}
+
+fn on_bytes(f: Frame, a: &[u8], b: &[u8]) -> Line {
+    if (call_samples::FIRST <= f.op) & (f.op <= call_samples::LAST) {
+        return call_samples::line(f, a);
+    }
+    call_lines::on_bytes(f, a, b)
 }

@@ -11,6 +11,8 @@ use crate::rates::is_listed;
 use crate::unpacks::WORD;
 use crate::unpacks::per_word;
 use crate::unpacks::unpack_data;
+pub use bits::from_bits;
+pub use bits::to_bits;
 use octets::read_u16;
 use refusals::Refusal;
 use sfdu::Fault;
@@ -18,6 +20,7 @@ use sfdu::SECONDARY_AT;
 use sfdu_rsr::Rsr;
 use sfdu_rsr::read_rsr;
 
+mod bits;
 mod packs;
 mod rates;
 mod unpacks;

@@ -14,9 +14,9 @@ use crate::unpacks::per_word;
 use octets::write_be;
 
 // What is added to a number, so that it is not below zero: an even multiple of every count of codes.
-const RAISE: u32 = 2147483648;
+pub const RAISE: u32 = 2147483648;
 
-fn raise(z: i32) -> u32
+pub fn raise(z: i32) -> u32
     ensures { λ r. ⌜ r ≡ raised z ⌝ }
 {
     (z as i64 + RAISE as i64) as u32

@@ -1,0 +1,52 @@
+-- `call_samples::pack_into` is safe. Assumes nothing.
+use native.Mathlib.Omega.{arith}
+use mathlib.Core.Path.{sym}
+use lib.Seq.{length-take-le}
+use borrow.Author.Needs.{needs}
+use Rattle.call_samples.proofs.pack_into.Statement.{statement}
+use Rattle.call_samples.proofs.pack_into.Tie as tie
+
+empty-requires : tie.Need-empty-requires
+empty-requires c κs = search needs
+
+returns : tie.Need-returns
+returns c = search needs
+
+slice-relend-prefix-lent : tie.Need-slice-relend-prefix-lent
+slice-relend-prefix-lent c = search needs
+
+slice-aggregate-lent : tie.Need-slice-aggregate-lent
+slice-aggregate-lent c = sym (length-take-le _ _ (omega arith))
+
+pack-requires : tie.Need-pack-requires
+pack-requires c κs = search needs
+
+counted-requires : tie.Need-counted-requires
+counted-requires c κs = search needs
+
+crc-requires : tie.Need-crc-requires
+crc-requires c κs = search needs
+
+number32-requires : tie.Need-number32-requires
+number32-requires c κs = search needs
+
+same-length : tie.Need-same-length
+same-length c = search needs
+
+returns-2 : tie.Need-returns-2
+returns-2 c = search needs
+
+pub pack-into-spec : {M : Type 1} → statement M
+pack-into-spec =
+    tie.close
+    (tie.spec
+    empty-requires
+    returns
+    slice-relend-prefix-lent
+    slice-aggregate-lent
+    pack-requires
+    counted-requires
+    crc-requires
+    number32-requires
+    same-length
+    returns-2)

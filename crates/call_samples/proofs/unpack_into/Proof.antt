@@ -1,0 +1,56 @@
+-- `call_samples::unpack_into` is safe. Assumes nothing.
+use native.Mathlib.Omega.{arith}
+use mathlib.Core.Path.{sym}
+use lib.Seq.{length-take-le}
+use borrow.Author.Needs.{needs}
+use Rattle.call_samples.proofs.unpack_into.Statement.{statement}
+use Rattle.call_samples.proofs.unpack_into.Tie as tie
+
+empty-requires : tie.Need-empty-requires
+empty-requires c κs = search needs
+
+returns : tie.Need-returns
+returns c = search needs
+
+slice-relend-prefix-lent : tie.Need-slice-relend-prefix-lent
+slice-relend-prefix-lent c = search needs
+
+slice-aggregate-lent : tie.Need-slice-aggregate-lent
+slice-aggregate-lent c = sym (length-take-le _ _ (omega arith))
+
+unpack-requires : tie.Need-unpack-requires
+unpack-requires c κs = search needs
+
+counted-requires : tie.Need-counted-requires
+counted-requires c κs = search needs
+
+crc-of-requires : tie.Need-crc-of-requires
+crc-of-requires c κs = search needs
+
+number32-requires : tie.Need-number32-requires
+number32-requires c κs = search needs
+
+same-length : tie.Need-same-length
+same-length c = search needs
+
+same-length-2 : tie.Need-same-length-2
+same-length-2 c = search needs
+
+returns-2 : tie.Need-returns-2
+returns-2 c = search needs
+
+pub unpack-into-spec : {M : Type 1} → statement M
+unpack-into-spec =
+    tie.close
+    (tie.spec
+    empty-requires
+    returns
+    slice-relend-prefix-lent
+    slice-aggregate-lent
+    unpack-requires
+    counted-requires
+    crc-of-requires
+    number32-requires
+    same-length
+    same-length-2
+    returns-2)
