@@ -5,7 +5,7 @@ use crate::idr::{self, Idr};
 use crate::make::Rng;
 use crate::record::{Fields, Record, Refused, Rsr, Telemetry, RSR, TELEMETRY};
 use crate::stream;
-use crate::{dates, ledger, list, nights, record, sample};
+use crate::{dates, iq, ledger, list, nights, record, sample};
 use std::hint::black_box;
 use std::time::Instant;
 
@@ -22,6 +22,10 @@ pub struct Implementation {
     pub walk: fn(&[u8]) -> u64,
     pub read_tape: fn(&[u8]) -> u64,
     pub date_of: fn(u32) -> u64,
+    /// A record's samples into the list.
+    pub unpack: fn(&[u8], &mut [i32]) -> u64,
+    /// Size, rate and numbers into the bytes.
+    pub pack: fn(u32, u32, &[i32], &mut [u8]) -> u64,
     pub is_sheet: fn(&[u8]) -> u64,
     pub tick: fn(&mut [u8], u32, u32) -> u64,
     pub untick: fn(&mut [u8], u32, u32) -> u64,
@@ -38,6 +42,8 @@ pub const REFERENCE: Implementation = Implementation {
     read_tape: |s| tape_number(idr::read(s)),
     // 1,000 years and the day.
     date_of: |count| dates::date_of(count).map_or_else(u64::from, |(year, day)| 1_000 * year as u64 + day as u64),
+    unpack: |s, list| iq::unpack(s, list).map_or_else(|refused| refused.number() as u64, |count| count as u64),
+    pack: |size, rate, numbers, out| iq::pack(size, rate, numbers, out).map_or_else(u64::from, |count| count as u64),
     is_sheet: |s| ledger::is_sheet(s) as u64,
     tick: |s, desk, n| ledger::tick(s, desk, n).err().unwrap_or(0) as u64,
     untick: |s, desk, n| ledger::untick(s, desk, n).err().unwrap_or(0) as u64,
@@ -217,6 +223,7 @@ pub fn run() {
         let s = &tape[sample * idr::RECORD..][..idr::RECORD];
         compare(name, 1.0, &each, |i| (i.read_tape)(black_box(s)));
     }
+    samples(&each);
     let full = nights::full_sheet(&Rng::new(1));
     for (name, s) in [
         ("is it a sheet: fresh", &fresh_sheet()),
@@ -235,6 +242,22 @@ pub fn run() {
     }
     reports(&each);
     listing();
+}
+
+/// Records of random samples at each width with 25,000 bytes of data, as table 3-1 has them: nanoseconds a byte of data, so that
+/// 1 over the time is gigabytes a second.
+fn samples(each: &[Implementation]) {
+    for (size, rates) in iq::LISTED {
+        let (s, bytes) = sample::samples_record(&Rng::new(1), size, rates[0]);
+        let mut list = vec![0; 8 * bytes];
+        let count = iq::unpack(&s, &mut list).expect("a good record");
+        let mut numbers = list[..count].to_vec();
+        compare(&format!("unpack, {size} bits, a byte"), bytes as f64, each, |i| (i.unpack)(black_box(&s), black_box(&mut numbers)));
+        let mut out = vec![0; bytes];
+        compare(&format!("pack, {size} bits, a byte"), bytes as f64, each, |i| {
+            (i.pack)(black_box(size), black_box(rates[0]), black_box(&numbers), black_box(&mut out))
+        });
+    }
 }
 
 fn fresh_sheet() -> Vec<u8> {

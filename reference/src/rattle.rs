@@ -9,6 +9,8 @@ extern "C" {
     fn bench_walk(s: *const u8, length: usize) -> u64;
     fn bench_read_tape(s: *const u8, length: usize) -> u64;
     fn bench_date_of(count: u32) -> u64;
+    fn bench_unpack(s: *const u8, length: usize, list: *mut i32, count: usize) -> u64;
+    fn bench_pack(size: u32, rate: u32, numbers: *const i32, count: usize, out: *mut u8, length: usize) -> u64;
     fn bench_is_sheet(s: *const u8, length: usize) -> u64;
     fn bench_tick(s: *mut u8, length: usize, desk: u32, n: u32) -> u64;
     fn bench_untick(s: *mut u8, length: usize, desk: u32, n: u32) -> u64;
@@ -23,6 +25,10 @@ pub const RATTLE: Implementation = Implementation {
     walk: |s| unsafe { bench_walk(s.as_ptr(), s.len()) },
     read_tape: |s| unsafe { bench_read_tape(s.as_ptr(), s.len()) },
     date_of: |count| unsafe { bench_date_of(count) },
+    unpack: |s, list| unsafe { bench_unpack(s.as_ptr(), s.len(), list.as_mut_ptr(), list.len()) },
+    pack: |size, rate, numbers, out| unsafe {
+        bench_pack(size, rate, numbers.as_ptr(), numbers.len(), out.as_mut_ptr(), out.len())
+    },
     is_sheet: |s| unsafe { bench_is_sheet(s.as_ptr(), s.len()) },
     tick: |s, desk, n| unsafe { bench_tick(s.as_mut_ptr(), s.len(), desk, n) },
     untick: |s, desk, n| unsafe { bench_untick(s.as_mut_ptr(), s.len(), desk, n) },

@@ -37,3 +37,7 @@ counted s row = cond (eqb (length s) sheetSize && ltb row rowCount) (counts (rep
 -- A thousand years and the day of a date's words, or the refusal's number.
 abbrev pub dateNumber : List ℕ → ℕ
 dateNumber words = cond (eqb (getD words 0 0) 0) (1000 * getD words 1 0 + getD words 2 0) (getD words 0 0)
+
+-- The count of an answer's words, or the refusal's number.
+abbrev pub tallied : List ℕ → ℕ
+tallied words = cond (eqb (getD words 0 0) 0) (getD words 1 0) (getD words 0 0)

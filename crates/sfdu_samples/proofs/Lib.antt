@@ -1,4 +1,5 @@
 pub mod Values
+pub mod Flipped
 pub mod Runs
 pub mod Unpacking
 pub mod Packed

@@ -1,6 +1,6 @@
 -- Words unpacked: lengths, and one pair or one word more. Assumes nothing.
 use Prim.Native.Nat.{ℕ, zero, suc, _+_, _*_, _/_, _%_, _-_, _^_, _<_}
-use native.Mathlib.Nat.{suc-mul, zero-add}
+use native.Mathlib.Nat.{suc-mul, zero-add, mul-zero, pow-zero, div-one}
 use native.Mathlib.Numerals.{add-one}
 use native.Mathlib.Omega.{arith}
 use mathlib.Core.List.{List}
@@ -42,9 +42,12 @@ pair-more l to w (suc left) i q h =
     let f : to + 2 ≡ suc (suc to) = omega arith in
     rw (e, f, add-one)
 
-pub word-start : (l : List ℤ) (at w v : ℕ) → sets l at (samplesOf w v) ≡ sets l at (pairsOf w (perHalf w) (v % halfWord) (v / halfWord))
+pub word-first : (l : List ℤ) (at w v : ℕ)
+    → sets l at (pairsOf w (perHalf w) (v % halfWord / 2 ^ (w * (perHalf w - perHalf w))) (v / halfWord / 2 ^ (w * (perHalf w - perHalf w)))) ≡ sets l at (samplesOf w v)
 unfolding samplesOf
-word-start l at w v = refl
+word-first l at w v =
+    let e : perHalf w - perHalf w ≡ 0 = omega arith in
+    rw (e, mul-zero, pow-zero, div-one, div-one)
 
 -- the loop over words: `left` words are still to unpack
 pub words-none : (l : List ℤ) (to w left : ℕ) (s : List ℕ) → left ≡ 0 → sets l to (unpackedWords w left s) ≡ l

@@ -1,51 +1,59 @@
--- `sfdu_samples::unpacks::unpack_word` meets its contract. The invariant: the pairs that are left, stored, give the result.
--- Assumes nothing.
-use Prim.Native.Nat.{_+_, _*_, _^_, _≤_}
-use native.Mathlib.Nat.{mod-lt}
+-- `sfdu_samples::unpacks::unpack_word` meets its contract. The invariant: the pairs that are left, stored, give
+-- the result. Assumes nothing.
+use Prim.Native.Nat.{_+_, _*_, _/_, _%_, _-_, _^_, _≤_}
 use native.Mathlib.Omega.{arith}
 use mathlib.Core.Path.{_≡_, refl, sym, _∙_}
 use borrow.Author.Needs.{needs, sfits-of}
+use lib.Bits.{bitXor}
 use lib.ListN.{length, length-set}
+use lib.Seq.{sets}
 use mir.Syntax.{w32}
 use mir.ValLaws.{toZ-ofZ}
-use lib.Seq.{sets}
-use Rattle.sfdu_samples.specs.Packing.{pairsOf, samplesOf}
-use Rattle.sfdu_samples.proofs.Values.{codes-some}
-use Rattle.sfdu_samples.proofs.Unpacking.{pair-none, pair-more, word-start}
+use Rattle.sfdu_samples.specs.Packing.{perHalf, halfWord, pairsOf, samplesOf}
+use Rattle.sfdu_samples.specs.Inner.{flipsOf}
+use Rattle.sfdu_samples.proofs.Flipped.{flips, Turn, turn}
+use Rattle.sfdu_samples.proofs.Unpacking.{pair-none, pair-more, word-first}
 use Rattle.sfdu_samples.proofs.unpacks.unpack_word.Statement.{statement}
 use Rattle.sfdu_samples.proofs.unpacks.unpack_word.Tie as tie
 
 abbrev Inv-loop : tie.InvT-loop
-Inv-loop word size list₀ at base i₀ q₀ to₀ left₀ list i q to left =
-    (base ≡ 2 ^ size) × (to + 2 * left ≤ length list) × (length list ≡ length list₀) × (sets list to (pairsOf size left i q) ≡ sets list₀ at (samplesOf size word))
+Inv-loop word size list₀ at flipped up₀ to₀ left₀ list up to left = (flipped ≡ bitXor word (flipsOf size)) × (left ≤ perHalf size) × (up ≡ 16 + size * left) × (to + 2 * left ≤ length list) × (length list ≡ length list₀)
+    × (sets list to (pairsOf size left (word % halfWord / 2 ^ (size * (perHalf size - left))) (word / halfWord / 2 ^ (size * (perHalf size - left))))
+    ≡ sets list₀ at (samplesOf size word))
 
 abbrev μ-loop : tie.MeasureT-loop
-μ-loop word size list₀ at base i₀ q₀ to₀ left₀ list i q to left = left
+μ-loop word size list₀ at flipped up₀ to₀ left₀ list up to left = left
 
-codes-requires : tie.Need-codes-requires Inv-loop μ-loop
-codes-requires c κs = search needs
+-- A turn of the loop.
+turned : (c : tie.In-loop Inv-loop μ-loop) → let d = c .before .before .before .before in Turn (d .args .size) (c .before .loop .left) (d .args .word)
+turned c =
+    let d = c .before .before .before .before in
+    turn (d .args .size) (c .before .loop .left) (d .args .word) (d .pre .0) (omega arith) (c .before .loop .inv .1)
+
+flips-requires : tie.Need-flips-requires Inv-loop μ-loop
+flips-requires c κs = search needs
 
 per-half-requires : tie.Need-per-half-requires Inv-loop μ-loop
 per-half-requires c κs = search needs
 
 loop-holds : tie.Need-loop-holds Inv-loop μ-loop
-loop-holds c = (c .before .codes .ensures, omega (arith, c .per-half .ensures, c .before .before .pre .1), refl, rw (c .per-half .ensures) (sym (word-start _ _ _ _)))
+loop-holds c =
+    let d = c .before .before in
+    let w = d .args .size in
+    let p = c .per-half .ensures in
+    (rw (c .before .flips .ensures) refl, omega (arith, p), rw (p, flips w (d .pre .0) .whole) refl, omega (arith, p, d .pre .1), refl, rw p (word-first _ _ _ _))
 
-rem-value-of : tie.Need-rem-value-of Inv-loop μ-loop
-rem-value-of c = omega (arith, c .before .loop .inv .0, codes-some (c .before .before .before .before .args .size))
+sub-up : tie.Need-sub-up Inv-loop μ-loop
+sub-up c = let t = turned c in omega (arith, c .before .loop .inv .2)
 
-value-of-requires : tie.Need-value-of-requires Inv-loop μ-loop
-value-of-requires c κs =
-    let d = c .before .before .before .before in
-    (d .pre .0, rw (c .before .loop .inv .0) (mod-lt _ (codes-some (d .args .size))))
+sample-requires : tie.Need-sample-requires Inv-loop μ-loop
+sample-requires c κs = (c .before .before .before .before .pre .0, let t = turned c in omega (arith, c .before .loop .inv .2))
 
-rem-value-of-2 : tie.Need-rem-value-of-2 Inv-loop μ-loop
-rem-value-of-2 c = omega (arith, c .before .before .loop .inv .0, codes-some (c .before .before .before .before .before .args .size))
+sub-sample : tie.Need-sub-sample Inv-loop μ-loop
+sub-sample c = let t = turned (c .before) in omega (arith, c .before .before .loop .inv .2)
 
-value-of-requires-2 : tie.Need-value-of-requires-2 Inv-loop μ-loop
-value-of-requires-2 c κs =
-    let d = c .before .before .before .before .before in
-    (d .pre .0, rw (c .before .before .loop .inv .0) (mod-lt _ (codes-some (d .args .size))))
+sample-requires-2 : tie.Need-sample-requires-2 Inv-loop μ-loop
+sample-requires-2 c κs = (c .before .before .before .before .before .pre .0, let t = turned (c .before) in omega (arith, c .before .before .loop .inv .2))
 
 mul-real : tie.Need-mul-real Inv-loop μ-loop
 mul-real c = omega (arith, c .before .before .before .before .before .before .good .1 .1 .0 .1, c .before .before .before .loop .inv)
@@ -62,12 +70,6 @@ mul-imaginary c = omega (arith, c .before .before .before .before .before .befor
 slice-set-from-imaginary : tie.Need-slice-set-from-imaginary Inv-loop μ-loop
 slice-set-from-imaginary c = rw length-set (omega arith)
 
-div-i : tie.Need-div-i Inv-loop μ-loop
-div-i c = omega (arith, c .before .before .before .loop .inv .0, codes-some (c .before .before .before .before .before .before .args .size))
-
-div-q : tie.Need-div-q Inv-loop μ-loop
-div-q c = omega (arith, c .before .before .before .loop .inv .0, codes-some (c .before .before .before .before .before .before .args .size))
-
 add-to : tie.Need-add-to Inv-loop μ-loop
 add-to c = omega arith
 
@@ -81,21 +83,26 @@ loop-again : tie.Need-loop-again Inv-loop μ-loop
 loop-again c =
     let d = c .before .before .before .before .before .before in
     let loop = c .before .before .before .loop in
-    let real = toZ-ofZ w32 (c .before .value-of .result) (sfits-of (c .before .value-of .ok)) in
-    let imaginary = toZ-ofZ w32 (c .value-of2 .result) (sfits-of (c .value-of2 .ok)) in (
+    let w = d .args .size in
+    let t = turned (c .before .before) in
+    let real = toZ-ofZ w32 (c .before .sample .result) (sfits-of (c .before .sample .ok)) in
+    let imaginary = toZ-ofZ w32 (c .sample2 .result) (sfits-of (c .sample2 .ok)) in
+    let more = pair-more (loop .list) (loop .to) w (loop .left) (d .args .word % halfWord / 2 ^ (w * (perHalf w - loop .left))) (d .args .word / halfWord / 2 ^ (w * (perHalf w - loop .left))) (omega arith) in (
       loop .inv .0,
+      omega arith,
+      omega (arith, t .up, loop .inv .2),
       simp length-set (omega arith),
-      simp length-set (loop .inv .2),
-      rw (real, imaginary, c .before .value-of .ensures, c .value-of2 .ensures, loop .inv .0) (pair-more (loop .list) (loop .to) (d .args .size) (loop .left) (loop .i) (loop .q) (omega arith)) ∙ loop .inv .3,
+      simp length-set (loop .inv .4),
+      rw (real, imaginary, c .before .sample .ensures, c .sample2 .ensures, loop .inv .2, loop .inv .0, t .i, t .q, ← t .next, ← t .next) more ∙ loop .inv .5,
     )
 
 same-length : tie.Need-same-length Inv-loop μ-loop
-same-length c = c .before .loop .inv .2
+same-length c = c .before .loop .inv .4
 
 returns : tie.Need-returns Inv-loop μ-loop
 returns c =
     let z : c .before .loop .left ≡ 0 = omega arith in
-    sym (pair-none _ _ _ _ _ _ z) ∙ c .before .loop .inv .3
+    sym (pair-none _ _ _ _ _ _ z) ∙ c .before .loop .inv .5
 
 pub unpack-word-spec : {M : Type 1} → statement M
 unpack-word-spec =
@@ -103,20 +110,18 @@ unpack-word-spec =
     (tie.spec
     Inv-loop
     μ-loop
-    codes-requires
+    flips-requires
     per-half-requires
     loop-holds
-    rem-value-of
-    value-of-requires
-    rem-value-of-2
-    value-of-requires-2
+    sub-up
+    sample-requires
+    sub-sample
+    sample-requires-2
     mul-real
     slice-set-from-real
     add-imaginary
     mul-imaginary
     slice-set-from-imaginary
-    div-i
-    div-q
     add-to
     sub-left
     loop-less
