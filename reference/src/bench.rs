@@ -244,15 +244,17 @@ pub fn run() {
     listing();
 }
 
-/// Records of random samples at each width with 25,000 bytes of data, as table 3-1 has them: nanoseconds a byte of data, so that
-/// 1 over the time is gigabytes a second.
+/// The longest record of samples at each width: nanoseconds a byte of data, so that 1 over the time is gigabytes a second.
 fn samples(each: &[Implementation]) {
     for (size, rates) in iq::LISTED {
-        let (s, bytes) = sample::samples_record(&Rng::new(1), size, rates[0]);
+        let s = sample::samples_record(size, rates[0]);
+        let bytes = record::data_part(&s).len();
         let mut list = vec![0; 8 * bytes];
         let count = iq::unpack(&s, &mut list).expect("a good record");
         let mut numbers = list[..count].to_vec();
-        compare(&format!("unpack, {size} bits, a byte"), bytes as f64, each, |i| (i.unpack)(black_box(&s), black_box(&mut numbers)));
+        compare(&format!("unpack, {size} bits, a byte"), bytes as f64, each, |i| {
+            (i.unpack)(black_box(&s), black_box(&mut numbers))
+        });
         let mut out = vec![0; bytes];
         compare(&format!("pack, {size} bits, a byte"), bytes as f64, each, |i| {
             (i.pack)(black_box(size), black_box(rates[0]), black_box(&numbers), black_box(&mut out))

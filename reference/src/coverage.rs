@@ -5,11 +5,15 @@ use std::collections::BTreeMap;
 use std::io::{self, Write};
 use std::ops::RangeInclusive;
 
-/// The refusals that a random script of 2,000 calls has to meet; 17 is the listing program's alone. Those of samples (19, 34, 35, 37)
-/// and of traces (40) join when their calls stand in every script (`AWAITED` in random.rs).
+/// The refusals that a random script of 2,000 calls has to meet; 17 is the listing program's alone. That of traces (40)
+/// joins when its calls stand in every script (`AWAITED` in random.rs).
 const REFUSALS: &[RangeInclusive<u32>] = &[
     // Records and streams.
     1..=16,
+    // Samples.
+    19..=19,
+    34..=35,
+    37..=37,
     // Dates.
     33..=33,
     // The ledger.

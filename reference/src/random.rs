@@ -57,7 +57,7 @@ const SCENES: &[(Scene, usize, &str)] = &[
 ];
 
 /// The parts whose calls the library has not got yet: they stand in scripts of their part alone.
-const AWAITED: &[&str] = &["gain", "samples", "traces"];
+const AWAITED: &[&str] = &["traces"];
 
 /// The parts of which a script alone can be made.
 pub fn parts() -> Vec<&'static str> {

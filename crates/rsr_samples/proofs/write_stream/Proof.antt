@@ -1,0 +1,67 @@
+-- `rsr_samples::write_stream` is safe and ends. Assumes nothing.
+use mathlib.Core.Path.{_≡_}
+use lib.ListN.{length}
+use borrow.Author.Needs.{needs}
+use Rattle.rsr_samples.proofs.write_stream.Statement.{statement}
+use Rattle.rsr_samples.proofs.write_stream.Tie as tie
+
+abbrev Inv-loop : tie.InvT-loop
+Inv-loop fd name raw w₀ list₀ place₀ left₀ w list place left = (length w ≡ length w₀) × (length list ≡ length list₀)
+
+abbrev μ-loop : tie.MeasureT-loop
+μ-loop fd name raw w₀ list₀ place₀ left₀ w list place left = left
+
+loop-holds : tie.Need-loop-holds Inv-loop μ-loop
+loop-holds c = search needs
+
+take-record-requires : tie.Need-take-record-requires Inv-loop μ-loop
+take-record-requires c κs = search needs
+
+same-length : tie.Need-same-length Inv-loop μ-loop
+same-length c = search needs
+
+same-length-2 : tie.Need-same-length-2 Inv-loop μ-loop
+same-length-2 c = search needs
+
+returns : tie.Need-returns Inv-loop μ-loop
+returns c = search needs
+
+wrapping-add-u64-requires : tie.Need-wrapping-add-u64-requires Inv-loop μ-loop
+wrapping-add-u64-requires c κs = search needs
+
+sub-left : tie.Need-sub-left Inv-loop μ-loop
+sub-left c = search needs
+
+loop-less : tie.Need-loop-less Inv-loop μ-loop
+loop-less c = search needs
+
+loop-again : tie.Need-loop-again Inv-loop μ-loop
+loop-again c = search needs
+
+same-length-3 : tie.Need-same-length-3 Inv-loop μ-loop
+same-length-3 c = search needs
+
+same-length-4 : tie.Need-same-length-4 Inv-loop μ-loop
+same-length-4 c = search needs
+
+returns-2 : tie.Need-returns-2 Inv-loop μ-loop
+returns-2 c = search needs
+
+pub write-stream-spec : {M : Type 1} → statement M
+write-stream-spec =
+    tie.close
+    (tie.spec
+    Inv-loop
+    μ-loop
+    loop-holds
+    take-record-requires
+    same-length
+    same-length-2
+    returns
+    wrapping-add-u64-requires
+    sub-left
+    loop-less
+    loop-again
+    same-length-3
+    same-length-4
+    returns-2)

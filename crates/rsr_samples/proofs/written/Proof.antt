@@ -1,0 +1,40 @@
+-- `rsr_samples::written` is safe. Assumes nothing.
+use native.Mathlib.Omega.{arith}
+use mathlib.Core.Path.{sym}
+use lib.Seq.{length-take-le}
+use borrow.Author.Needs.{needs}
+use Rattle.rsr_samples.proofs.written.Statement.{statement}
+use Rattle.rsr_samples.proofs.written.Tie as tie
+
+returns : tie.Need-returns
+returns c = search needs
+
+slice-aggregate-write-samples : tie.Need-slice-aggregate-write-samples
+slice-aggregate-write-samples c = sym (length-take-le _ _ (omega arith))
+
+write-samples-requires : tie.Need-write-samples-requires
+write-samples-requires c κs = search needs
+
+returns-2 : tie.Need-returns-2
+returns-2 c = search needs
+
+slice-aggregate-fail : tie.Need-slice-aggregate-fail
+slice-aggregate-fail c = search needs
+
+fail-requires : tie.Need-fail-requires
+fail-requires c κs = search needs
+
+returns-3 : tie.Need-returns-3
+returns-3 c = search needs
+
+pub written-spec : {M : Type 1} → statement M
+written-spec =
+    tie.close
+    (tie.spec
+    returns
+    slice-aggregate-write-samples
+    write-samples-requires
+    returns-2
+    slice-aggregate-fail
+    fail-requires
+    returns-3)

@@ -1,0 +1,173 @@
+// The samples of streams of RSR records: of the files that its arguments name, one after the other, or of standard input where there
+// is none. A pair a line, I and Q; with --raw as 32-bit little-endian integers.
+mod input;
+mod output;
+mod words;
+
+use input::WINDOW;
+use input::next_record;
+use libc::STDERR_FILENO;
+use libc::STDIN_FILENO;
+use libc::STDOUT_FILENO;
+use output::write_samples;
+use refusals::Refusal;
+use sfdu::Fault;
+use sfdu_samples::Answer;
+use words::Asked;
+use words::asked_at;
+use words::tell_usage;
+
+// The most numbers of a record: 32 for each word of its data, of which there are fewer than 2^14.
+const NUMBERS: usize = 524288;
+
+// A proved loop has to end, and nothing says that a stream does: so the loop counts its records down, from 2^47, which no run uses up.
+const RECORDS: u64 = 140737488355328;
+
+// Writes the samples of the next record. Answers its size, or 0 where the stream has ended or cannot go on.
+fn take_record(
+    fd: i32,
+    name: &[u8],
+    place: u64,
+    raw: bool,
+    w: &mut [u8],
+    list: &mut [i32],
+) -> usize {
+    let filled = next_record(fd, w);
+    if filled.failed {
+        os::fail(name);
+        return 0;
+    }
+    let have = filled.have;
+    if have == 0 {
+        return 0;
+    }
+    if w.len() < have {
+        return 0;
+    }
+    let answer = sfdu_samples::unpack(&w[..have], list);
+    match answer {
+        Answer::Count(n) => written(list, n, raw, have),
+        Answer::Header(fault) => stopped_in(name, place, fault, have),
+        Answer::Refused(why) => stopped(name, place, refusals::number(why), 0),
+    }
+}
+
+// The record's size, or 0 where its samples could not be written.
+fn written(list: &[i32], n: usize, raw: bool, size: usize) -> usize {
+    if list.len() < n {
+        return 0;
+    }
+    if write_samples(&list[..n], raw) {
+        return size;
+    }
+    os::fail(b"standard output");
+    0
+}
+
+// A record that is cut where the window is full is too long for it: 17, as the listing says.
+fn stopped_in(name: &[u8], place: u64, fault: Fault, have: usize) -> usize {
+    let why = fault.refusal;
+    let number = refusals::number(why);
+    let cut = refusals::number(Refusal::Truncated);
+    if (number == cut) & (have == WINDOW) {
+        return stopped(name, place, refusals::number(Refusal::BufferSize), 0);
+    }
+    let short = refusals::number(Refusal::TooShort);
+    if (number == cut) | (number == short) {
+        return stopped(name, place, number, fault.at as u64);
+    }
+    stopped(
+        name,
+        place,
+        number,
+        std::num::wrapping_add_u64(place, fault.at as u64),
+    )
+}
+
+fn stopped(name: &[u8], place: u64, number: u32, beside: u64) -> usize {
+    io::write_all(STDERR_FILENO, name);
+    io::write_all(STDERR_FILENO, b": stopped at byte ");
+    io::print_decimal(STDERR_FILENO, place);
+    tell_refusal(number, beside);
+    0
+}
+
+fn tell_refusal(number: u32, beside: u64) {
+    io::write_all(STDERR_FILENO, b": ");
+    io::print_decimal(STDERR_FILENO, number as u64);
+    io::write_all(STDERR_FILENO, b" ");
+    io::print_decimal(STDERR_FILENO, beside);
+    io::write_all(STDERR_FILENO, b"\n");
+}
+
+fn write_stream(fd: i32, name: &[u8], raw: bool, w: &mut [u8], list: &mut [i32]) {
+    let mut place: u64 = 0;
+    let mut left = RECORDS;
+    while 0 < left {
+        let size = take_record(fd, name, place, raw, w, list);
+        if size == 0 {
+            return;
+        }
+        place = std::num::wrapping_add_u64(place, size as u64);
+        left -= 1;
+    }
+}
+
+fn stream(fd: i32, name: &[u8], raw: bool) {
+    let mut window = io::large_buffer();
+    let mut numbers = [0i32; NUMBERS];
+    write_stream(fd, name, raw, &mut window, &mut numbers);
+}
+
+// The samples of the file that argument i names; nothing where it is an option.
+fn argument(i: usize, raw: bool) {
+    let option = asked_at(i);
+    match option {
+        Asked::Samples => file(i, raw),
+        Asked::Raw => {}
+        Asked::Help => {}
+        Asked::Unknown => {}
+    }
+}
+
+fn file(i: usize, raw: bool) {
+    let mut path = io::buffer();
+    let n = os::arg(i, &mut path);
+    if os::errno() != 0 {
+        os::fail(b"argument");
+        return;
+    }
+    let fd = os::open_read(&path[..n]);
+    if fd < 0 {
+        os::fail(&path[..n]);
+        return;
+    }
+    stream(fd, &path[..n], raw);
+    libc::close(fd);
+}
+
+fn arguments(count: usize, raw: bool) {
+    let mut i = 1;
+    while i < count {
+        argument(i, raw);
+        i += 1;
+    }
+}
+
+fn main() {
+    let count = os::arg_count();
+    let asked = words::options(count);
+    if asked.unknown {
+        tell_usage(STDERR_FILENO);
+        return;
+    }
+    if asked.help {
+        tell_usage(STDOUT_FILENO);
+        return;
+    }
+    if asked.files == 0 {
+        stream(STDIN_FILENO, b"standard input", asked.raw);
+        return;
+    }
+    arguments(count, asked.raw);
+}
