@@ -1,2 +1,4 @@
+pub mod Clauses
 pub mod Lines
 pub mod Written
+pub mod Turns

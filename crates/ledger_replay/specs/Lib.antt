@@ -1,4 +1,6 @@
--- Traces: their bytes and entries, a log written as one, and what holds of them.
+-- Traces: their bytes and entries, a log written as one, a trace played again, and what holds of them.
 pub mod Trace
 pub mod Record
+pub mod Replay
+pub mod Making
 pub mod Laws

@@ -1,4 +1,61 @@
 // A night's calls kept in a trace, and played again over a fresh sheet (document 02, request 11).
+mod calls;
+mod trace;
+
+use calls::is_written;
+use calls::make;
+use ledger::fresh;
+use ledger_sheet::SHEET;
+use refusals::Refusal;
+use trace::entry_count;
+use trace::is_trace;
+use trace::read_line;
+ghost use mathlib.Core.Path.{_≡_};
+ghost use Prim.Native.Nat.{_≤_};
+ghost use lib.ListN.{length};
+ghost use Rattle.ledger_replay.specs.Trace.{headerSize, mostEntries, count, entryAt, entriesOf};
+ghost use Rattle.ledger_replay.specs.Replay.{replayedWords, replayFrom, replayOn};
+
+// The header: three numbers of 4 bytes.
+pub const LENGTH_AT: usize = 0;
+
+pub const COUNT_AT: usize = 4;
+
+pub const START_AT: usize = 8;
+
+pub const HEADER: usize = 12;
+
+pub const MOST_ENTRIES: u32 = 4000;
+
+// An entry: call, desk, row, answer number, record number, key.
+pub const DESK_AT: usize = 1;
+
+pub const ROW_AT: usize = 2;
+
+pub const ANSWER_AT: usize = 3;
+
+pub const RECORD_AT: usize = 4;
+
+pub const KEY_AT: usize = 8;
+
+pub const KEY: usize = 8;
+
+pub const ENTRY: usize = 16;
+
+// The calls.
+pub const ENROL: u8 = 1;
+
+pub const OPEN: u8 = 2;
+
+pub const TICK: u8 = 3;
+
+pub const UNTICK: u8 = 4;
+
+pub const SAVE: u8 = 5;
+
+pub const DROP: u8 = 6;
+
+pub const STRIKE: u8 = 7;
 
 // The fields of an entry.
 pub struct Line {
@@ -8,4 +65,50 @@ pub struct Line {
     pub answer: u8,
     pub number: u32,
     pub key: u64,
+}
+
+// What a call answers: 0 or the refusal's number, and the row of an accepted enrolment, else 0.
+pub struct Told {
+    pub number: u32,
+    pub row: u32,
+}
+
+// What a replay answers: every call as written; or the first entry that differs, counted from 0, and what its call answered.
+pub enum Replayed {
+    Same,
+    Differs { entry: u32, number: u32, row: u32 },
+    Refused(Refusal),
+}
+
+// Plays a trace again: makes the sheet fresh, and the calls in their order, up to the first that answers otherwise than is written.
+pub fn replay(t: &[u8], s: &mut [u8]) -> Replayed
+    ensures { λ r. ⌜ (replayedWords r, now (s .exit)) ≡ replayOn (now (t .entry)) (now (s .entry)) ⌝ }
+{
+    if s.len() != SHEET {
+        return Replayed::Refused(Refusal::NotSheet);
+    }
+    if !is_trace(t) {
+        return Replayed::Refused(Refusal::NotTrace);
+    }
+    fresh(s);
+    play(t, s)
+}
+
+fn play(t: &[u8], s: &mut [u8]) -> Replayed
+    requires { ⌜ (headerSize ≤ length (now t)) × (entryAt (count (now t)) ≤ length (now t)) × (count (now t) ≤ mostEntries) ⌝ }
+    ensures { λ r. ⌜ (replayedWords r, now (s .exit)) ≡ replayFrom 0 (entriesOf (now (t .entry))) (now (s .entry)) ⌝ }
+{
+    let entries = entry_count(t);
+    for i in 0..entries {
+        let x = read_line(t, HEADER + ENTRY * i);
+        let told = make(s, x);
+        if !is_written(x, told) {
+            return Replayed::Differs {
+                entry: i as u32,
+                number: told.number,
+                row: told.row,
+            };
+        }
+    }
+    Replayed::Same
 }

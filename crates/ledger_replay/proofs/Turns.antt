@@ -1,0 +1,65 @@
+-- One entry after the other: what the loop of `play` goes by. Assumes nothing.
+use Prim.Native.Nat.{ℕ, zero, suc, _+_, _-_}
+use native.Mathlib.Nat.{sub-zero}
+use native.Mathlib.Numerals.{add-one}
+use mathlib.Core.Bool.{Bool, true, false, cond}
+use mathlib.Core.List.{List, [], _∷_}
+use mathlib.Core.Path.{_≡_, refl, sym, ap, _∙_}
+use lib.Dec.{eqb}
+use lib.ListN.{getD}
+use borrow.Author.Tests.{eqb-true}
+use Rattle.ledger_model.specs.Step.{Answer, done, atRow, refused, answerWords, Entry}
+use Rattle.ledger_changes.specs.Bytes.{Outcome}
+use Rattle.ledger_replay.specs.declared.Line.{Line}
+use Rattle.ledger_replay.specs.declared.Told.{Told}
+use Rattle.ledger_replay.specs.Trace.{enrolCall, count, entryAt, lineAt, callIn, answerIn, entriesFrom, entriesOf}
+use Rattle.ledger_replay.specs.Replay.{told, sameTold, differs, replayFrom}
+use Rattle.ledger_replay.specs.Making.{made, written}
+
+-- ---- what is written of an answer
+
+answer-none : (t : Bool) (n : ℕ) → getD (answerWords (cond t done (refused n))) 1 0 ≡ 0
+answer-none true n = refl
+answer-none false n = refl
+
+pub written-other : (x : Line) → eqb (x .call) enrolCall ≡ false → written x .row ≡ 0
+unfolding written told answerIn
+written-other x e = rw e (answer-none (eqb (x .answer) 0) (x .answer))
+
+pub written-refused : (x : Line) → eqb (x .answer) 0 ≡ false → written x .row ≡ 0
+unfolding written told answerIn
+written-refused x e = rw e
+
+pub written-row : (x : Line) → eqb (x .call) enrolCall ≡ true → eqb (x .answer) 0 ≡ true → written x .row ≡ x .row
+unfolding written told answerIn
+written-row x e z = rw (z, e)
+
+pub written-number : (x : Line) → written x .number ≡ x .answer
+unfolding written told answerIn
+written-number x = at (eqb (x .answer) 0) (eqb (x .call) enrolCall) refl
+  where
+    at : (t u : Bool) → eqb (x .answer) 0 ≡ t → getD (answerWords (cond t (cond u (atRow (x .row)) done) (refused (x .answer)))) 0 0 ≡ x .answer
+    at true true z = sym (eqb-true (x .answer) 0 z)
+    at true false z = sym (eqb-true (x .answer) 0 z)
+    at false u z = refl
+
+-- ---- the loop
+
+pub start : (t s : List ℕ) (n : ℕ) → n ≡ count t → replayFrom 0 (entriesFrom t 0 (n - 0)) s ≡ replayFrom 0 (entriesOf t) s
+unfolding entriesOf
+start t s n e = rw (sub-zero, e)
+
+-- An entry whose call answers as written, and one whose call does not.
+module _ (t s s′ : List ℕ) (k n m : ℕ) (x : Line) (a : Told) (read : x ≡ lineAt t (entryAt k)) (call-made : (a, s′) ≡ made (callIn x) s) (one-more : n ≡ suc m) where
+  pub same-on : sameTold a (written x) ≡ true → replayFrom (k + 1) (entriesFrom t (k + 1) m) s′ ≡ replayFrom k (entriesFrom t k n) s
+  unfolding replayFrom entriesFrom made written
+  same-on e = rw (one-more, ← read, ← ap (λ o. o .0) call-made, ← ap (λ o. o .1) call-made, e, add-one)
+
+  pub differs-there : sameTold a (written x) ≡ false → (differs k a, s′) ≡ replayFrom k (entriesFrom t k n) s
+  unfolding replayFrom entriesFrom made written
+  differs-there e = rw (one-more, ← read, ← ap (λ o. o .0) call-made, ← ap (λ o. o .1) call-made, e)
+
+-- No entry is left.
+pub all-same : (t s : List ℕ) (k n : ℕ) → n ≡ 0 → (0 ∷ [], s) ≡ replayFrom k (entriesFrom t k n) s
+unfolding replayFrom entriesFrom
+all-same t s k n e = rw e

@@ -1,0 +1,48 @@
+-- `calls::make` meets its contract. Assumes nothing.
+use mathlib.Core.Path.{ap}
+use borrow.Author.Tests.{eq-eqb, ne-eqb}
+use Rattle.ledger_replay.specs.Trace.{callIn}
+use Rattle.ledger_replay.specs.Replay.{told}
+use Rattle.ledger_replay.specs.Making.{lastIn, plainIn, made}
+use borrow.Author.Needs.{needs}
+use Rattle.ledger_replay.proofs.calls.make.Statement.{statement}
+use Rattle.ledger_replay.proofs.calls.make.Tie as tie
+
+enrol-requires : tie.Need-enrol-requires
+enrol-requires c κs = search needs
+
+tell-row-requires : tie.Need-tell-row-requires
+tell-row-requires c κs = search needs
+
+same-length : tie.Need-same-length
+same-length c = search needs
+
+returns : tie.Need-returns
+unfolding callIn made
+returns c = rw (eq-eqb _ _ (c .before .before .before .before .before .if1 .taken), c .tell-row .ensures) (ap (λ o. (told (o .0), o .1)) (c .before .before .before .enrol .ensures))
+
+make-plain-requires : tie.Need-make-plain-requires
+make-plain-requires c κs = search needs
+
+tell-requires : tie.Need-tell-requires
+tell-requires c κs = search needs
+
+same-length-2 : tie.Need-same-length-2
+same-length-2 c = search needs
+
+returns-2 : tie.Need-returns-2
+unfolding callIn plainIn lastIn made
+returns-2 c = rw (ne-eqb _ _ (c .before .before .before .before .before .if1 .left), c .tell .ensures) (ap (λ o. (told (o .0), o .1)) (c .before .before .before .make-plain .ensures))
+
+pub make-spec : {M : Type 1} → statement M
+make-spec =
+    tie.close
+    (tie.spec
+    enrol-requires
+    tell-row-requires
+    same-length
+    returns
+    make-plain-requires
+    tell-requires
+    same-length-2
+    returns-2)

@@ -1,0 +1,87 @@
+-- `calls::make_plain` meets its contract. Assumes nothing.
+use borrow.Author.Tests.{eq-eqb, ne-eqb}
+use Rattle.ledger_replay.specs.Making.{plainIn}
+use borrow.Author.Needs.{needs}
+use Rattle.ledger_replay.proofs.calls.make_plain.Statement.{statement}
+use Rattle.ledger_replay.proofs.calls.make_plain.Tie as tie
+
+cast-open : tie.Need-cast-open
+cast-open c = search needs
+
+cast-open-2 : tie.Need-cast-open-2
+cast-open-2 c = search needs
+
+open-requires : tie.Need-open-requires
+open-requires c κs = search needs
+
+same-length : tie.Need-same-length
+same-length c = search needs
+
+returns : tie.Need-returns
+unfolding plainIn
+returns c = rw (eq-eqb _ _ (c .before .before .before .before .before .before .if1 .taken)) (c .before .before .«open» .ensures)
+
+cast-tick : tie.Need-cast-tick
+cast-tick c = search needs
+
+tick-requires : tie.Need-tick-requires
+tick-requires c κs = search needs
+
+same-length-2 : tie.Need-same-length-2
+same-length-2 c = search needs
+
+returns-2 : tie.Need-returns-2
+unfolding plainIn
+returns-2 c =
+    let tested = c .before .before .before .before .before in
+    rw (ne-eqb _ _ (tested .before .before .if1 .left), eq-eqb _ _ (tested .if2 .taken)) (c .before .before .tick .ensures)
+
+cast-untick : tie.Need-cast-untick
+cast-untick c = search needs
+
+untick-requires : tie.Need-untick-requires
+untick-requires c κs = search needs
+
+same-length-3 : tie.Need-same-length-3
+same-length-3 c = search needs
+
+returns-3 : tie.Need-returns-3
+unfolding plainIn
+returns-3 c =
+    let tested = c .before .before .before .before .before in
+    let before = tested .before .before in
+    rw (ne-eqb _ _ (before .before .before .if1 .left), ne-eqb _ _ (before .if2 .left), eq-eqb _ _ (tested .if3 .taken)) (c .before .before .untick .ensures)
+
+make-last-requires : tie.Need-make-last-requires
+make-last-requires c κs = search needs
+
+same-length-4 : tie.Need-same-length-4
+same-length-4 c = search needs
+
+returns-4 : tie.Need-returns-4
+unfolding plainIn
+returns-4 c =
+    let tested = c .before .before .before .before in
+    let before = tested .before .before in
+    rw (ne-eqb _ _ (before .before .before .if1 .left), ne-eqb _ _ (before .if2 .left), ne-eqb _ _ (tested .if3 .left)) (c .before .before .make-last .ensures)
+
+pub make-plain-spec : {M : Type 1} → statement M
+make-plain-spec =
+    tie.close
+    (tie.spec
+    cast-open
+    cast-open-2
+    open-requires
+    same-length
+    returns
+    cast-tick
+    tick-requires
+    same-length-2
+    returns-2
+    cast-untick
+    untick-requires
+    same-length-3
+    returns-3
+    make-last-requires
+    same-length-4
+    returns-4)

@@ -1,0 +1,25 @@
+-- `calls::tell_row` meets its contract. Assumes nothing.
+use Rattle.ledger_replay.specs.Replay.{told}
+use borrow.Author.Needs.{needs}
+use Rattle.ledger_replay.proofs.calls.tell_row.Statement.{statement}
+use Rattle.ledger_replay.proofs.calls.tell_row.Tie as tie
+
+enum-known-a : tie.Need-enum-known-a
+enum-known-a c = search needs
+
+enum-known-a-2 : tie.Need-enum-known-a-2
+enum-known-a-2 c = search needs
+
+number-requires : tie.Need-number-requires
+number-requires c κs = search needs
+
+returns : tie.Need-returns
+unfolding told
+returns c = rw (c .before .a .given .1)
+
+returns-2 : tie.Need-returns-2
+unfolding told
+returns-2 c = rw (c .before .before .a2 .given .1, c .number .ensures)
+
+pub tell-row-spec : {M : Type 1} → statement M
+tell-row-spec = tie.close (tie.spec enum-known-a enum-known-a-2 number-requires returns returns-2)

@@ -1,0 +1,95 @@
+-- `play` meets its contract. The invariant: the entries from i on, played over the sheet as it is, come to what all come to over the sheet as it was. Assumes nothing.
+use borrow.Author.Needs.{needs}
+use Prim.Native.Nat.{suc, _+_, _-_, _≤_}
+use native.Mathlib.Omega.{arith}
+use mathlib.Core.Path.{_≡_, refl, _∙_}
+use lib.ListN.{length}
+use Rattle.octets.proofs.Laws.{failed, passed}
+use Rattle.ledger_replay.specs.Trace.{entriesFrom, entriesOf}
+use Rattle.ledger_replay.specs.Replay.{replayFrom}
+use Rattle.ledger_replay.proofs.Turns.{start, same-on, differs-there, all-same}
+use Rattle.ledger_replay.proofs.play.Statement.{statement}
+use Rattle.ledger_replay.proofs.play.Tie as tie
+
+abbrev Inv-loop : tie.InvT-loop
+Inv-loop t s₀ entries i₀ s i = (i ≤ entries) × (length s ≡ length s₀) × (replayFrom i (entriesFrom t i (entries - i)) s ≡ replayFrom 0 (entriesOf t) s₀)
+
+abbrev μ-loop : tie.MeasureT-loop
+μ-loop t s₀ entries i₀ s i = entries - i
+
+entry-count-requires : tie.Need-entry-count-requires Inv-loop μ-loop
+entry-count-requires c κs = omega arith
+
+loop-holds : tie.Need-loop-holds Inv-loop μ-loop
+loop-holds c = (omega arith, refl, start _ _ _ (c .entry-count .ensures))
+
+mul-read-line : tie.Need-mul-read-line Inv-loop μ-loop
+mul-read-line c = omega arith
+
+add-read-line : tie.Need-add-read-line Inv-loop μ-loop
+add-read-line c = omega arith
+
+read-line-requires : tie.Need-read-line-requires Inv-loop μ-loop
+read-line-requires c κs = omega arith
+
+make-requires : tie.Need-make-requires Inv-loop μ-loop
+make-requires c κs = search needs
+
+is-written-requires : tie.Need-is-written-requires Inv-loop μ-loop
+is-written-requires c κs = search needs
+
+cast-t13 : tie.Need-cast-t13 Inv-loop μ-loop
+cast-t13 c = omega arith
+
+same-length : tie.Need-same-length Inv-loop μ-loop
+same-length c = omega arith
+
+returns : tie.Need-returns Inv-loop μ-loop
+returns c =
+    let call = c .before .before .before .before in
+    let at = call .before .before .before .before in
+    let left : at .before .entry-count .result - at .loop .i ≡ suc (at .before .entry-count .result - (at .loop .i + 1)) = omega arith in
+    differs-there _ _ _ (at .loop .i) _ _ _ _ (call .before .before .read-line .ensures) (call .make .ensures) left (failed (c .before .is-written .ensures) (c .if1 .taken)) ∙ at .loop .inv .2
+
+add-i : tie.Need-add-i Inv-loop μ-loop
+add-i c = omega arith
+
+loop-less : tie.Need-loop-less Inv-loop μ-loop
+loop-less c = omega arith
+
+loop-again : tie.Need-loop-again Inv-loop μ-loop
+loop-again c =
+    let call = c .before .before .before .before in
+    let at = call .before .before .before .before in
+    let left : at .before .entry-count .result - at .loop .i ≡ suc (at .before .entry-count .result - (at .loop .i + 1)) = omega arith in
+    (omega arith, omega arith, same-on _ _ _ (at .loop .i) _ _ _ _ (call .before .before .read-line .ensures) (call .make .ensures) left (passed (c .before .is-written .ensures) (c .if1 .left)) ∙ at .loop .inv .2)
+
+same-length-2 : tie.Need-same-length-2 Inv-loop μ-loop
+same-length-2 c = omega arith
+
+returns-2 : tie.Need-returns-2 Inv-loop μ-loop
+returns-2 c =
+    let at = c .before in
+    all-same _ _ (at .loop .i) _ (omega arith) ∙ at .loop .inv .2
+
+pub play-spec : {M : Type 1} → statement M
+play-spec =
+    tie.close
+    (tie.spec
+    Inv-loop
+    μ-loop
+    entry-count-requires
+    loop-holds
+    mul-read-line
+    add-read-line
+    read-line-requires
+    make-requires
+    is-written-requires
+    cast-t13
+    same-length
+    returns
+    add-i
+    loop-less
+    loop-again
+    same-length-2
+    returns-2)

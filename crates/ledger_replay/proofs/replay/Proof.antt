@@ -1,0 +1,55 @@
+-- `replay` meets its contract. Assumes nothing.
+use mathlib.Core.Bool.{true, not}
+use mathlib.Core.Path.{_≡_, ap, _∙_}
+use native.Mathlib.Omega.{arith}
+use borrow.Author.Tests.{eq-eqb, ne-eqb}
+use Rattle.refusals.specs.Judge.{judge}
+use Rattle.octets.proofs.Laws.{failed, passed}
+use Rattle.ledger_changes.specs.Bytes.{judged}
+use Rattle.ledger_replay.specs.Trace.{entriesOf}
+use Rattle.ledger_replay.specs.Replay.{replayFrom, replayOn}
+use Rattle.ledger_replay.proofs.Clauses.{trace-parts}
+use borrow.Author.Needs.{needs}
+use Rattle.ledger_replay.proofs.replay.Statement.{statement}
+use Rattle.ledger_replay.proofs.replay.Tie as tie
+
+returns : tie.Need-returns
+unfolding replayOn judged judge
+returns c = rw (ne-eqb _ _ (c .if1 .taken))
+
+is-trace-requires : tie.Need-is-trace-requires
+is-trace-requires c κs = search needs
+
+returns-2 : tie.Need-returns-2
+unfolding replayOn judged judge
+returns-2 c = rw (eq-eqb _ _ (c .before .before .if1 .left), failed (c .before .is-trace .ensures) (c .if2 .taken))
+
+fresh-requires : tie.Need-fresh-requires
+fresh-requires c κs = search needs
+
+play-requires : tie.Need-play-requires
+play-requires c κs =
+    let parts = trace-parts _ (passed (c .before .before .before .before .before .before .is-trace .ensures) (c .before .before .before .before .before .if2 .left)) in
+    (parts .long, omega (arith, parts .header .filled), parts .header .few)
+
+same-length : tie.Need-same-length
+same-length c = search needs
+
+returns-3 : tie.Need-returns-3
+unfolding replayOn judged judge
+returns-3 c =
+    let tested = c .before .before .before .before .before .before .before .before in
+    rw (eq-eqb _ _ (tested .before .before .if1 .left), passed (tested .before .is-trace .ensures) (tested .if2 .left))
+    (c .before .before .play .ensures ∙ ap (λ s. replayFrom 0 (entriesOf (c .before .before .before .before .before .before .before .before .before .before .before .before .before .args .t .now)) s) (ap (λ o. o .1) (c .before .before .before .before .before .before .fresh .ensures)))
+
+pub replay-spec : {M : Type 1} → statement M
+replay-spec =
+    tie.close
+    (tie.spec
+    returns
+    is-trace-requires
+    returns-2
+    fresh-requires
+    play-requires
+    same-length
+    returns-3)

@@ -1,0 +1,29 @@
+-- What the functions that make an entry's call settle between them; no public statement cites it. Assumes nothing.
+use Prim.Native.Nat.{ℕ}
+use mathlib.Core.Bool.{cond}
+use mathlib.Core.List.{List}
+use lib.Dec.{eqb}
+use Rattle.ledger_model.specs.Step.{Call, Open, Tick, Untick, Save, Drop, Strike, answerWords}
+use Rattle.ledger_layout.specs.Layout.{call, onSheet}
+use Rattle.ledger_replay.specs.declared.Line.{Line}
+use Rattle.ledger_replay.specs.declared.Told.{Told}
+use Rattle.ledger_replay.specs.Trace.{openCall, tickCall, untickCall, saveCall, dropCall, answerIn}
+use Rattle.ledger_replay.specs.Replay.{told}
+
+-- The call of an entry that is no enrolment; of one that is no open, tick or untick either.
+unfoldable pub lastIn : Line → Call
+lastIn x = cond (eqb (x .call) saveCall) (Save (x .desk)) (cond (eqb (x .call) dropCall) (Drop (x .desk)) (Strike (x .row)))
+
+unfoldable pub plainIn : Line → Call
+plainIn x =
+    cond (eqb (x .call) openCall) (Open (x .desk) (x .row))
+    (cond (eqb (x .call) tickCall) (Tick (x .desk) (x .number))
+    (cond (eqb (x .call) untickCall) (Untick (x .desk) (x .number)) (lastIn x)))
+
+-- What a call answers and leaves.
+unfoldable pub made : Call → List ℕ → Told × List ℕ
+made c s = (told (onSheet (call c) s .0), onSheet (call c) s .1)
+
+-- What is written of the answer.
+unfoldable pub written : Line → Told
+written x = told (answerWords (answerIn x))

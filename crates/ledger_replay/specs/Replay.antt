@@ -1,0 +1,46 @@
+-- Document 02, request 11: a trace played again. Every call is `onSheet (call c)`, which the ledger's contracts cite. Assumes nothing.
+use Prim.Native.Nat.{ℕ, suc}
+use mathlib.Core.Bool.{Bool, cond, not, _&&_}
+use mathlib.Core.List.{List, [], _∷_}
+use lib.Dec.{eqb}
+use lib.ListN.{length, getD}
+use Rattle.refusals.specs.Table.{numberOf}
+use Rattle.refusals.specs.Judge.{_when_}
+use Rattle.ledger_model.specs.Step.{Call, answerWords, Entry, _⇒_}
+use Rattle.ledger_sheet.specs.Sheet.{sheetSize}
+use Rattle.ledger_changes.specs.Bytes.{Outcome, judged}
+use Rattle.ledger_layout.specs.Layout.{call, onSheet, freshOn}
+use Rattle.ledger_replay.specs.declared.Told.{Told}
+use Rattle.ledger_replay.specs.declared.Replayed.{Replayed}
+use Rattle.ledger_replay.specs.declared.Replayed.the-variants.{Same, Differs, Refused}
+use Rattle.ledger_replay.specs.Trace.{isTrace, entriesOf}
+
+-- The paper's number and values of each case of the answer.
+abbrev pub replayedWords : Replayed → List ℕ
+replayedWords Same = 0 ∷ []
+replayedWords (Differs entry number row) = 0 ∷ entry ∷ number ∷ row ∷ []
+replayedWords (Refused r) = numberOf r ∷ []
+
+-- "what it answered (number, and enrol's row or 0)", of an answer's words.
+unfoldable pub told : List ℕ → Told
+told words = record { number = getD words 0 0; row = getD words 1 0 }
+
+unfoldable pub sameTold : Told → Told → Bool
+sameTold x y = eqb (x .number) (y .number) && eqb (x .row) (y .row)
+
+-- "the first entry that differs, counted from 0, and what it answered"
+abbrev pub differs : ℕ → Told → List ℕ
+differs k x = 0 ∷ k ∷ x .number ∷ x .row ∷ []
+
+-- The entries from entry k on, played over the sheet s: each call is made; where it answers as written the next one is, and else the
+-- sheet is left as after that call.
+unfoldable pub replayFrom : (k : ℕ) → List Entry → List ℕ → Outcome
+replayFrom k [] s = (0 ∷ [], s)
+replayFrom k ((c ⇒ a) ∷ entries) s =
+    let made = onSheet (call c) s in
+    cond (sameTold (told (made .0)) (told (answerWords a))) (replayFrom (suc k) entries (made .1)) (differs k (told (made .0)), made .1)
+
+-- "20 first, for a lent slice not 6,968 bytes long; 40 for a trace not so formed, sheet untouched." Else the sheet is made fresh.
+unfoldable pub replayOn : (t s : List ℕ) → Outcome
+replayOn t s =
+    judged ((20 when not (eqb (length s) sheetSize)) ∷ (40 when not (isTrace t)) ∷ []) (replayFrom 0 (entriesOf t) (freshOn s .1)) s

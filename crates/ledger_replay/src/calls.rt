@@ -1,0 +1,99 @@
+// The call of an entry, made on a sheet, and whether it answers as is written.
+use crate::DROP;
+use crate::ENROL;
+use crate::Line;
+use crate::OPEN;
+use crate::SAVE;
+use crate::TICK;
+use crate::Told;
+use crate::UNTICK;
+use ledger_sheet::Answer;
+use ledger_sheet::RowAnswer;
+use refusals::number;
+ghost use mathlib.Core.Path.{_≡_};
+ghost use Rattle.ledger_sheet.specs.Words.{answerWords, rowWords};
+ghost use Rattle.ledger_layout.specs.Layout.{call, onSheet};
+ghost use Rattle.ledger_replay.specs.Trace.{callIn};
+ghost use Rattle.ledger_replay.specs.Replay.{told, sameTold};
+ghost use Rattle.ledger_replay.specs.Making.{lastIn, plainIn, made, written};
+
+pub fn make(s: &mut [u8], x: Line) -> Told
+    ensures { λ r. ⌜ (r, now (s .exit)) ≡ made (callIn x) (now (s .entry)) ⌝ }
+{
+    if x.call == ENROL {
+        return tell_row(ledger::enrol(s, x.key, x.number));
+    }
+    tell(make_plain(s, x))
+}
+
+fn make_plain(s: &mut [u8], x: Line) -> Answer
+    ensures { λ r. ⌜ (answerWords r, now (s .exit)) ≡ onSheet (call (plainIn x)) (now (s .entry)) ⌝ }
+{
+    if x.call == OPEN {
+        return ledger::open(s, x.desk as u32, x.row as u32);
+    }
+    if x.call == TICK {
+        return ledger::tick(s, x.desk as u32, x.number);
+    }
+    if x.call == UNTICK {
+        return ledger::untick(s, x.desk as u32, x.number);
+    }
+    make_last(s, x)
+}
+
+fn make_last(s: &mut [u8], x: Line) -> Answer
+    ensures { λ r. ⌜ (answerWords r, now (s .exit)) ≡ onSheet (call (lastIn x)) (now (s .entry)) ⌝ }
+{
+    if x.call == SAVE {
+        return ledger::save(s, x.desk as u32);
+    }
+    if x.call == DROP {
+        return ledger::drop(s, x.desk as u32);
+    }
+    ledger::strike(s, x.row as u32)
+}
+
+fn tell(a: Answer) -> Told
+    ensures { λ r. ⌜ r ≡ told (answerWords a) ⌝ }
+{
+    match a {
+        Answer::Done => Told { number: 0, row: 0 },
+        Answer::Refused(why) => Told {
+            number: number(why),
+            row: 0,
+        },
+    }
+}
+
+fn tell_row(a: RowAnswer) -> Told
+    ensures { λ r. ⌜ r ≡ told (rowWords a) ⌝ }
+{
+    match a {
+        RowAnswer::Row(row) => Told { number: 0, row },
+        RowAnswer::Refused(why) => Told {
+            number: number(why),
+            row: 0,
+        },
+    }
+}
+
+pub fn is_written(x: Line, answered: Told) -> bool
+    ensures { λ r. ⌜ r ≡ sameTold answered (written x) ⌝ }
+{
+    let same_number = answered.number == x.answer as u32;
+    let same_row = answered.row == written_row(x) as u32;
+    same_number & same_row
+}
+
+// The row of an enrolment that was accepted, as written; else 0.
+fn written_row(x: Line) -> u8
+    ensures { λ r. ⌜ r ≡ written x .row ⌝ }
+{
+    if x.call != ENROL {
+        return 0;
+    }
+    if x.answer != 0 {
+        return 0;
+    }
+    x.row
+}
