@@ -1,0 +1,40 @@
+-- What a replay says of a night (document 02, request 11). Assumes nothing.
+use Prim.Native.Nat.{ℕ, _≤_}
+use mathlib.Core.Path.{_≡_}
+use mathlib.Core.Bool.{true}
+use mathlib.Core.List.{List, [], _∷_, map}
+use lib.ListN.{length}
+use Rattle.ledger_model.specs.Book.{fresh}
+use Rattle.ledger_model.specs.Step.{Entry, callOf, run, bookAfter}
+use Rattle.ledger_sheet.specs.Sheet.{sheetSize}
+use Rattle.ledger_layout.specs.Layout.{layout}
+use Rattle.ledger.specs.Private.{Night}
+use Rattle.ledger_replay.specs.Trace.{mostEntries, isTrace, entriesOf}
+use Rattle.ledger_replay.specs.Record.{recorded, traceOf}
+use Rattle.ledger_replay.specs.Replay.{replayOn}
+use Rattle.ledger_replay.specs.Laws.{ReadsBack}
+
+-- A night is any calls at all, made one after the other on a sheet that `fresh` made, each keeping its contract, with what they answered, to
+-- the sheet `last`. The trace of those that are kept reads back; and, played over whatever slice of a sheet's length, it says 'same' and
+-- leaves the night's sheet, byte for byte.
+pub record PlaysAgain (log : List Entry) (last : List ℕ) : Type 0 where
+  pub reads-back : ReadsBack (recorded log)
+  pub same-sheet : (s : List ℕ) → length s ≡ sheetSize → replayOn (traceOf (recorded log)) s ≡ (0 ∷ [], last)
+
+abbrev pub NightPlaysAgain : Type 0
+NightPlaysAgain = (log : List Entry) (last : List ℕ) → Night log last → length (recorded log) ≤ mostEntries → PlaysAgain log last
+
+-- "says "same" exactly when every call answers as written": where a replay of any trace says so, every answer in the trace is the model's, and
+-- the sheet is the model's book laid out;
+pub record AsModel (t s : List ℕ) : Type 0 where
+  pub model-answers : run fresh (map callOf (entriesOf t)) .log ≡ entriesOf t
+  pub model-sheet : replayOn t s .1 ≡ layout (bookAfter (entriesOf t))
+
+abbrev pub SameIsModel : Type 0
+SameIsModel = (t s : List ℕ) → replayOn t s .0 ≡ 0 ∷ [] → AsModel t s
+
+-- and where every answer in a trace is the model's, it does.
+abbrev pub ModelIsSame : Type 0
+ModelIsSame =
+    (t s : List ℕ) → length s ≡ sheetSize → isTrace t ≡ true → run fresh (map callOf (entriesOf t)) .log ≡ entriesOf t
+    → replayOn t s ≡ (0 ∷ [], layout (bookAfter (entriesOf t)))
