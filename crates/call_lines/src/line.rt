@@ -15,6 +15,7 @@ pub enum Form {
     Minus,
     Nothing,
     Done,
+    Same,
     BadFrame,
 }
 
@@ -69,6 +70,10 @@ impl Line {
 
     pub fn done(self) -> Line {
         self.put(Form::Done, 0)
+    }
+
+    pub fn same(self) -> Line {
+        self.put(Form::Same, 0)
     }
 
     pub fn number(self, n: u64) -> Line {

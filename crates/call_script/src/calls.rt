@@ -13,6 +13,9 @@ pub const CONVERT: u32 = 31;
 // The op that reports on a season.
 const SEASON: u32 = 33;
 
+// The op that plays a trace again over the sheet.
+const REPLAY: u32 = 32;
+
 pub fn call(f: Frame, a: &[u8], b: &[u8], sheet: &mut [u8], n: usize) -> Line {
     if f.op < NEW_SHEET {
         return on_bytes(f, a, b);
@@ -25,6 +28,9 @@ pub fn call(f: Frame, a: &[u8], b: &[u8], sheet: &mut [u8], n: usize) -> Line {
     }
     if f.op == SEASON {
         return seasons::season(a);
+    }
+    if f.op == REPLAY {
+        return sheets::replayed(a, sheet, n);
     }
     sheets::on_sheet(f, sheet, n)
 }

@@ -2,6 +2,7 @@
 use call_lines::Frame;
 use call_lines::crc::crc;
 use call_lines::line::Line;
+use ledger_replay::Replayed;
 use ledger_sheet::Answer;
 use ledger_sheet::GapAnswer;
 use ledger_sheet::ReportAnswer;
@@ -28,6 +29,31 @@ pub fn converted(a: &[u8], room: &mut [u8], n: usize) -> Line {
     fill(s);
     let line = done(ledger_convert::convert(a, s));
     line.number32(crc(s))
+}
+
+// The trace t played again over the sheet, which is the first n bytes of its room.
+pub fn replayed(t: &[u8], room: &mut [u8], n: usize) -> Line {
+    if room.len() < n {
+        return Line::empty();
+    }
+    let s = &mut room[..n];
+    let line = played(ledger_replay::replay(t, s));
+    line.number32(crc(s))
+}
+
+fn played(answer: Replayed) -> Line {
+    match answer {
+        Replayed::Same => Line::accepted().same(),
+        Replayed::Differs { entry, number, row } => differing(entry, number, row),
+        Replayed::Refused(why) => Line::refused(why),
+    }
+}
+
+fn differing(entry: u32, number: u32, row: u32) -> Line {
+    Line::accepted()
+        .number32(entry)
+        .number32(number)
+        .number32(row)
 }
 
 fn fill(s: &mut [u8]) {

@@ -37,6 +37,7 @@ fn word(out: &mut [u8], at: usize, word: Word) -> usize {
         Form::Minus => minus(out, at, word.n),
         Form::Nothing => letters(out, at, b"none"),
         Form::Done => letters(out, at, b"done"),
+        Form::Same => letters(out, at, b"same"),
         Form::BadFrame => letters(out, at, b"bad frame"),
     }
 }

@@ -1,26 +1,18 @@
 // The receipt ledger: the public calls on a lent sheet (document 01, "The ledger sheet"; document 02, requests 03 and 10). Each contract has one shape: the words
 // of the answer, and the sheet as it is left, are the model's call on the book that the sheet holds, laid out again. What is
 // not a right sheet is refused with 20 and left as it was.
-use ledger_changes::desks::clear_desk;
+pub mod judged;
+
 use ledger_changes::desks::make_fresh;
-use ledger_changes::desks::open_desk;
-use ledger_changes::desks::save_desk;
-use ledger_changes::rows::enrol_row;
 use ledger_changes::rows::find_row;
-use ledger_changes::rows::strike_row;
-use ledger_changes::ticks::mark_desk;
 use ledger_sheet::Answer;
 use ledger_sheet::GapAnswer;
 use ledger_sheet::ReportAnswer;
 use ledger_sheet::RowAnswer;
 use ledger_sheet::SHEET;
 use ledger_sheet::right::is_sheet;
-use ledger_verdicts::desk_verdict;
-use ledger_verdicts::enrol_verdict;
 use ledger_verdicts::find_verdict;
-use ledger_verdicts::open_verdict;
 use ledger_verdicts::report_verdict;
-use ledger_verdicts::strike_verdict;
 use refusals::Refusal;
 ghost use mathlib.Core.Path.{_≡_};
 ghost use mathlib.Core.Bool.{true, false};
@@ -43,11 +35,8 @@ pub fn fresh(s: &mut [u8]) -> Answer
 pub fn enrol(s: &mut [u8], key: u64, first: u32) -> RowAnswer
     ensures { λ r. ⌜ (rowWords r, now (s .exit)) ≡ onSheet (call (Enrol key first)) (now (s .entry)) ⌝ }
 {
-    let verdict = enrol_verdict(s, key, first);
-    if let Answer::Refused(why) = verdict {
-        return RowAnswer::Refused(why);
-    }
-    RowAnswer::Row(enrol_row(s, key, first))
+    let fine = is_sheet(s);
+    judged::enrol(s, fine, key, first)
 }
 
 // Finds a stream; answers its row.
@@ -65,12 +54,8 @@ pub fn find(s: &[u8], key: u64) -> RowAnswer
 pub fn open(s: &mut [u8], desk: u32, row: u32) -> Answer
     ensures { λ r. ⌜ (answerWords r, now (s .exit)) ≡ onSheet (call (Open desk row)) (now (s .entry)) ⌝ }
 {
-    let verdict = open_verdict(s, desk, row);
-    if let Answer::Refused(why) = verdict {
-        return Answer::Refused(why);
-    }
-    open_desk(s, desk as usize, row as usize);
-    Answer::Done
+    let fine = is_sheet(s);
+    judged::open(s, fine, desk, row)
 }
 
 // Ticks a number in the desk's worked copy.
@@ -91,46 +76,32 @@ pub fn untick(s: &mut [u8], desk: u32, number: u32) -> Answer
 fn mark(s: &mut [u8], desk: u32, number: u32, on: bool) -> Answer
     ensures { λ r. ⌜ (answerWords r, now (s .exit)) ≡ onSheet (call (Mark on desk number)) (now (s .entry)) ⌝ }
 {
-    let verdict = desk_verdict(s, desk);
-    if let Answer::Refused(why) = verdict {
-        return Answer::Refused(why);
-    }
-    mark_desk(s, desk as usize, number, on)
+    let fine = is_sheet(s);
+    judged::mark(s, fine, desk, number, on)
 }
 
 // Drops what the desk has open.
 pub fn drop(s: &mut [u8], desk: u32) -> Answer
     ensures { λ r. ⌜ (answerWords r, now (s .exit)) ≡ onSheet (call (Drop desk)) (now (s .entry)) ⌝ }
 {
-    let verdict = desk_verdict(s, desk);
-    if let Answer::Refused(why) = verdict {
-        return Answer::Refused(why);
-    }
-    clear_desk(s, desk as usize);
-    Answer::Done
+    let fine = is_sheet(s);
+    judged::drop(s, fine, desk)
 }
 
 // Saves what the desk has worked on, where its row is still as it was opened.
 pub fn save(s: &mut [u8], desk: u32) -> Answer
     ensures { λ r. ⌜ (answerWords r, now (s .exit)) ≡ onSheet (call (Save desk)) (now (s .entry)) ⌝ }
 {
-    let verdict = desk_verdict(s, desk);
-    if let Answer::Refused(why) = verdict {
-        return Answer::Refused(why);
-    }
-    save_desk(s, desk as usize)
+    let fine = is_sheet(s);
+    judged::save(s, fine, desk)
 }
 
 // Strikes a row that no desk has open: its place is free again.
 pub fn strike(s: &mut [u8], row: u32) -> Answer
     ensures { λ r. ⌜ (answerWords r, now (s .exit)) ≡ onSheet (call (Strike row)) (now (s .entry)) ⌝ }
 {
-    let verdict = strike_verdict(s, row);
-    if let Answer::Refused(why) = verdict {
-        return Answer::Refused(why);
-    }
-    strike_row(s, row as usize);
-    Answer::Done
+    let fine = is_sheet(s);
+    judged::strike(s, fine, row)
 }
 
 // Reports on a row: how many numbers are ticked, how many are missing, and the lowest missing one.

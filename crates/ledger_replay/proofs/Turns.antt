@@ -6,15 +6,22 @@ use mathlib.Core.Bool.{Bool, true, false, cond}
 use mathlib.Core.List.{List, [], _∷_}
 use mathlib.Core.Path.{_≡_, refl, sym, ap, _∙_}
 use lib.Dec.{eqb}
-use lib.ListN.{getD}
-use borrow.Author.Tests.{eqb-true}
-use Rattle.ledger_model.specs.Step.{Answer, done, atRow, refused, answerWords, Entry}
+use lib.ListN.{length, getD}
+use borrow.Author.Tests.{eqb-true, eq-eqb}
+use Rattle.ledger_model.specs.Book.{fresh}
+use Rattle.ledger_model.specs.Step.{Call, done, atRow, refused, answerWords, step}
+use Rattle.ledger_model.proofs.Outcome.{outcome}
+use Rattle.ledger_model.proofs.WellFormed.{well-formed, fresh-well-formed}
+use Rattle.ledger_sheet.specs.Sheet.{sheetSize, right}
 use Rattle.ledger_changes.specs.Bytes.{Outcome}
+use Rattle.ledger_layout.specs.Layout.{layout, call, onSheet, freshOn}
+use Rattle.ledger_layout.proofs.Right.{layout-right}
+use Rattle.ledger_layout.proofs.Sheets.{on-layout}
 use Rattle.ledger_replay.specs.declared.Line.{Line}
 use Rattle.ledger_replay.specs.declared.Told.{Told}
 use Rattle.ledger_replay.specs.Trace.{enrolCall, count, entryAt, lineAt, callIn, answerIn, entriesFrom, entriesOf}
 use Rattle.ledger_replay.specs.Replay.{told, sameTold, differs, replayFrom}
-use Rattle.ledger_replay.specs.Making.{made, written}
+use Rattle.ledger_replay.specs.Making.{made, written, IsLaid}
 
 -- ---- what is written of an answer
 
@@ -63,3 +70,25 @@ module _ (t s s′ : List ℕ) (k n m : ℕ) (x : Line) (a : Told) (read : x ≡
 pub all-same : (t s : List ℕ) (k n : ℕ) → n ≡ 0 → (0 ∷ [], s) ≡ replayFrom k (entriesFrom t k n) s
 unfolding replayFrom entriesFrom
 all-same t s k n e = rw e
+
+-- ---- the sheet stays right
+
+pub fresh-laid : (s t : List ℕ) (a : List ℕ) → length s ≡ sheetSize → (a, t) ≡ freshOn s → IsLaid t
+unfolding freshOn
+fresh-laid s t a l e =
+    let made : _≡_ {A = Outcome} (a, t) (0 ∷ [], layout fresh) = rw (eq-eqb (length s) sheetSize l) at e in
+    record { book = fresh; fine = fresh-well-formed; laid-out = ap (λ o. o .1) made }
+
+pub laid-right : (s : List ℕ) → IsLaid s → right s ≡ true
+laid-right s k = rw (k .laid-out) (layout-right (k .book) (k .fine))
+
+pub laid-next : (s s′ : List ℕ) (c : Call) (a : Told) → IsLaid s → (a, s′) ≡ made c s → IsLaid s′
+unfolding made
+laid-next s s′ c a k e =
+    let b = k .book in
+    let left = ap (λ o. o .1) e in
+    record {
+      book = step c b .book;
+      fine = well-formed b (k .fine) (outcome c b);
+      laid-out = left ∙ ap (λ t. onSheet (call c) t .1) (k .laid-out) ∙ ap (λ o. o .1) (on-layout (call c) b (k .fine));
+    }

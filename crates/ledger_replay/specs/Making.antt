@@ -2,9 +2,12 @@
 use Prim.Native.Nat.{ℕ}
 use mathlib.Core.Bool.{cond}
 use mathlib.Core.List.{List}
+use mathlib.Core.Path.{_≡_}
 use lib.Dec.{eqb}
+use Rattle.ledger_model.specs.Book.{Book}
 use Rattle.ledger_model.specs.Step.{Call, Open, Tick, Untick, Save, Drop, Strike, answerWords}
-use Rattle.ledger_layout.specs.Layout.{call, onSheet}
+use Rattle.ledger_model.specs.WellFormed.{WellFormed}
+use Rattle.ledger_layout.specs.Layout.{layout, call, onSheet}
 use Rattle.ledger_replay.specs.declared.Line.{Line}
 use Rattle.ledger_replay.specs.declared.Told.{Told}
 use Rattle.ledger_replay.specs.Trace.{openCall, tickCall, untickCall, saveCall, dropCall, answerIn}
@@ -27,3 +30,9 @@ made c s = (told (onSheet (call c) s .0), onSheet (call c) s .1)
 -- What is written of the answer.
 unfoldable pub written : Line → Told
 written x = told (answerWords (answerIn x))
+
+-- A sheet that is some well-formed book, laid out: as fresh leaves it, and every call after.
+pub record IsLaid (s : List ℕ) : Type 0 where
+  pub book : Book
+  pub fine : WellFormed book
+  pub laid-out : s ≡ layout book

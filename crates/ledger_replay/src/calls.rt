@@ -1,4 +1,5 @@
-// The call of an entry, made on a sheet, and whether it answers as is written.
+// The call of an entry, made on a right sheet, which it leaves right; and whether it answers as is written. So the sheet is not checked again for each
+// call.
 use crate::DROP;
 use crate::ENROL;
 use crate::Line;
@@ -11,6 +12,8 @@ use ledger_sheet::Answer;
 use ledger_sheet::RowAnswer;
 use refusals::number;
 ghost use mathlib.Core.Path.{_≡_};
+ghost use mathlib.Core.Bool.{true};
+ghost use Rattle.ledger_sheet.specs.Sheet.{right};
 ghost use Rattle.ledger_sheet.specs.Words.{answerWords, rowWords};
 ghost use Rattle.ledger_layout.specs.Layout.{call, onSheet};
 ghost use Rattle.ledger_replay.specs.Trace.{callIn};
@@ -18,39 +21,42 @@ ghost use Rattle.ledger_replay.specs.Replay.{told, sameTold};
 ghost use Rattle.ledger_replay.specs.Making.{lastIn, plainIn, made, written};
 
 pub fn make(s: &mut [u8], x: Line) -> Told
+    requires { ⌜ right (now s) ≡ true ⌝ }
     ensures { λ r. ⌜ (r, now (s .exit)) ≡ made (callIn x) (now (s .entry)) ⌝ }
 {
     if x.call == ENROL {
-        return tell_row(ledger::enrol(s, x.key, x.number));
+        return tell_row(ledger::judged::enrol(s, true, x.key, x.number));
     }
     tell(make_plain(s, x))
 }
 
 fn make_plain(s: &mut [u8], x: Line) -> Answer
+    requires { ⌜ right (now s) ≡ true ⌝ }
     ensures { λ r. ⌜ (answerWords r, now (s .exit)) ≡ onSheet (call (plainIn x)) (now (s .entry)) ⌝ }
 {
     if x.call == OPEN {
-        return ledger::open(s, x.desk as u32, x.row as u32);
+        return ledger::judged::open(s, true, x.desk as u32, x.row as u32);
     }
     if x.call == TICK {
-        return ledger::tick(s, x.desk as u32, x.number);
+        return ledger::judged::mark(s, true, x.desk as u32, x.number, true);
     }
     if x.call == UNTICK {
-        return ledger::untick(s, x.desk as u32, x.number);
+        return ledger::judged::mark(s, true, x.desk as u32, x.number, false);
     }
     make_last(s, x)
 }
 
 fn make_last(s: &mut [u8], x: Line) -> Answer
+    requires { ⌜ right (now s) ≡ true ⌝ }
     ensures { λ r. ⌜ (answerWords r, now (s .exit)) ≡ onSheet (call (lastIn x)) (now (s .entry)) ⌝ }
 {
     if x.call == SAVE {
-        return ledger::save(s, x.desk as u32);
+        return ledger::judged::save(s, true, x.desk as u32);
     }
     if x.call == DROP {
-        return ledger::drop(s, x.desk as u32);
+        return ledger::judged::drop(s, true, x.desk as u32);
     }
-    ledger::strike(s, x.row as u32)
+    ledger::judged::strike(s, true, x.row as u32)
 }
 
 fn tell(a: Answer) -> Told

@@ -14,6 +14,7 @@ ghost use mathlib.Core.Path.{_≡_};
 ghost use Prim.Native.Nat.{_≤_};
 ghost use lib.ListN.{length};
 ghost use Rattle.ledger_replay.specs.Trace.{headerSize, mostEntries, count, entryAt, entriesOf};
+ghost use Rattle.ledger_replay.specs.Making.{IsLaid};
 ghost use Rattle.ledger_replay.specs.Replay.{replayedWords, replayFrom, replayOn};
 
 // The header: three numbers of 4 bytes.
@@ -96,6 +97,7 @@ pub fn replay(t: &[u8], s: &mut [u8]) -> Replayed
 
 fn play(t: &[u8], s: &mut [u8]) -> Replayed
     requires { ⌜ (headerSize ≤ length (now t)) × (entryAt (count (now t)) ≤ length (now t)) × (count (now t) ≤ mostEntries) ⌝ }
+    requires { ⌜ IsLaid (now s) ⌝ }
     ensures { λ r. ⌜ (replayedWords r, now (s .exit)) ≡ replayFrom 0 (entriesOf (now (t .entry))) (now (s .entry)) ⌝ }
 {
     let entries = entry_count(t);

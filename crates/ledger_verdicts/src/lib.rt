@@ -1,4 +1,5 @@
-// Whether a call of the ledger is refused, judged in the order of the refusal table. Nothing is changed.
+// Whether a call of the ledger is refused, judged in the order of the refusal table. Nothing is changed. A call that may be made again and
+// again is handed whether the sheet is right: one that such a call left is.
 use ledger_changes::desks::is_closed;
 use ledger_changes::desks::is_idle;
 use ledger_changes::rows::free_row;
@@ -10,13 +11,15 @@ use ledger_sheet::right::is_row;
 use ledger_sheet::right::is_sheet;
 use refusals::Refusal;
 ghost use mathlib.Core.Path.{_≡_};
+ghost use Rattle.ledger_sheet.specs.Sheet.{right};
 ghost use Rattle.ledger_sheet.specs.Words.{answerWords};
 ghost use Rattle.ledger_verdicts.specs.Verdicts.{enrolRows, findRows, openRows, deskRows, reportRows, strikeRows, verdictWords};
 
-pub fn enrol_verdict(s: &[u8], key: u64, first: u32) -> Answer
+pub fn enrol_verdict(s: &[u8], fine: bool, key: u64, first: u32) -> Answer
+    requires { ⌜ fine ≡ right (now s) ⌝ }
     ensures { λ r. ⌜ answerWords r ≡ verdictWords (enrolRows key first (now (s .entry))) ⌝ }
 {
-    if !is_sheet(s) {
+    if !fine {
         return Answer::Refused(Refusal::NotSheet);
     }
     if !keys::valid(key) {
@@ -49,10 +52,11 @@ pub fn find_verdict(s: &[u8], key: u64) -> Answer
     Answer::Done
 }
 
-pub fn open_verdict(s: &[u8], desk: u32, row: u32) -> Answer
+pub fn open_verdict(s: &[u8], fine: bool, desk: u32, row: u32) -> Answer
+    requires { ⌜ fine ≡ right (now s) ⌝ }
     ensures { λ r. ⌜ answerWords r ≡ verdictWords (openRows desk row (now (s .entry))) ⌝ }
 {
-    if !is_sheet(s) {
+    if !fine {
         return Answer::Refused(Refusal::NotSheet);
     }
     if desk as usize >= DESKS {
@@ -68,10 +72,11 @@ pub fn open_verdict(s: &[u8], desk: u32, row: u32) -> Answer
 }
 
 // Of a call by a desk that must have a row open.
-pub fn desk_verdict(s: &[u8], desk: u32) -> Answer
+pub fn desk_verdict(s: &[u8], fine: bool, desk: u32) -> Answer
+    requires { ⌜ fine ≡ right (now s) ⌝ }
     ensures { λ r. ⌜ answerWords r ≡ verdictWords (deskRows desk (now (s .entry))) ⌝ }
 {
-    if !is_sheet(s) {
+    if !fine {
         return Answer::Refused(Refusal::NotSheet);
     }
     if desk as usize >= DESKS {
@@ -95,10 +100,11 @@ pub fn report_verdict(s: &[u8], row: u32) -> Answer
     Answer::Done
 }
 
-pub fn strike_verdict(s: &[u8], row: u32) -> Answer
+pub fn strike_verdict(s: &[u8], fine: bool, row: u32) -> Answer
+    requires { ⌜ fine ≡ right (now s) ⌝ }
     ensures { λ r. ⌜ answerWords r ≡ verdictWords (strikeRows row (now (s .entry))) ⌝ }
 {
-    if !is_sheet(s) {
+    if !fine {
         return Answer::Refused(Refusal::NotSheet);
     }
     if !is_row(s, row as usize) {

@@ -7,12 +7,13 @@ use lib.ListN.{length}
 use Rattle.octets.proofs.Laws.{failed, passed}
 use Rattle.ledger_replay.specs.Trace.{entriesFrom, entriesOf}
 use Rattle.ledger_replay.specs.Replay.{replayFrom}
-use Rattle.ledger_replay.proofs.Turns.{start, same-on, differs-there, all-same}
+use Rattle.ledger_replay.specs.Making.{IsLaid}
+use Rattle.ledger_replay.proofs.Turns.{start, same-on, differs-there, all-same, laid-right, laid-next}
 use Rattle.ledger_replay.proofs.play.Statement.{statement}
 use Rattle.ledger_replay.proofs.play.Tie as tie
 
 abbrev Inv-loop : tie.InvT-loop
-Inv-loop t s₀ entries i₀ s i = (i ≤ entries) × (length s ≡ length s₀) × (replayFrom i (entriesFrom t i (entries - i)) s ≡ replayFrom 0 (entriesOf t) s₀)
+Inv-loop t s₀ entries i₀ s i = (i ≤ entries) × (length s ≡ length s₀) × IsLaid s × (replayFrom i (entriesFrom t i (entries - i)) s ≡ replayFrom 0 (entriesOf t) s₀)
 
 abbrev μ-loop : tie.MeasureT-loop
 μ-loop t s₀ entries i₀ s i = entries - i
@@ -21,7 +22,7 @@ entry-count-requires : tie.Need-entry-count-requires Inv-loop μ-loop
 entry-count-requires c κs = omega arith
 
 loop-holds : tie.Need-loop-holds Inv-loop μ-loop
-loop-holds c = (omega arith, refl, start _ _ _ (c .entry-count .ensures))
+loop-holds c = (omega arith, refl, c .before .before .before .pre .1, start _ _ _ (c .entry-count .ensures))
 
 mul-read-line : tie.Need-mul-read-line Inv-loop μ-loop
 mul-read-line c = omega arith
@@ -33,7 +34,7 @@ read-line-requires : tie.Need-read-line-requires Inv-loop μ-loop
 read-line-requires c κs = omega arith
 
 make-requires : tie.Need-make-requires Inv-loop μ-loop
-make-requires c κs = search needs
+make-requires c κs = laid-right _ (c .before .before .before .loop .inv .2)
 
 is-written-requires : tie.Need-is-written-requires Inv-loop μ-loop
 is-written-requires c κs = search needs
@@ -49,7 +50,7 @@ returns c =
     let call = c .before .before .before .before in
     let at = call .before .before .before .before in
     let left : at .before .entry-count .result - at .loop .i ≡ suc (at .before .entry-count .result - (at .loop .i + 1)) = omega arith in
-    differs-there _ _ _ (at .loop .i) _ _ _ _ (call .before .before .read-line .ensures) (call .make .ensures) left (failed (c .before .is-written .ensures) (c .if1 .taken)) ∙ at .loop .inv .2
+    differs-there _ _ _ (at .loop .i) _ _ _ _ (call .before .before .read-line .ensures) (call .make .ensures) left (failed (c .before .is-written .ensures) (c .if1 .taken)) ∙ at .loop .inv .3
 
 add-i : tie.Need-add-i Inv-loop μ-loop
 add-i c = omega arith
@@ -62,7 +63,7 @@ loop-again c =
     let call = c .before .before .before .before in
     let at = call .before .before .before .before in
     let left : at .before .entry-count .result - at .loop .i ≡ suc (at .before .entry-count .result - (at .loop .i + 1)) = omega arith in
-    (omega arith, omega arith, same-on _ _ _ (at .loop .i) _ _ _ _ (call .before .before .read-line .ensures) (call .make .ensures) left (passed (c .before .is-written .ensures) (c .if1 .left)) ∙ at .loop .inv .2)
+    (omega arith, omega arith, laid-next _ _ _ _ (at .loop .inv .2) (call .make .ensures), same-on _ _ _ (at .loop .i) _ _ _ _ (call .before .before .read-line .ensures) (call .make .ensures) left (passed (c .before .is-written .ensures) (c .if1 .left)) ∙ at .loop .inv .3)
 
 same-length-2 : tie.Need-same-length-2 Inv-loop μ-loop
 same-length-2 c = omega arith
@@ -70,7 +71,7 @@ same-length-2 c = omega arith
 returns-2 : tie.Need-returns-2 Inv-loop μ-loop
 returns-2 c =
     let at = c .before in
-    all-same _ _ (at .loop .i) _ (omega arith) ∙ at .loop .inv .2
+    all-same _ _ (at .loop .i) _ (omega arith) ∙ at .loop .inv .3
 
 pub play-spec : {M : Type 1} → statement M
 play-spec =

@@ -9,6 +9,7 @@ use Rattle.ledger_changes.specs.Bytes.{judged}
 use Rattle.ledger_replay.specs.Trace.{entriesOf}
 use Rattle.ledger_replay.specs.Replay.{replayFrom, replayOn}
 use Rattle.ledger_replay.proofs.Clauses.{trace-parts}
+use Rattle.ledger_replay.proofs.Turns.{fresh-laid}
 use borrow.Author.Needs.{needs}
 use Rattle.ledger_replay.proofs.replay.Statement.{statement}
 use Rattle.ledger_replay.proofs.replay.Tie as tie
@@ -30,7 +31,8 @@ fresh-requires c κs = search needs
 play-requires : tie.Need-play-requires
 play-requires c κs =
     let parts = trace-parts _ (passed (c .before .before .before .before .before .before .is-trace .ensures) (c .before .before .before .before .before .if2 .left)) in
-    (parts .long, omega (arith, parts .header .filled), parts .header .few)
+    let made = c .before .before .before in
+    ((parts .long, omega (arith, parts .header .filled), parts .header .few), fresh-laid _ _ _ (made .before .before .before .before .if1 .left) (made .fresh .ensures))
 
 same-length : tie.Need-same-length
 same-length c = search needs

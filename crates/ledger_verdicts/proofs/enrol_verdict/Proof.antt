@@ -8,12 +8,9 @@ use borrow.Author.Needs.{needs}
 use Rattle.ledger_verdicts.proofs.enrol_verdict.Statement.{statement}
 use Rattle.ledger_verdicts.proofs.enrol_verdict.Tie as tie
 
-is-sheet-requires : tie.Need-is-sheet-requires
-is-sheet-requires c κs = search needs
-
 returns : tie.Need-returns
 unfolding verdictWords judge
-returns c = rw (failed (c .before .is-sheet .ensures) (c .if1 .taken))
+returns c = rw (failed (c .before .before .pre) (c .if1 .taken))
 
 valid-requires : tie.Need-valid-requires
 valid-requires c κs = search needs
@@ -22,7 +19,7 @@ returns-2 : tie.Need-returns-2
 unfolding verdictWords judge
 returns-2 c =
     let right = c .before .before in
-    rw (passed (right .before .is-sheet .ensures) (right .if1 .left), failed (c .before .valid .ensures) (c .if2 .taken))
+    rw (passed (right .before .before .pre) (right .if1 .left), failed (c .before .valid .ensures) (c .if2 .taken))
 
 is-number-requires : tie.Need-is-number-requires
 is-number-requires c κs = search needs
@@ -33,7 +30,7 @@ returns-3 c =
     let valid = c .before .before in
     let right = valid .before .before in
     rw (
-      passed (right .before .is-sheet .ensures) (right .if1 .left),
+      passed (right .before .before .pre) (right .if1 .left),
       passed (valid .before .valid .ensures) (valid .if2 .left),
       failed (c .before .is-number .ensures) (c .if3 .taken),
     )
@@ -41,7 +38,7 @@ returns-3 c =
 has-key-requires : tie.Need-has-key-requires
 has-key-requires c κs =
     let right = c .before .before .before .before in
-    right-parts _ (passed (right .before .is-sheet .ensures) (right .if1 .left)) .long
+    right-parts _ (passed (right .before .before .pre) (right .if1 .left)) .long
 
 returns-4 : tie.Need-returns-4
 unfolding verdictWords judge
@@ -50,7 +47,7 @@ returns-4 c =
     let valid = number .before .before in
     let right = valid .before .before in
     rw (
-      passed (right .before .is-sheet .ensures) (right .if1 .left),
+      passed (right .before .before .pre) (right .if1 .left),
       passed (valid .before .valid .ensures) (valid .if2 .left),
       passed (number .before .is-number .ensures) (number .if3 .left),
       ← c .before .has-key .ensures,
@@ -60,7 +57,7 @@ returns-4 c =
 free-row-requires : tie.Need-free-row-requires
 free-row-requires c κs =
     let right = c .before .before .before .before .before .before in
-    right-parts _ (passed (right .before .is-sheet .ensures) (right .if1 .left)) .long
+    right-parts _ (passed (right .before .before .pre) (right .if1 .left)) .long
 
 returns-5 : tie.Need-returns-5
 unfolding verdictWords judge
@@ -70,7 +67,7 @@ returns-5 c =
     let valid = number .before .before in
     let right = valid .before .before in
     rw (
-      passed (right .before .is-sheet .ensures) (right .if1 .left),
+      passed (right .before .before .pre) (right .if1 .left),
       passed (valid .before .valid .ensures) (valid .if2 .left),
       passed (number .before .is-number .ensures) (number .if3 .left),
       ← new .before .has-key .ensures,
@@ -87,7 +84,7 @@ returns-6 c =
     let valid = number .before .before in
     let right = valid .before .before in
     rw (
-      passed (right .before .is-sheet .ensures) (right .if1 .left),
+      passed (right .before .before .pre) (right .if1 .left),
       passed (valid .before .valid .ensures) (valid .if2 .left),
       passed (number .before .is-number .ensures) (number .if3 .left),
       ← new .before .has-key .ensures,
@@ -100,7 +97,6 @@ pub enrol-verdict-spec : {M : Type 1} → statement M
 enrol-verdict-spec =
     tie.close
     (tie.spec
-    is-sheet-requires
     returns
     valid-requires
     returns-2

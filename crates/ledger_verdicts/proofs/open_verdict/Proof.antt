@@ -5,23 +5,19 @@ use Rattle.octets.proofs.Laws.{failed, passed}
 use Rattle.refusals.specs.Judge.{verdict, judge}
 use Rattle.ledger_sheet.proofs.Clauses.{right-parts}
 use Rattle.ledger_verdicts.specs.Verdicts.{verdictWords}
-use borrow.Author.Needs.{needs}
 use Rattle.ledger_verdicts.proofs.open_verdict.Statement.{statement}
 use Rattle.ledger_verdicts.proofs.open_verdict.Tie as tie
 
-is-sheet-requires : tie.Need-is-sheet-requires
-is-sheet-requires c κs = search needs
-
 returns : tie.Need-returns
 unfolding verdictWords judge
-returns c = rw (failed (c .before .is-sheet .ensures) (c .if1 .taken))
+returns c = rw (failed (c .before .before .pre) (c .if1 .taken))
 
 returns-2 : tie.Need-returns-2
 unfolding verdictWords judge
-returns-2 c = rw (passed (c .before .before .is-sheet .ensures) (c .before .if1 .left), le-ltb _ _ (c .if2 .taken))
+returns-2 c = rw (passed (c .before .before .before .pre) (c .before .if1 .left), le-ltb _ _ (c .if2 .taken))
 
 is-row-requires : tie.Need-is-row-requires
-is-row-requires c κs = right-parts _ (passed (c .before .before .is-sheet .ensures) (c .before .if1 .left)) .long
+is-row-requires c κs = right-parts _ (passed (c .before .before .before .pre) (c .before .if1 .left)) .long
 
 returns-3 : tie.Need-returns-3
 unfolding verdictWords judge
@@ -29,7 +25,7 @@ returns-3 c =
     let desk = c .before .before in
     let right = desk .before in
     rw (
-      passed (right .before .is-sheet .ensures) (right .if1 .left),
+      passed (right .before .before .pre) (right .if1 .left),
       lt-ltb _ _ (desk .if2 .left),
       failed (c .before .is-row .ensures) (c .if3 .taken),
     )
@@ -38,7 +34,7 @@ is-closed-requires : tie.Need-is-closed-requires
 is-closed-requires c κs =
     let desk = c .before .before in
     let right = desk .before in
-    (right-parts _ (passed (right .before .is-sheet .ensures) (right .if1 .left)) .long, omega (arith, desk .if2 .left))
+    (right-parts _ (passed (right .before .before .pre) (right .if1 .left)) .long, omega (arith, desk .if2 .left))
 
 returns-4 : tie.Need-returns-4
 unfolding verdictWords judge
@@ -47,7 +43,7 @@ returns-4 c =
     let desk = there .before .before in
     let right = desk .before in
     rw (
-      passed (right .before .is-sheet .ensures) (right .if1 .left),
+      passed (right .before .before .pre) (right .if1 .left),
       lt-ltb _ _ (desk .if2 .left),
       passed (there .before .is-row .ensures) (there .if3 .left),
       failed (c .before .is-closed .ensures) (c .if4 .taken),
@@ -60,11 +56,11 @@ returns-5 c =
     let desk = there .before .before in
     let right = desk .before in
     rw (
-      passed (right .before .is-sheet .ensures) (right .if1 .left),
+      passed (right .before .before .pre) (right .if1 .left),
       lt-ltb _ _ (desk .if2 .left),
       passed (there .before .is-row .ensures) (there .if3 .left),
       passed (c .before .is-closed .ensures) (c .if4 .left),
     )
 
 pub open-verdict-spec : {M : Type 1} → statement M
-open-verdict-spec = tie.close (tie.spec is-sheet-requires returns returns-2 is-row-requires returns-3 is-closed-requires returns-4 returns-5)
+open-verdict-spec = tie.close (tie.spec returns returns-2 is-row-requires returns-3 is-closed-requires returns-4 returns-5)

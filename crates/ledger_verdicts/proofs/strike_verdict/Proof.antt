@@ -3,30 +3,26 @@ use Rattle.octets.proofs.Laws.{failed, passed}
 use Rattle.refusals.specs.Judge.{verdict, judge}
 use Rattle.ledger_sheet.proofs.Clauses.{right-parts}
 use Rattle.ledger_verdicts.specs.Verdicts.{verdictWords}
-use borrow.Author.Needs.{needs}
 use Rattle.ledger_verdicts.proofs.strike_verdict.Statement.{statement}
 use Rattle.ledger_verdicts.proofs.strike_verdict.Tie as tie
 
-is-sheet-requires : tie.Need-is-sheet-requires
-is-sheet-requires c κs = search needs
-
 returns : tie.Need-returns
 unfolding verdictWords judge
-returns c = rw (failed (c .before .is-sheet .ensures) (c .if1 .taken))
+returns c = rw (failed (c .before .before .pre) (c .if1 .taken))
 
 is-row-requires : tie.Need-is-row-requires
-is-row-requires c κs = right-parts _ (passed (c .before .is-sheet .ensures) (c .if1 .left)) .long
+is-row-requires c κs = right-parts _ (passed (c .before .before .pre) (c .if1 .left)) .long
 
 returns-2 : tie.Need-returns-2
 unfolding verdictWords judge
 returns-2 c =
     let right = c .before .before in
-    rw (passed (right .before .is-sheet .ensures) (right .if1 .left), failed (c .before .is-row .ensures) (c .if2 .taken))
+    rw (passed (right .before .before .pre) (right .if1 .left), failed (c .before .is-row .ensures) (c .if2 .taken))
 
 is-idle-requires : tie.Need-is-idle-requires
 is-idle-requires c κs =
     let right = c .before .before in
-    right-parts _ (passed (right .before .is-sheet .ensures) (right .if1 .left)) .long
+    right-parts _ (passed (right .before .before .pre) (right .if1 .left)) .long
 
 returns-3 : tie.Need-returns-3
 unfolding verdictWords judge
@@ -34,7 +30,7 @@ returns-3 c =
     let there = c .before .before in
     let right = there .before .before in
     rw (
-      passed (right .before .is-sheet .ensures) (right .if1 .left),
+      passed (right .before .before .pre) (right .if1 .left),
       passed (there .before .is-row .ensures) (there .if2 .left),
       failed (c .before .is-idle .ensures) (c .if3 .taken),
     )
@@ -45,10 +41,10 @@ returns-4 c =
     let there = c .before .before in
     let right = there .before .before in
     rw (
-      passed (right .before .is-sheet .ensures) (right .if1 .left),
+      passed (right .before .before .pre) (right .if1 .left),
       passed (there .before .is-row .ensures) (there .if2 .left),
       passed (c .before .is-idle .ensures) (c .if3 .left),
     )
 
 pub strike-verdict-spec : {M : Type 1} → statement M
-strike-verdict-spec = tie.close (tie.spec is-sheet-requires returns is-row-requires returns-2 is-idle-requires returns-3 returns-4)
+strike-verdict-spec = tie.close (tie.spec returns is-row-requires returns-2 is-idle-requires returns-3 returns-4)

@@ -1,5 +1,5 @@
 -- `calls::make` meets its contract. Assumes nothing.
-use mathlib.Core.Path.{ap}
+use mathlib.Core.Path.{sym, ap}
 use borrow.Author.Tests.{eq-eqb, ne-eqb}
 use Rattle.ledger_replay.specs.Trace.{callIn}
 use Rattle.ledger_replay.specs.Replay.{told}
@@ -9,7 +9,7 @@ use Rattle.ledger_replay.proofs.calls.make.Statement.{statement}
 use Rattle.ledger_replay.proofs.calls.make.Tie as tie
 
 enrol-requires : tie.Need-enrol-requires
-enrol-requires c κs = search needs
+enrol-requires c κs = sym (c .before .before .before .before .pre)
 
 tell-row-requires : tie.Need-tell-row-requires
 tell-row-requires c κs = search needs
@@ -22,7 +22,7 @@ unfolding callIn made
 returns c = rw (eq-eqb _ _ (c .before .before .before .before .before .if1 .taken), c .tell-row .ensures) (ap (λ o. (told (o .0), o .1)) (c .before .before .before .enrol .ensures))
 
 make-plain-requires : tie.Need-make-plain-requires
-make-plain-requires c κs = search needs
+make-plain-requires c κs = c .before .before .before .before .pre
 
 tell-requires : tie.Need-tell-requires
 tell-requires c κs = search needs

@@ -1,4 +1,5 @@
 -- `calls::make_last` meets its contract. Assumes nothing.
+use mathlib.Core.Path.{sym}
 use borrow.Author.Tests.{eq-eqb, ne-eqb}
 use Rattle.ledger_replay.specs.Making.{lastIn}
 use borrow.Author.Needs.{needs}
@@ -9,7 +10,7 @@ cast-save : tie.Need-cast-save
 cast-save c = search needs
 
 save-requires : tie.Need-save-requires
-save-requires c κs = search needs
+save-requires c κs = sym (c .before .before .before .before .before .pre)
 
 same-length : tie.Need-same-length
 same-length c = search needs
@@ -22,7 +23,7 @@ cast-drop : tie.Need-cast-drop
 cast-drop c = search needs
 
 drop-requires : tie.Need-drop-requires
-drop-requires c κs = search needs
+drop-requires c κs = sym (c .before .before .before .before .before .before .before .pre)
 
 same-length-2 : tie.Need-same-length-2
 same-length-2 c = search needs
@@ -37,7 +38,7 @@ cast-strike : tie.Need-cast-strike
 cast-strike c = search needs
 
 strike-requires : tie.Need-strike-requires
-strike-requires c κs = search needs
+strike-requires c κs = sym (c .before .before .before .before .before .before .before .pre)
 
 same-length-3 : tie.Need-same-length-3
 same-length-3 c = search needs

@@ -1,4 +1,5 @@
 -- `calls::make_plain` meets its contract. Assumes nothing.
+use mathlib.Core.Path.{sym}
 use borrow.Author.Tests.{eq-eqb, ne-eqb}
 use Rattle.ledger_replay.specs.Making.{plainIn}
 use borrow.Author.Needs.{needs}
@@ -12,7 +13,7 @@ cast-open-2 : tie.Need-cast-open-2
 cast-open-2 c = search needs
 
 open-requires : tie.Need-open-requires
-open-requires c κs = search needs
+open-requires c κs = sym (c .before .before .before .before .before .before .pre)
 
 same-length : tie.Need-same-length
 same-length c = search needs
@@ -21,11 +22,11 @@ returns : tie.Need-returns
 unfolding plainIn
 returns c = rw (eq-eqb _ _ (c .before .before .before .before .before .before .if1 .taken)) (c .before .before .«open» .ensures)
 
-cast-tick : tie.Need-cast-tick
-cast-tick c = search needs
+cast-mark : tie.Need-cast-mark
+cast-mark c = search needs
 
-tick-requires : tie.Need-tick-requires
-tick-requires c κs = search needs
+mark-requires : tie.Need-mark-requires
+mark-requires c κs = sym (c .before .before .before .before .before .before .before .pre)
 
 same-length-2 : tie.Need-same-length-2
 same-length-2 c = search needs
@@ -34,13 +35,13 @@ returns-2 : tie.Need-returns-2
 unfolding plainIn
 returns-2 c =
     let tested = c .before .before .before .before .before in
-    rw (ne-eqb _ _ (tested .before .before .if1 .left), eq-eqb _ _ (tested .if2 .taken)) (c .before .before .tick .ensures)
+    rw (ne-eqb _ _ (tested .before .before .if1 .left), eq-eqb _ _ (tested .if2 .taken)) (c .before .before .mark .ensures)
 
-cast-untick : tie.Need-cast-untick
-cast-untick c = search needs
+cast-mark-2 : tie.Need-cast-mark-2
+cast-mark-2 c = search needs
 
-untick-requires : tie.Need-untick-requires
-untick-requires c κs = search needs
+mark-requires-2 : tie.Need-mark-requires-2
+mark-requires-2 c κs = sym (c .before .before .before .before .before .before .before .before .before .pre)
 
 same-length-3 : tie.Need-same-length-3
 same-length-3 c = search needs
@@ -50,10 +51,10 @@ unfolding plainIn
 returns-3 c =
     let tested = c .before .before .before .before .before in
     let before = tested .before .before in
-    rw (ne-eqb _ _ (before .before .before .if1 .left), ne-eqb _ _ (before .if2 .left), eq-eqb _ _ (tested .if3 .taken)) (c .before .before .untick .ensures)
+    rw (ne-eqb _ _ (before .before .before .if1 .left), ne-eqb _ _ (before .if2 .left), eq-eqb _ _ (tested .if3 .taken)) (c .before .before .mark2 .ensures)
 
 make-last-requires : tie.Need-make-last-requires
-make-last-requires c κs = search needs
+make-last-requires c κs = c .before .before .before .before .before .before .before .before .pre
 
 same-length-4 : tie.Need-same-length-4
 same-length-4 c = search needs
@@ -74,12 +75,12 @@ make-plain-spec =
     open-requires
     same-length
     returns
-    cast-tick
-    tick-requires
+    cast-mark
+    mark-requires
     same-length-2
     returns-2
-    cast-untick
-    untick-requires
+    cast-mark-2
+    mark-requires-2
     same-length-3
     returns-3
     make-last-requires

@@ -1,4 +1,4 @@
--- `open` meets its contract. Assumes nothing.
+-- `judged::open` meets its contract. Assumes nothing.
 use native.Mathlib.Omega.{arith}
 use mathlib.Core.Path.{ap, _∙_}
 use Rattle.ledger_changes.specs.Bytes.{done}
@@ -6,11 +6,11 @@ use Rattle.ledger_model.specs.Step.{Open}
 use Rattle.ledger_verdicts.proofs.Judged.{refused-is, accepted-is, open-fine}
 use Rattle.ledger.proofs.Calls.{by-rows}
 use borrow.Author.Needs.{needs}
-use Rattle.ledger.proofs.open.Statement.{statement}
-use Rattle.ledger.proofs.open.Tie as tie
+use Rattle.ledger.proofs.judged.open.Statement.{statement}
+use Rattle.ledger.proofs.judged.open.Tie as tie
 
 open-verdict-requires : tie.Need-open-verdict-requires
-open-verdict-requires c κs = search needs
+open-verdict-requires c κs = c .before .before .pre
 
 enum-known-verdict : tie.Need-enum-known-verdict
 enum-known-verdict c = search needs

@@ -1,14 +1,14 @@
--- `save` meets its contract. Assumes nothing.
+-- `judged::save` meets its contract. Assumes nothing.
 use mathlib.Core.Path.{_∙_}
 use Rattle.ledger_model.specs.Step.{Save}
 use Rattle.ledger_verdicts.proofs.Judged.{refused-is, accepted-is, desk-fine}
 use Rattle.ledger.proofs.Calls.{by-rows}
 use borrow.Author.Needs.{needs}
-use Rattle.ledger.proofs.save.Statement.{statement}
-use Rattle.ledger.proofs.save.Tie as tie
+use Rattle.ledger.proofs.judged.save.Statement.{statement}
+use Rattle.ledger.proofs.judged.save.Tie as tie
 
 desk-verdict-requires : tie.Need-desk-verdict-requires
-desk-verdict-requires c κs = search needs
+desk-verdict-requires c κs = c .before .before .pre
 
 enum-known-verdict : tie.Need-enum-known-verdict
 enum-known-verdict c = search needs

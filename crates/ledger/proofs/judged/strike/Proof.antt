@@ -1,4 +1,4 @@
--- `strike` meets its contract. Assumes nothing.
+-- `judged::strike` meets its contract. Assumes nothing.
 use native.Mathlib.Omega.{arith}
 use mathlib.Core.Path.{ap, _∙_}
 use Rattle.ledger_changes.specs.Bytes.{done}
@@ -6,11 +6,11 @@ use Rattle.ledger_model.specs.Step.{Strike}
 use Rattle.ledger_verdicts.proofs.Judged.{refused-is, accepted-is, strike-fine}
 use Rattle.ledger.proofs.Calls.{by-rows}
 use borrow.Author.Needs.{needs}
-use Rattle.ledger.proofs.strike.Statement.{statement}
-use Rattle.ledger.proofs.strike.Tie as tie
+use Rattle.ledger.proofs.judged.strike.Statement.{statement}
+use Rattle.ledger.proofs.judged.strike.Tie as tie
 
 strike-verdict-requires : tie.Need-strike-verdict-requires
-strike-verdict-requires c κs = search needs
+strike-verdict-requires c κs = c .before .before .pre
 
 enum-known-verdict : tie.Need-enum-known-verdict
 enum-known-verdict c = search needs

@@ -1,13 +1,13 @@
--- `enrol` meets its contract. Assumes nothing.
+-- `judged::enrol` meets its contract. Assumes nothing.
 use Rattle.ledger_model.specs.Step.{Enrol}
 use Rattle.ledger_verdicts.proofs.Judged.{refused-is, accepted-is, enrol-fine}
 use Rattle.ledger.proofs.Calls.{by-rows}
 use borrow.Author.Needs.{needs}
-use Rattle.ledger.proofs.enrol.Statement.{statement}
-use Rattle.ledger.proofs.enrol.Tie as tie
+use Rattle.ledger.proofs.judged.enrol.Statement.{statement}
+use Rattle.ledger.proofs.judged.enrol.Tie as tie
 
 enrol-verdict-requires : tie.Need-enrol-verdict-requires
-enrol-verdict-requires c κs = search needs
+enrol-verdict-requires c κs = c .before .before .pre
 
 enum-known-verdict : tie.Need-enum-known-verdict
 enum-known-verdict c = search needs
