@@ -5,8 +5,7 @@ use std::collections::BTreeMap;
 use std::io::{self, Write};
 use std::ops::RangeInclusive;
 
-/// The refusals that a random script of 2,000 calls has to meet; 17 is the listing program's alone. That of traces (40)
-/// joins when its calls stand in every script (`AWAITED` in random.rs).
+/// The refusals that a random script of 2,000 calls has to meet; 17 is the listing program's alone.
 const REFUSALS: &[RangeInclusive<u32>] = &[
     // Records and streams.
     1..=16,
@@ -19,8 +18,8 @@ const REFUSALS: &[RangeInclusive<u32>] = &[
     // The ledger.
     20..=32,
     36..=36,
-    // Seasons.
-    41..=42,
+    // Traces; seasons.
+    40..=42,
     // Mission settings.
     43..=47,
     // Medium band records.

@@ -56,9 +56,6 @@ const SCENES: &[(Scene, usize, &str)] = &[
     (Scene::Settings, 3, "settings"),
 ];
 
-/// The parts whose calls the library has not got yet: they stand in scripts of their part alone.
-const AWAITED: &[&str] = &["traces"];
-
 /// The parts of which a script alone can be made.
 pub fn parts() -> Vec<&'static str> {
     let mut parts: Vec<&str> = SCENES.iter().map(|(_, _, part)| *part).collect();
@@ -133,7 +130,7 @@ pub fn script_of(seed: u64, count: usize, part: Option<&str>) -> Vec<Frame> {
         settings: Deck::new(settings::SETTINGS_CASES.to_vec()),
         damaged_settings: Deck::new(settings::damages()),
     };
-    let scenes = SCENES.iter().filter(|(_, _, of)| part.map_or(!AWAITED.contains(of), |part| part == *of));
+    let scenes = SCENES.iter().filter(|(_, _, of)| part.is_none_or(|part| part == *of));
     let mut scenes = Deck::new(scenes.flat_map(|(scene, times, _)| vec![*scene; *times]).collect());
     while g.frames.len() < count {
         let scene = scenes.deal(&g.rng);

@@ -109,7 +109,14 @@ good (Enrol key first ⇒ a) h =
     let k = and-split _ _ (p .0) in
     let r = rowed a (p .1) in
     record {
-      held = record { call-byte = lit< tt; desk-byte = lit< tt; row-byte = r .row-byte; answer-byte = r .byte; number-fits = ltb-true _ _ (k .1); key-fits = ltb-true _ _ (k .0) };
+      held = record {
+        call-byte = lit< tt;
+        desk-byte = lit< tt;
+        row-byte = r .row-byte;
+        answer-byte = r .byte;
+        number-fits = ltb-true _ _ (k .1);
+        key-fits = ltb-true _ _ (k .0);
+      };
       right = rw (r .row-fine, or-true (eqb first 0), or-true (eqb key 0));
       back = ap (λ x. Enrol key first ⇒ x) (r .back);
     }
@@ -119,7 +126,14 @@ good (Open d r ⇒ a) h =
     let k = and-split _ _ (p .0) in
     let t = nothing a (p .1) in
     record {
-      held = record { call-byte = lit< tt; desk-byte = ltb-true _ _ (k .0); row-byte = ltb-true _ _ (k .1); answer-byte = t .byte; number-fits = lit< tt; key-fits = lit< tt };
+      held = record {
+        call-byte = lit< tt;
+        desk-byte = ltb-true _ _ (k .0);
+        row-byte = ltb-true _ _ (k .1);
+        answer-byte = t .byte;
+        number-fits = lit< tt;
+        key-fits = lit< tt;
+      };
       right = rw (or-true (eqb d 0), or-true (eqb r 0));
       back = ap (λ x. Open d r ⇒ x) (t .back);
     }
@@ -128,7 +142,14 @@ good (Mark true d n ⇒ a) h =
     let k = and-split _ _ (p .0) in
     let t = nothing a (p .1) in
     record {
-      held = record { call-byte = lit< tt; desk-byte = ltb-true _ _ (k .0); row-byte = lit< tt; answer-byte = t .byte; number-fits = ltb-true _ _ (k .1); key-fits = lit< tt };
+      held = record {
+        call-byte = lit< tt;
+        desk-byte = ltb-true _ _ (k .0);
+        row-byte = lit< tt;
+        answer-byte = t .byte;
+        number-fits = ltb-true _ _ (k .1);
+        key-fits = lit< tt;
+      };
       right = rw (or-true (eqb d 0), or-true (eqb n 0 || false));
       back = ap (λ x. Mark true d n ⇒ x) (t .back);
     }
@@ -137,7 +158,14 @@ good (Mark false d n ⇒ a) h =
     let k = and-split _ _ (p .0) in
     let t = nothing a (p .1) in
     record {
-      held = record { call-byte = lit< tt; desk-byte = ltb-true _ _ (k .0); row-byte = lit< tt; answer-byte = t .byte; number-fits = ltb-true _ _ (k .1); key-fits = lit< tt };
+      held = record {
+        call-byte = lit< tt;
+        desk-byte = ltb-true _ _ (k .0);
+        row-byte = lit< tt;
+        answer-byte = t .byte;
+        number-fits = ltb-true _ _ (k .1);
+        key-fits = lit< tt;
+      };
       right = rw (or-true (eqb d 0), or-true (eqb n 0 || false || false));
       back = ap (λ x. Mark false d n ⇒ x) (t .back);
     }
@@ -145,7 +173,14 @@ good (Save d ⇒ a) h =
     let p = and-split _ _ h in
     let t = nothing a (p .1) in
     record {
-      held = record { call-byte = lit< tt; desk-byte = ltb-true _ _ (p .0); row-byte = lit< tt; answer-byte = t .byte; number-fits = lit< tt; key-fits = lit< tt };
+      held = record {
+        call-byte = lit< tt;
+        desk-byte = ltb-true _ _ (p .0);
+        row-byte = lit< tt;
+        answer-byte = t .byte;
+        number-fits = lit< tt;
+        key-fits = lit< tt;
+      };
       right = rw (or-true (eqb d 0));
       back = ap (λ x. Save d ⇒ x) (t .back);
     }
@@ -153,7 +188,14 @@ good (Drop d ⇒ a) h =
     let p = and-split _ _ h in
     let t = nothing a (p .1) in
     record {
-      held = record { call-byte = lit< tt; desk-byte = ltb-true _ _ (p .0); row-byte = lit< tt; answer-byte = t .byte; number-fits = lit< tt; key-fits = lit< tt };
+      held = record {
+        call-byte = lit< tt;
+        desk-byte = ltb-true _ _ (p .0);
+        row-byte = lit< tt;
+        answer-byte = t .byte;
+        number-fits = lit< tt;
+        key-fits = lit< tt;
+      };
       right = rw (or-true (eqb d 0));
       back = ap (λ x. Drop d ⇒ x) (t .back);
     }
@@ -161,7 +203,14 @@ good (Strike r ⇒ a) h =
     let p = and-split _ _ h in
     let t = nothing a (p .1) in
     record {
-      held = record { call-byte = lit< tt; desk-byte = lit< tt; row-byte = ltb-true _ _ (p .0); answer-byte = t .byte; number-fits = lit< tt; key-fits = lit< tt };
+      held = record {
+        call-byte = lit< tt;
+        desk-byte = lit< tt;
+        row-byte = ltb-true _ _ (p .0);
+        answer-byte = t .byte;
+        number-fits = lit< tt;
+        key-fits = lit< tt;
+      };
       right = rw (or-true (eqb r 0 || false));
       back = ap (λ x. Strike r ⇒ x) (t .back);
     }

@@ -93,7 +93,8 @@ module _ (x : Line) where
     nothing : (a : Answer) → answerFits c a ≡ nothingFits a
 
   called : (t u v w y : Bool)
-      → Called (cond t (Open (x .desk) (x .row)) (cond u (Tick (x .desk) (x .number)) (cond v (Untick (x .desk) (x .number)) (cond w (Save (x .desk)) (cond y (Drop (x .desk)) (Strike (x .row)))))))
+      → Called (cond t (Open (x .desk) (x .row)) (cond u (Tick (x .desk) (x .number)) (cond v (Untick (x .desk) (x .number))
+      (cond w (Save (x .desk)) (cond y (Drop (x .desk)) (Strike (x .row)))))))
   unfolding asks answerFits
   called true u v w y = record { no-question = refl; nothing = λ a. refl }
   called false true v w y = record { no-question = refl; nothing = λ a. refl }
@@ -207,7 +208,8 @@ night-plays-again log last night few =
     let back = written-reads-back (recorded log) few (kept-fit log fresh fresh-well-formed answers) in
     let again = kept-run log fresh fresh-well-formed answers in
     let same-log = back .same-log in
-    let log-again : run fresh (map callOf (entriesOf (traceOf (recorded log)))) .log ≡ entriesOf (traceOf (recorded log)) = rw same-log (ap (λ r. r .log) again) in
+    let entries = entriesOf (traceOf (recorded log)) in
+    let log-again : run fresh (map callOf entries) .log ≡ entries = rw same-log (ap (λ r. r .log) again) in
     record {
       reads-back = back;
       same-sheet = λ s l.

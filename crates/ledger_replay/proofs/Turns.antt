@@ -57,7 +57,8 @@ unfolding entriesOf
 start t s n e = rw (sub-zero, e)
 
 -- An entry whose call answers as written, and one whose call does not.
-module _ (t s s′ : List ℕ) (k n m : ℕ) (x : Line) (a : Told) (read : x ≡ lineAt t (entryAt k)) (call-made : (a, s′) ≡ made (callIn x) s) (one-more : n ≡ suc m) where
+module _ (t s s′ : List ℕ) (k n m : ℕ) (x : Line) (a : Told) (read : x ≡ lineAt t (entryAt k)) (call-made : (a, s′) ≡ made (callIn x) s)
+    (one-more : n ≡ suc m) where
   pub same-on : sameTold a (written x) ≡ true → replayFrom (k + 1) (entriesFrom t (k + 1) m) s′ ≡ replayFrom k (entriesFrom t k n) s
   unfolding replayFrom entriesFrom made written
   same-on e = rw (one-more, ← read, ← ap (λ o. o .0) call-made, ← ap (λ o. o .1) call-made, e, add-one)

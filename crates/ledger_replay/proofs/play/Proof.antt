@@ -1,4 +1,5 @@
--- `play` meets its contract. The invariant: the entries from i on, played over the sheet as it is, come to what all come to over the sheet as it was. Assumes nothing.
+-- `play` meets its contract. The invariant: the entries from i on, played over the sheet as it is, come to what all come to over the sheet as
+-- it was, and the sheet is a book laid out. Assumes nothing.
 use borrow.Author.Needs.{needs}
 use Prim.Native.Nat.{suc, _+_, _-_, _≤_}
 use native.Mathlib.Omega.{arith}
@@ -13,7 +14,9 @@ use Rattle.ledger_replay.proofs.play.Statement.{statement}
 use Rattle.ledger_replay.proofs.play.Tie as tie
 
 abbrev Inv-loop : tie.InvT-loop
-Inv-loop t s₀ entries i₀ s i = (i ≤ entries) × (length s ≡ length s₀) × IsLaid s × (replayFrom i (entriesFrom t i (entries - i)) s ≡ replayFrom 0 (entriesOf t) s₀)
+Inv-loop t s₀ entries i₀ s i =
+    (i ≤ entries) × (length s ≡ length s₀) × IsLaid s
+    × (replayFrom i (entriesFrom t i (entries - i)) s ≡ replayFrom 0 (entriesOf t) s₀)
 
 abbrev μ-loop : tie.MeasureT-loop
 μ-loop t s₀ entries i₀ s i = entries - i
@@ -50,7 +53,9 @@ returns c =
     let call = c .before .before .before .before in
     let at = call .before .before .before .before in
     let left : at .before .entry-count .result - at .loop .i ≡ suc (at .before .entry-count .result - (at .loop .i + 1)) = omega arith in
-    differs-there _ _ _ (at .loop .i) _ _ _ _ (call .before .before .read-line .ensures) (call .make .ensures) left (failed (c .before .is-written .ensures) (c .if1 .taken)) ∙ at .loop .inv .3
+    let read = call .before .before .read-line .ensures in
+    let differs = failed (c .before .is-written .ensures) (c .if1 .taken) in
+    differs-there _ _ _ (at .loop .i) _ _ _ _ read (call .make .ensures) left differs ∙ at .loop .inv .3
 
 add-i : tie.Need-add-i Inv-loop μ-loop
 add-i c = omega arith
@@ -63,7 +68,10 @@ loop-again c =
     let call = c .before .before .before .before in
     let at = call .before .before .before .before in
     let left : at .before .entry-count .result - at .loop .i ≡ suc (at .before .entry-count .result - (at .loop .i + 1)) = omega arith in
-    (omega arith, omega arith, laid-next _ _ _ _ (at .loop .inv .2) (call .make .ensures), same-on _ _ _ (at .loop .i) _ _ _ _ (call .before .before .read-line .ensures) (call .make .ensures) left (passed (c .before .is-written .ensures) (c .if1 .left)) ∙ at .loop .inv .3)
+    let read = call .before .before .read-line .ensures in
+    let same = passed (c .before .is-written .ensures) (c .if1 .left) in
+    let laid = laid-next _ _ _ _ (at .loop .inv .2) (call .make .ensures) in
+    (omega arith, omega arith, laid, same-on _ _ _ (at .loop .i) _ _ _ _ read (call .make .ensures) left same ∙ at .loop .inv .3)
 
 same-length-2 : tie.Need-same-length-2 Inv-loop μ-loop
 same-length-2 c = omega arith

@@ -30,9 +30,11 @@ fresh-requires c κs = search needs
 
 play-requires : tie.Need-play-requires
 play-requires c κs =
-    let parts = trace-parts _ (passed (c .before .before .before .before .before .before .is-trace .ensures) (c .before .before .before .before .before .if2 .left)) in
     let made = c .before .before .before in
-    ((parts .long, omega (arith, parts .header .filled), parts .header .few), fresh-laid _ _ _ (made .before .before .before .before .if1 .left) (made .fresh .ensures))
+    let tested = made .before .before in
+    let parts = trace-parts _ (passed (tested .before .is-trace .ensures) (tested .if2 .left)) in
+    let laid = fresh-laid _ _ _ (tested .before .before .if1 .left) (made .fresh .ensures) in
+    ((parts .long, omega (arith, parts .header .filled), parts .header .few), laid)
 
 same-length : tie.Need-same-length
 same-length c = search needs
@@ -40,9 +42,11 @@ same-length c = search needs
 returns-3 : tie.Need-returns-3
 unfolding replayOn judged judge
 returns-3 c =
-    let tested = c .before .before .before .before .before .before .before .before in
+    let made = c .before .before .before .before .before .before in
+    let tested = made .before .before in
+    let t = tested .before .before .before .before .before .args .t .now in
     rw (eq-eqb _ _ (tested .before .before .if1 .left), passed (tested .before .is-trace .ensures) (tested .if2 .left))
-    (c .before .before .play .ensures ∙ ap (λ s. replayFrom 0 (entriesOf (c .before .before .before .before .before .before .before .before .before .before .before .before .before .args .t .now)) s) (ap (λ o. o .1) (c .before .before .before .before .before .before .fresh .ensures)))
+    (c .before .before .play .ensures ∙ ap (λ s. replayFrom 0 (entriesOf t) s) (ap (λ o. o .1) (made .fresh .ensures)))
 
 pub replay-spec : {M : Type 1} → statement M
 replay-spec =

@@ -19,7 +19,9 @@ same-length c = search needs
 
 returns : tie.Need-returns
 unfolding callIn made
-returns c = rw (eq-eqb _ _ (c .before .before .before .before .before .if1 .taken), c .tell-row .ensures) (ap (λ o. (told (o .0), o .1)) (c .before .before .before .enrol .ensures))
+returns c =
+    let called = c .before .before .before in
+    rw (eq-eqb _ _ (called .before .before .if1 .taken), c .tell-row .ensures) (ap (λ o. (told (o .0), o .1)) (called .enrol .ensures))
 
 make-plain-requires : tie.Need-make-plain-requires
 make-plain-requires c κs = c .before .before .before .before .pre
@@ -32,7 +34,9 @@ same-length-2 c = search needs
 
 returns-2 : tie.Need-returns-2
 unfolding callIn plainIn lastIn made
-returns-2 c = rw (ne-eqb _ _ (c .before .before .before .before .before .if1 .left), c .tell .ensures) (ap (λ o. (told (o .0), o .1)) (c .before .before .before .make-plain .ensures))
+returns-2 c =
+    let called = c .before .before .before in
+    rw (ne-eqb _ _ (called .before .before .if1 .left), c .tell .ensures) (ap (λ o. (told (o .0), o .1)) (called .make-plain .ensures))
 
 pub make-spec : {M : Type 1} → statement M
 make-spec =
