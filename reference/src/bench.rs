@@ -3,7 +3,9 @@
 
 use crate::idr::{self, Idr};
 use crate::make::Rng;
+use crate::random::traces;
 use crate::record::{Fields, Record, Refused, Rsr, Telemetry, RSR, TELEMETRY};
+use crate::replay::{self, Replayed, MOST_ENTRIES};
 use crate::stream;
 use crate::{dates, iq, ledger, list, nights, record, sample};
 use std::hint::black_box;
@@ -32,6 +34,7 @@ pub struct Implementation {
     pub report: fn(&[u8], u32) -> u64,
     /// The counting alone: the report of a row of a right sheet, without the sheet's check.
     pub count: fn(&[u8], u32) -> u64,
+    pub replay: fn(&[u8], &mut [u8]) -> u64,
 }
 
 pub const REFERENCE: Implementation = Implementation {
@@ -49,7 +52,17 @@ pub const REFERENCE: Implementation = Implementation {
     untick: |s, desk, n| ledger::untick(s, desk, n).err().unwrap_or(0) as u64,
     report: |s, row| report_number(ledger::report(s, row)),
     count: |s, row| report_number(Ok(ledger::report_row(ledger::row(s, row as usize)))),
+    replay: |t, s| replay_number(replay::replay(t, s)),
 };
+
+/// The numbers of the answer, added up.
+fn replay_number(answer: Result<Replayed, u32>) -> u64 {
+    match answer {
+        Ok(Replayed::Same) => 0,
+        Ok(Replayed::Differs(entry, answer)) => entry as u64 + answer.number as u64 + answer.row as u64,
+        Err(refusal) => refusal as u64,
+    }
+}
 
 /// Every number of the answer, one on the other, so that every field has to be read; Px/No, which may be negative, is left out.
 fn headers_number(answer: Result<(Record, Fields), Refused>) -> u64 {
@@ -241,6 +254,7 @@ pub fn run() {
         compare(name, 1.0, &each, |i| (i.report)(black_box(s), 0));
     }
     reports(&each);
+    replays(&each);
     listing();
 }
 
@@ -308,6 +322,16 @@ fn ticked_sheet(numbers: &[u32]) -> Vec<u8> {
     }
     ledger::save(&mut s, 0).expect("not stale");
     s
+}
+
+/// A night of 4,000 calls played again: the time of one.
+fn replays(each: &[Implementation]) {
+    let night = traces::recorded(&Rng::new(1), MOST_ENTRIES);
+    let trace = replay::write_trace(&night);
+    let mut s = fresh_sheet();
+    compare("a call of a replay of 4,000", MOST_ENTRIES as f64, each, |i| {
+        (i.replay)(black_box(&trace), black_box(&mut s))
+    });
 }
 
 /// Ticks a number and unticks it (or the other way about), which leaves the sheet as it was.

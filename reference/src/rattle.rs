@@ -16,6 +16,7 @@ extern "C" {
     fn bench_untick(s: *mut u8, length: usize, desk: u32, n: u32) -> u64;
     fn bench_report(s: *const u8, length: usize, row: u32) -> u64;
     fn bench_count(s: *const u8, length: usize, row: u32) -> u64;
+    fn bench_replay(t: *const u8, trace_length: usize, s: *mut u8, length: usize) -> u64;
 }
 
 // Each pointer is good for its length, which is all that the functions ask.
@@ -34,4 +35,5 @@ pub const RATTLE: Implementation = Implementation {
     untick: |s, desk, n| unsafe { bench_untick(s.as_mut_ptr(), s.len(), desk, n) },
     report: |s, row| unsafe { bench_report(s.as_ptr(), s.len(), row) },
     count: |s, row| unsafe { bench_count(s.as_ptr(), s.len(), row) },
+    replay: |t, s| unsafe { bench_replay(t.as_ptr(), t.len(), s.as_mut_ptr(), s.len()) },
 };

@@ -41,3 +41,7 @@ dateNumber words = cond (eqb (getD words 0 0) 0) (1000 * getD words 1 0 + getD w
 -- The count of an answer's words, or the refusal's number.
 abbrev pub tallied : List ℕ → ℕ
 tallied words = cond (eqb (getD words 0 0) 0) (getD words 1 0) (getD words 0 0)
+
+-- The numbers of an answer, added up.
+abbrev pub sumOf : List ℕ → ℕ
+sumOf words = getD words 0 0 + getD words 1 0 + getD words 2 0 + getD words 3 0
