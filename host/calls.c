@@ -28,7 +28,8 @@ enum op {
     ROW_REPORT,
     FIRST_GAP,
     STRIKE,
-    CONVERT
+    CONVERT,
+    REPLAY
 };
 
 struct frame {
@@ -86,7 +87,7 @@ static uint32_t crc(const uint8_t *bytes, size_t length)
 
 static int is_exported(uint32_t op)
 {
-    return op == READ_HEADERS || op == TELEMETRY_KEY || op == RSR_KEY || op == DATE || (op >= LOAD && op <= CONVERT);
+    return op == READ_HEADERS || op == TELEMETRY_KEY || op == RSR_KEY || op == DATE || (op >= LOAD && op <= REPLAY);
 }
 
 static uint32_t make(const struct frame *f, uint8_t *answer, size_t length)
@@ -107,6 +108,7 @@ static uint32_t make(const struct frame *f, uint8_t *answer, size_t length)
     case ROW_REPORT: return hernganow_row_report(sheet, sheet_length, f->x, answer, length);
     case FIRST_GAP: return hernganow_first_gap(sheet, sheet_length, answer, length);
     case STRIKE: return hernganow_strike(sheet, sheet_length, f->x, answer, length);
+    case REPLAY: return hernganow_replay(f->a, f->a_length, sheet, sheet_length, answer, length);
     default: return hernganow_convert(f->a, f->a_length, sheet, sheet_length, answer, length);
     }
 }
@@ -147,9 +149,10 @@ static void told(char *line, const struct frame *f, uint8_t answer[HERNGANOW_ANS
     size_t count = 0;
     uint64_t numbers[HERNGANOW_ANSWER] = {0};
     for (char *word = strtok(line, " "); word; word = strtok(NULL, " ")) {
-        int none = !strcmp(word, "none");
-        /* A first gap that is none is one word, and two numbers. */
-        if (none && f->op == FIRST_GAP)
+        int same = !strcmp(word, "same");
+        int none = same || !strcmp(word, "none");
+        /* A first gap that is none is one word, and two numbers; a replay's 'same' is three. */
+        for (int more = same ? 2 : none && f->op == FIRST_GAP; more > 0; more--)
             numbers[count++] = HERNGANOW_NONE;
         numbers[count++] = none ? HERNGANOW_NONE : word[0] == '-' ? -strtoull(word + 1, NULL, 10) : strtoull(word, NULL, 10);
     }

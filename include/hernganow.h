@@ -107,6 +107,10 @@ enum hernganow_at {
     /* The first gap. */
     HERNGANOW_AT_GAP_NUMBER = 1,
     HERNGANOW_AT_GAP_ROW = 2,
+    /* A replay: the first entry that differs, and what its call answered. */
+    HERNGANOW_AT_ENTRY = 1,
+    HERNGANOW_AT_ENTRY_NUMBER = 2,
+    HERNGANOW_AT_ENTRY_ROW = 3,
     /* Read headers, of both kinds. */
     HERNGANOW_AT_KIND = 1,
     HERNGANOW_AT_SIZE = 2,
@@ -260,6 +264,17 @@ uint32_t hernganow_first_gap(
  * Refused: 20, where the old one is not right or the slice is not HERNGANOW_SHEET bytes. */
 uint32_t hernganow_convert(
     const uint8_t *old, size_t old_length,
+    uint8_t *sheet, size_t sheet_length,
+    uint8_t *answer, size_t answer_length);
+
+/* ---- Traces */
+
+/* Makes the slice a fresh sheet, whatever it held, and plays a trace of a night's calls over it, up to the first that answers otherwise than is
+ * written. Answers that entry, counted from 0, the number that its call answered, and enrol's row or 0; where every call answers as written,
+ * none: all three all ones. The sheet is left as after that entry's call, or the last. docs/INTERFACE.md has the trace's bytes.
+ * Refused: 20, where the slice is not HERNGANOW_SHEET bytes; 40, where the trace is not well-formed: the sheet stays as it was. */
+uint32_t hernganow_replay(
+    const uint8_t *trace, size_t trace_length,
     uint8_t *sheet, size_t sheet_length,
     uint8_t *answer, size_t answer_length);
 

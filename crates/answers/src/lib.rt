@@ -1,6 +1,7 @@
 // The numbers of an answer, for whoever exports, prints or times it (document 02, Req 06): the refusal's number, or 0 and the answer's
 // numbers in the papers' order; zeros behind them. Most answers have a few numbers, which are handed out without the zeros.
 pub mod ledgers;
+pub mod nights;
 pub mod places;
 pub mod records;
 

@@ -26,6 +26,13 @@ pub const GAP_NUMBER: usize = 1;
 
 pub const GAP_ROW: usize = 2;
 
+// The entry of a trace that differs, and what its call answered.
+pub const ENTRY: usize = 1;
+
+pub const ENTRY_NUMBER: usize = 2;
+
+pub const ENTRY_ROW: usize = 3;
+
 // Read headers, of both kinds.
 pub const KIND: usize = 1;
 

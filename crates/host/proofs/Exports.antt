@@ -8,24 +8,24 @@ use lib.ListN.{length}
 use Rattle.refusals.specs.Table.{numberOf}
 use Rattle.refusals.specs.declared.Refusal.the-variants.{AnswerLength}
 use Rattle.sfdu_headers.specs.Words.{Word}
-use Rattle.answers.specs.Numbers.{numbersOf, plain}
-use Rattle.host.specs.Exported.{answerSize, exported, exportedOn, Written}
+use Rattle.answers.specs.Numbers.{numbersOf}
+use Rattle.host.specs.Exported.{answerSize, exported, exportedAs, Written}
 
 pub unwritten : {r : ℕ} (words : List Word) (answer : List ℕ) → length answer ≢ answerSize → r ≡ numberOf AnswerLength → (r, answer) ≡ exported words answer
 unfolding exported
 unwritten words answer h e = rw (ne-eqb _ _ h, e)
 
-pub unwritten-on : {r : ℕ} (promised : List ℕ → List ℕ × List ℕ) (answer lent : List ℕ) → length answer ≢ answerSize → r ≡ numberOf AnswerLength
-    → (r, answer, lent) ≡ exportedOn promised answer lent
-unfolding exportedOn
-unwritten-on promised answer lent h e = rw (ne-eqb _ _ h, e)
+pub unwritten-on : {r : ℕ} (read : List ℕ → List Word) (promised : List ℕ → List ℕ × List ℕ) (answer lent : List ℕ) → length answer ≢ answerSize → r ≡ numberOf AnswerLength
+    → (r, answer, lent) ≡ exportedAs read promised answer lent
+unfolding exportedAs
+unwritten-on read promised answer lent h e = rw (ne-eqb _ _ h, e)
 
 pub written : {r : ℕ} {out numbers : List ℕ} {words : List Word} (promised : List Word) (answer : List ℕ) → length answer ≡ answerSize
     → words ≡ promised → numbers ≡ numbersOf words → Written r out numbers → (r, out) ≡ exported promised answer
 unfolding exported
 written promised answer h e n w = rw (eq-eqb _ _ h, w .0, w .1, n, e)
 
-pub written-on : {r : ℕ} {out numbers left words : List ℕ} (promised : List ℕ → List ℕ × List ℕ) (answer lent : List ℕ) → length answer ≡ answerSize
-    → (words, left) ≡ promised lent → numbers ≡ numbersOf (plain words) → Written r out numbers → (r, out, left) ≡ exportedOn promised answer lent
-unfolding exportedOn
-written-on promised answer lent h e n w = rw (eq-eqb _ _ h, w .0, w .1, n, ← e)
+pub written-on : {r : ℕ} {out numbers left words : List ℕ} (read : List ℕ → List Word) (promised : List ℕ → List ℕ × List ℕ) (answer lent : List ℕ) → length answer ≡ answerSize
+    → (words, left) ≡ promised lent → numbers ≡ numbersOf (read words) → Written r out numbers → (r, out, left) ≡ exportedAs read promised answer lent
+unfolding exportedAs
+written-on read promised answer lent h e n w = rw (eq-eqb _ _ h, w .0, w .1, n, ← e)

@@ -37,9 +37,13 @@ returned words = getD (numbersOf words) 0 0
 unfoldable pub exported : (words : List Word) (answer : List ℕ) → ℕ × List ℕ
 exported words answer = cond (eqb (length answer) answerSize) (returned words, answerBytes (numbersOf words)) (numberOf AnswerLength, answer)
 
--- A call that changes a lent slice, and promises the words of its answer, none of which is a none, and the slice as it is left: what is
+-- A call that changes a lent slice, and promises numbers, of which `read` makes the words of its answer, and the slice as it is left: what is
 -- returned, the answer's slice, and that slice.
-unfoldable pub exportedOn : (promised : List ℕ → List ℕ × List ℕ) (answer lent : List ℕ) → ℕ × List ℕ × List ℕ
-exportedOn promised answer lent =
-    let words = plain (promised lent .0) in
+unfoldable pub exportedAs : (read : List ℕ → List Word) (promised : List ℕ → List ℕ × List ℕ) (answer lent : List ℕ) → ℕ × List ℕ × List ℕ
+exportedAs read promised answer lent =
+    let words = read (promised lent .0) in
     cond (eqb (length answer) answerSize) (returned words, answerBytes (numbersOf words), promised lent .1) (numberOf AnswerLength, answer, lent)
+
+-- Where none of the words is a none.
+abbrev pub exportedOn : (promised : List ℕ → List ℕ × List ℕ) (answer lent : List ℕ) → ℕ × List ℕ × List ℕ
+exportedOn promised answer lent = exportedAs plain promised answer lent

@@ -8,7 +8,7 @@ unwritten-requires : tie.Need-unwritten-requires
 unwritten-requires c κs = search needs
 
 returns : tie.Need-returns
-returns c = unwritten-on _ _ _ (c .before .if1 .taken) (c .unwritten .ensures)
+returns c = unwritten-on _ _ _ _ (c .before .if1 .taken) (c .unwritten .ensures)
 
 enrol-requires : tie.Need-enrol-requires
 enrol-requires c κs = search needs
@@ -30,7 +30,7 @@ returns-2 c =
     let wrote = c .before .before in
     let told = wrote .before in
     let called = told .before .before .before .before in
-    written-on _ _ _ (called .before .before .if1 .left) (called .enrol .ensures) (told .row .ensures .same) (wrote .write-few .ensures)
+    written-on _ _ _ _ (called .before .before .if1 .left) (called .enrol .ensures) (told .row .ensures .same) (wrote .write-few .ensures)
 
 pub hernganow-enrol-spec : {M : Type 1} → statement M
 hernganow-enrol-spec =

@@ -1,0 +1,21 @@
+// A night's calls in a trace, played again.
+use crate::write::unwritten;
+use crate::write::write_few;
+use answers::ANSWER;
+use answers::nights;
+ghost use mathlib.Core.Path.{_≡_};
+ghost use Rattle.ledger_replay.specs.Replay.{replayOn};
+ghost use Rattle.answers.specs.Numbers.{withNone};
+ghost use Rattle.host.specs.Exported.{exportedAs};
+
+// Makes the slice a fresh sheet and plays the trace over it.
+#[no_mangle]
+pub extern "C" fn hernganow_replay(trace: &[u8], sheet: &mut [u8], answer: &mut [u8]) -> u32
+    ensures { λ r. ⌜ (r, now (answer .exit), now (sheet .exit)) ≡ exportedAs (withNone 4) (replayOn (now (trace .entry))) (now (answer .entry)) (now (sheet .entry)) ⌝ }
+{
+    if answer.len() != ANSWER {
+        return unwritten();
+    }
+    let found = ledger_replay::replay(trace, sheet);
+    write_few(answer, nights::replayed(found))
+}
