@@ -23,7 +23,6 @@ use crate::ROWS;
 use crate::ROWS_AT;
 use crate::ROWS_START_AT;
 use crate::SHEET;
-use crate::TICKS;
 use crate::TICKS_AT;
 use crate::USED;
 use crate::USED_AT;
@@ -38,7 +37,7 @@ ghost use mathlib.Core.Bool.{not, _&&_, _||_};
 ghost use Prim.Native.Nat.{_+_, _≤_, _<_};
 ghost use lib.Dec.{eqb};
 ghost use lib.ListN.{length, getD};
-ghost use Rattle.octets.specs.Octets.{all, zeroAt};
+ghost use Rattle.octets.specs.Octets.{all};
 ghost use Rattle.keys.specs.Key.{validKey};
 ghost use Rattle.keys.specs.Numbers.{isNumber};
 ghost use Rattle.ledger_sheet.specs.Sheet.{sheetSize, rowSize, rowCount, deskCount, used, isUsed, isRow, keyAt, firstNumberAt, deskByte, headerRight, deskRight, right};
@@ -149,7 +148,7 @@ fn are_rows(s: &[u8]) -> Judged
             marks[(key % MARKS as u64) as usize] = MARKED;
             found += 1;
         } else {
-            right &= is_zero_row(s, row);
+            right &= is_zero(s, row, ROW);
         }
         i += 1;
     }
@@ -157,14 +156,6 @@ fn are_rows(s: &[u8]) -> Judged
         right: right & (found == used),
         zeros: ROWS_AT + ROW * i,
     }
-}
-
-// Whether the row at offset a is zero: its ticks apart, since they fill whole vectors.
-fn is_zero_row(s: &[u8], a: usize) -> bool
-    requires { ⌜ a + rowSize ≤ length (now s) ⌝ }
-    ensures { λ r. ⌜ r ≡ zeroAt (now (s .entry)) a rowSize ⌝ }
-{
-    is_zero(s, a, TICKS_AT) & is_zero(s, a + TICKS_AT, TICKS)
 }
 
 // Whether a key is valid and a number one of its stream.

@@ -71,8 +71,8 @@ add-found : tie.Need-add-found Inv-loop μ-loop
 add-found c = omega arith
 
 -- src/right.rt:151:22
-is-zero-row-requires : tie.Need-is-zero-row-requires Inv-loop μ-loop
-is-zero-row-requires c κs = omega arith
+is-zero-requires : tie.Need-is-zero-requires Inv-loop μ-loop
+is-zero-requires c κs = omega arith
 
 -- src/right.rt:153:9
 add-i : tie.Need-add-i Inv-loop μ-loop
@@ -135,7 +135,7 @@ are-rows-spec =
     rem-marks
     array-write-marks
     add-found
-    is-zero-row-requires
+    is-zero-requires
     add-i
     loop-less
     loop-again
