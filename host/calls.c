@@ -29,7 +29,8 @@ enum op {
     FIRST_GAP,
     STRIKE,
     CONVERT,
-    REPLAY
+    REPLAY,
+    SEASON
 };
 
 struct frame {
@@ -85,9 +86,15 @@ static uint32_t crc(const uint8_t *bytes, size_t length)
     return ~sum;
 }
 
+/* Whether a frame is of the sheet: its line ends in the sheet's crc. */
+static int is_on_sheet(uint32_t op)
+{
+    return op >= LOAD && op <= REPLAY;
+}
+
 static int is_exported(uint32_t op)
 {
-    return op == READ_HEADERS || op == TELEMETRY_KEY || op == RSR_KEY || op == DATE || (op >= LOAD && op <= REPLAY);
+    return op == READ_HEADERS || op == TELEMETRY_KEY || op == RSR_KEY || op == DATE || op == SEASON || is_on_sheet(op);
 }
 
 static uint32_t make(const struct frame *f, uint8_t *answer, size_t length)
@@ -109,6 +116,7 @@ static uint32_t make(const struct frame *f, uint8_t *answer, size_t length)
     case FIRST_GAP: return hernganow_first_gap(sheet, sheet_length, answer, length);
     case STRIKE: return hernganow_strike(sheet, sheet_length, f->x, answer, length);
     case REPLAY: return hernganow_replay(f->a, f->a_length, sheet, sheet_length, answer, length);
+    case SEASON: return hernganow_season(f->a, f->a_length, answer, length);
     default: return hernganow_convert(f->a, f->a_length, sheet, sheet_length, answer, length);
     }
 }
@@ -143,20 +151,39 @@ static int does_nothing(const struct frame *f)
     return 1;
 }
 
+/* How many numbers a none has that is one word of a line: a first gap's, a season's, the 'same' of a replay. */
+static size_t numbers_of_none(uint32_t op)
+{
+    return op == FIRST_GAP ? 2 : op == SEASON || op == REPLAY ? 3 : 1;
+}
+
+/* A season's line has three words for each sheet, behind the number of sheets; the answer does not have them. */
+static void leave_sheets_out(uint64_t *numbers, size_t *count)
+{
+    if (*count < 2)
+        return;
+    size_t out = 3 * (size_t)numbers[1];
+    memmove(numbers + 2, numbers + 2 + out, (*count - 2 - out) * sizeof *numbers);
+    memset(numbers + *count - out, 0, out * sizeof *numbers);
+    *count -= out;
+}
+
 /* The answer that a line's words tell, from the reference's words alone; on a sheet the line's last word is the crc of the sheet. */
 static void told(char *line, const struct frame *f, uint8_t answer[HERNGANOW_ANSWER], uint64_t *sum)
 {
     size_t count = 0;
     uint64_t numbers[HERNGANOW_ANSWER] = {0};
     for (char *word = strtok(line, " "); word; word = strtok(NULL, " ")) {
-        int same = !strcmp(word, "same");
-        int none = same || !strcmp(word, "none");
-        /* A first gap that is none is one word, and two numbers; a replay's 'same' is three. */
-        for (int more = same ? 2 : none && f->op == FIRST_GAP; more > 0; more--)
-            numbers[count++] = HERNGANOW_NONE;
-        numbers[count++] = none ? HERNGANOW_NONE : word[0] == '-' ? -strtoull(word + 1, NULL, 10) : strtoull(word, NULL, 10);
+        int none = !strcmp(word, "none") || !strcmp(word, "same");
+        if (!none)
+            numbers[count++] = word[0] == '-' ? -strtoull(word + 1, NULL, 10) : strtoull(word, NULL, 10);
+        else
+            for (size_t left = numbers_of_none(f->op); left; left--)
+                numbers[count++] = HERNGANOW_NONE;
     }
-    if (f->op >= LOAD) {
+    if (f->op == SEASON)
+        leave_sheets_out(numbers, &count);
+    if (is_on_sheet(f->op)) {
         *sum = numbers[--count];
         numbers[count] = 0;
     }
@@ -181,7 +208,7 @@ static int is_right(const struct frame *f, char *line)
         if (memcmp(answer, wanted, sizeof wanted) || memcmp(answer + HERNGANOW_ANSWER, behind, sizeof behind))
             return 0;
     }
-    return f->op < LOAD || crc(sheet, sheet_length) == sum;
+    return !is_on_sheet(f->op) || crc(sheet, sheet_length) == sum;
 }
 
 int main(int count, char **words)

@@ -111,6 +111,14 @@ enum hernganow_at {
     HERNGANOW_AT_ENTRY = 1,
     HERNGANOW_AT_ENTRY_NUMBER = 2,
     HERNGANOW_AT_ENTRY_ROW = 3,
+    /* A season. */
+    HERNGANOW_AT_SEASON_SHEETS = 1,
+    HERNGANOW_AT_SEASON_TICKED = 2,
+    HERNGANOW_AT_SEASON_MISSING = 3,
+    HERNGANOW_AT_SEASON_PER_MILLION = 4,
+    HERNGANOW_AT_SEASON_GAP_SHEET = 5,
+    HERNGANOW_AT_SEASON_GAP_ROW = 6,
+    HERNGANOW_AT_SEASON_GAP_NUMBER = 7,
     /* Read headers, of both kinds. */
     HERNGANOW_AT_KIND = 1,
     HERNGANOW_AT_SIZE = 2,
@@ -277,6 +285,13 @@ uint32_t hernganow_replay(
     const uint8_t *trace, size_t trace_length,
     uint8_t *sheet, size_t sheet_length,
     uint8_t *answer, size_t answer_length);
+/* ---- The season */
+
+/* Reports on up to 16 sheets laid one after another, in all. Answers how many sheets there are, how many numbers are ticked, how many are
+ * missing, the missing per million of both together, rounded down (0 where both are 0), and the first gap of all: the sheet from 0, its
+ * row, the number, or none: all three all ones. For one sheet alone lend that sheet.
+ * Refused: 42 by the length, 20 where a sheet is not right, 41. */
+uint32_t hernganow_season(const uint8_t *sheets, size_t sheets_length, uint8_t *answer, size_t answer_length);
 
 #ifdef __cplusplus
 }

@@ -2,7 +2,7 @@
 use Prim.Native.Nat.{ℕ}
 use borrow.Author.Tests.{ne-eqb}
 use mathlib.Core.List.{List, [], _∷_}
-use mathlib.Core.Path.{_≡_, subst⁻¹}
+use mathlib.Core.Path.{_≡_, refl, subst⁻¹}
 use Rattle.refusals.specs.Table.{numberOf}
 use Rattle.refusals.specs.declared.Refusal.{Refusal}
 use Rattle.refusals.proofs.Laws.{number-positive}
@@ -16,5 +16,11 @@ pub told : {A : Type 0} {a b : A} {numbers : List ℕ} (words : A → List Word)
 told {numbers = ns} words e h = subst⁻¹ (λ x. Numbers ns (words x)) e h
 
 -- A refused answer has no none.
+refused-words : (size : ℕ) (why : Refusal) → withNone size (numberOf why ∷ []) ≡ plain (numberOf why ∷ [])
+refused-words size why = rw (ne-eqb (numberOf why) 0 (number-positive why)) refl
+
 pub refused-whole : {numbers : List ℕ} (size : ℕ) (why : Refusal) → Few numbers (plain (numberOf why ∷ [])) → Few numbers (withNone size (numberOf why ∷ []))
-refused-whole size why h = rw (ne-eqb (numberOf why) 0 (number-positive why)) h
+refused-whole {numbers = ns} size why h = subst⁻¹ (λ (words : List Word). Few ns words) (refused-words size why) h
+
+pub refused-all : {numbers : List ℕ} (size : ℕ) (why : Refusal) → Numbers numbers (plain (numberOf why ∷ [])) → Numbers numbers (withNone size (numberOf why ∷ []))
+refused-all {numbers = ns} size why h = subst⁻¹ (λ (words : List Word). Numbers ns words) (refused-words size why) h

@@ -4,6 +4,7 @@ pub mod ledgers;
 pub mod nights;
 pub mod places;
 pub mod records;
+pub mod seasons;
 
 use dates::DateAnswer;
 use keys::KeyAnswer;
@@ -21,7 +22,7 @@ pub const NUMBER: usize = 8;
 
 pub const ANSWER: usize = NUMBER * NUMBERS;
 
-// How many numbers the longest answer but read headers' has.
+// How many numbers the longest answer but read headers' and the season's has.
 pub const FEW: usize = 4;
 
 // Each number of a none: all its bits are ones.

@@ -33,6 +33,21 @@ pub const ENTRY_NUMBER: usize = 2;
 
 pub const ENTRY_ROW: usize = 3;
 
+// A season.
+pub const SEASON_SHEETS: usize = 1;
+
+pub const SEASON_TICKED: usize = 2;
+
+pub const SEASON_MISSING: usize = 3;
+
+pub const SEASON_PER_MILLION: usize = 4;
+
+pub const SEASON_GAP_SHEET: usize = 5;
+
+pub const SEASON_GAP_ROW: usize = 6;
+
+pub const SEASON_GAP_NUMBER: usize = 7;
+
 // Read headers, of both kinds.
 pub const KIND: usize = 1;
 

@@ -3,6 +3,7 @@
 pub mod calendar;
 pub mod nights;
 pub mod records;
+pub mod seasons;
 pub mod sheets;
 pub mod stream_keys;
 mod write;
