@@ -22,18 +22,18 @@ static uint8_t sheets[CHANGES + 1][HERNGANOW_SHEET];
 
 static uint32_t change(struct book *book, uint32_t n)
 {
-    uint8_t *sheet = book->sheet, *answer = book->answer;
     if (n == 0)
-        return hernganow_enrol(sheet, HERNGANOW_SHEET, KEY, 1, answer, HERNGANOW_ANSWER);
+        return book_enrol(book, KEY, 1);
     if (n % 2 == 0)
-        return hernganow_save(sheet, HERNGANOW_SHEET, DESK, answer, HERNGANOW_ANSWER);
-    uint32_t refused = hernganow_open(sheet, HERNGANOW_SHEET, DESK, 0, answer, HERNGANOW_ANSWER);
-    return refused ? refused : hernganow_tick(sheet, HERNGANOW_SHEET, DESK, n, answer, HERNGANOW_ANSWER);
+        return book_save(book, DESK);
+    uint32_t refused = book_open_row(book, DESK, 0);
+    return refused ? refused : book_tick(book, DESK, n);
 }
 
 static void work_out(struct book *book)
 {
     hernganow_fresh(book->sheet, HERNGANOW_SHEET, book->answer, HERNGANOW_ANSWER);
+    book->trace_length = 0;
     memcpy(sheets[0], book->sheet, HERNGANOW_SHEET);
     for (uint32_t n = 0; n < CHANGES; n++) {
         if (change(book, n)) {
@@ -69,7 +69,7 @@ static uint32_t killed_after(struct book *book, long nanoseconds)
         fail("forking", book->path);
     if (worker == 0) {
         /* A lock of its own: one that is shared with the parent would outlive the worker. */
-        struct book own;
+        static struct book own;
         book_open(&own, book->path);
         day(&own, ends[1]);
     }
@@ -95,7 +95,7 @@ static double day_takes(const char *path)
     clock_gettime(CLOCK_MONOTONIC, &begun);
     pid_t worker = fork();
     if (worker == 0) {
-        struct book own;
+        static struct book own;
         book_open(&own, path);
         day(&own, open("/dev/null", O_WRONLY));
     }
@@ -119,7 +119,7 @@ int main(int count, char **words)
         fputs("usage: crash SHEET TIMES\nKills a process that changes the file SHEET, so many times, and looks at the file.\n", stderr);
         return 2;
     }
-    struct book book;
+    static struct book book;
     book_open(&book, words[1]);
     work_out(&book);
     double span = day_takes(words[1]);
@@ -131,6 +131,10 @@ int main(int count, char **words)
         book_begin(&book);
         book_abandon(&book);
         int is_before = is_sheet(&book, told), is_after = is_sheet(&book, told + 1);
+        if (!book_replays(&book)) {
+            fprintf(stderr, "%s: killed after change %u of the day, and the trace does not make the sheet\n", words[1], (unsigned)told);
+            return 1;
+        }
         if (!is_before && !is_after) {
             fprintf(stderr, "%s: killed after change %u of the day, and the file is neither that sheet nor the next\n", words[1], (unsigned)told);
             return 1;

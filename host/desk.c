@@ -22,8 +22,8 @@ struct record {
 static const char usage[] =
     "usage: desk SHEET DESK STREAM\n"
     "Ticks the records of a stream file off in the ledger sheet SHEET at desk DESK (0 to 7): a line for each record, with its place, key,\n"
-    "number, date, what was done and how many saves were stale, and at the end where the stream stopped and the first gap. A SHEET\n"
-    "that is not there is begun.\n";
+    "number, date, what was done and how many saves were stale, and at the end where the stream stopped, whether the calls that the file\n"
+    "keeps behind the sheet make that sheet again, and the first gap. A SHEET that is not there is begun.\n";
 
 static uint8_t answer[HERNGANOW_ANSWER];
 
@@ -88,7 +88,7 @@ static uint32_t enrolled(struct book *book, const struct record *record, uint32_
     book_begin(book);
     uint32_t refused = hernganow_find(book->sheet, sizeof book->sheet, record->key, book->answer, sizeof book->answer);
     if (refused == HERNGANOW_REFUSED_NO_ROW)
-        refused = settle(book, hernganow_enrol(book->sheet, sizeof book->sheet, record->key, record->number, book->answer, sizeof book->answer));
+        refused = settle(book, book_enrol(book, record->key, record->number));
     else
         book_abandon(book);
     *row = (uint32_t)book_number(book, HERNGANOW_AT_ROW);
@@ -99,16 +99,16 @@ static uint32_t enrolled(struct book *book, const struct record *record, uint32_
 static uint32_t ticked(struct book *book, uint32_t desk, uint32_t row, uint32_t number)
 {
     book_begin(book);
-    uint32_t refused = hernganow_open(book->sheet, sizeof book->sheet, desk, row, book->answer, sizeof book->answer);
+    uint32_t refused = book_open_row(book, desk, row);
     if (!refused)
-        refused = hernganow_tick(book->sheet, sizeof book->sheet, desk, number, book->answer, sizeof book->answer);
+        refused = book_tick(book, desk, number);
     return settle(book, refused);
 }
 
 static uint32_t saved(struct book *book, uint32_t desk)
 {
     book_begin(book);
-    return settle(book, hernganow_save(book->sheet, sizeof book->sheet, desk, book->answer, sizeof book->answer));
+    return settle(book, book_save(book, desk));
 }
 
 /* A visit. Between the tick and the save others may save the row: then this save is stale, and the visit is made again. */
@@ -131,7 +131,7 @@ static uint32_t visit(struct book *book, uint32_t desk, const struct record *rec
 static void start_day(struct book *book, uint32_t desk)
 {
     book_begin(book);
-    uint32_t refused = settle(book, hernganow_drop(book->sheet, sizeof book->sheet, desk, book->answer, sizeof book->answer));
+    uint32_t refused = settle(book, book_drop(book, desk));
     if (refused && refused != HERNGANOW_REFUSED_DESK_CLOSED) {
         fprintf(stderr, "%s: refused %" PRIu32 "\n", book->path, refused);
         exit(1);
@@ -154,6 +154,20 @@ static void print_record(size_t place, const struct record *record, uint32_t ref
         printf(" ticked\n");
 }
 
+/* The night so far, played again. Returns whether it is the same. */
+static int print_replay(struct book *book)
+{
+    book_begin(book);
+    book_abandon(book);
+    if (!book->trace_length) {
+        printf("no trace\n");
+        return 1;
+    }
+    int same = book_replays(book);
+    printf("%zu calls replayed: %s\n", (book->trace_length - BOOK_HEADER) / BOOK_ENTRY, same ? "same" : "not the same");
+    return same;
+}
+
 static void print_gap(struct book *book)
 {
     book_begin(book);
@@ -172,7 +186,7 @@ int main(int count, char **words)
         return 2;
     }
     uint32_t desk = (uint32_t)(words[2][0] - '0');
-    struct book book;
+    static struct book book;
     book_open(&book, words[1]);
     start_day(&book, desk);
     size_t length, place = 0;
@@ -186,8 +200,9 @@ int main(int count, char **words)
         place += record.length;
     }
     printf("stopped at %zu, %" PRIu32 "\n", place, refused);
+    int same = print_replay(&book);
     print_gap(&book);
     book_close(&book);
     free(stream);
-    return 0;
+    return !same;
 }
