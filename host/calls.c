@@ -1,5 +1,6 @@
-/* Makes the calls of a call script (docs/call-script.md) that are exported, and holds each answer, all 256 bytes, and the sheet to the
- * lines that the reference writes for the script. Each call is made with answers' slices of other lengths first, which must do nothing. */
+/* Makes the calls of a call script (docs/call-script.md) that are exported, and holds each answer, all 256 bytes, and what a call was lent
+ * to change to the lines that the reference writes for the script. Each call is made with answers' slices of other lengths first, which
+ * must do nothing. The agreed gain, which has no op, is held to the lines of the gain. */
 #include "../include/hernganow.h"
 
 #include <inttypes.h>
@@ -9,13 +10,20 @@
 
 #define FRAME 40
 #define MOST_SHEET 8192
+#define MOST_SETTINGS 1024
+#define MOST_NUMBERS 131072
+#define MOST_PACKED 70000
 #define FILLED 165
+#define FILLED_NUMBER 7
 
 enum op {
     READ_HEADERS = 4,
     TELEMETRY_KEY = 6,
     RSR_KEY = 7,
     DATE = 12,
+    UNPACK,
+    PACK,
+    GAIN,
     LOAD = 19,
     FRESH = 20,
     ENROL,
@@ -30,7 +38,11 @@ enum op {
     STRIKE,
     CONVERT,
     REPLAY,
-    SEASON
+    SEASON,
+    LOAD_SETTINGS = 39,
+    MAKE_EMPTY,
+    ADD,
+    ASK
 };
 
 struct frame {
@@ -43,6 +55,14 @@ struct frame {
 /* The sheet that the script's calls are made on, and how many bytes of it are lent. */
 static uint8_t sheet[MOST_SHEET];
 static size_t sheet_length = HERNGANOW_SHEET;
+
+/* The same of the settings sheet. */
+static uint8_t settings[MOST_SETTINGS];
+static size_t settings_length = HERNGANOW_SETTINGS;
+
+/* What one frame's samples are unpacked into, or packed from and into. */
+static int32_t numbers[MOST_NUMBERS];
+static uint8_t packed[MOST_PACKED];
 
 static uint64_t big_endian(const uint8_t *bytes, size_t length)
 {
@@ -86,15 +106,31 @@ static uint32_t crc(const uint8_t *bytes, size_t length)
     return ~sum;
 }
 
-/* Whether a frame is of the sheet: its line ends in the sheet's crc. */
 static int is_on_sheet(uint32_t op)
 {
     return op >= LOAD && op <= REPLAY;
 }
 
+static int is_on_settings(uint32_t op)
+{
+    return op >= LOAD_SETTINGS && op <= ASK;
+}
+
+static int is_load(uint32_t op)
+{
+    return op == LOAD || op == LOAD_SETTINGS;
+}
+
 static int is_exported(uint32_t op)
 {
-    return op == READ_HEADERS || op == TELEMETRY_KEY || op == RSR_KEY || op == DATE || op == SEASON || is_on_sheet(op);
+    return op == READ_HEADERS || op == TELEMETRY_KEY || op == RSR_KEY || (op >= DATE && op <= GAIN) || op == SEASON || is_on_sheet(op)
+        || is_on_settings(op);
+}
+
+/* Whether a frame's line ends in the crc of what its call is lent to change. */
+static int has_crc(uint32_t op)
+{
+    return op == UNPACK || op == PACK || is_on_sheet(op) || is_on_settings(op);
 }
 
 static uint32_t make(const struct frame *f, uint8_t *answer, size_t length)
@@ -117,13 +153,50 @@ static uint32_t make(const struct frame *f, uint8_t *answer, size_t length)
     case STRIKE: return hernganow_strike(sheet, sheet_length, f->x, answer, length);
     case REPLAY: return hernganow_replay(f->a, f->a_length, sheet, sheet_length, answer, length);
     case SEASON: return hernganow_season(f->a, f->a_length, answer, length);
+    case UNPACK: return hernganow_unpack(f->a, f->a_length, numbers, f->z, answer, length);
+    case PACK: return hernganow_pack(f->x, f->y, numbers, f->a_length / 4, packed, f->z, answer, length);
+    case GAIN: return hernganow_gain(f->a, f->a_length, f->x, answer, length);
+    case MAKE_EMPTY: return hernganow_settings_make_empty(settings, settings_length, answer, length);
+    case ADD: return hernganow_settings_add(settings, settings_length, (uint8_t)f->x, f->y, f->z, f->w, answer, length);
+    case ASK: return hernganow_settings_ask(settings, settings_length, (uint8_t)f->x, f->y, answer, length);
     default: return hernganow_convert(f->a, f->a_length, sheet, sheet_length, answer, length);
     }
 }
 
-/* What a frame does to the sheet before its call: op 19 is no call, and op 31 writes into a slice of its own. */
+/* The signed number that has these bits. */
+static int32_t signed_of(uint32_t bits)
+{
+    int32_t number;
+    memcpy(&number, &bits, sizeof number);
+    return number;
+}
+
+/* The crc of what a call is lent to change. Numbers go into it as 4 bytes, most significant first. */
+static uint32_t crc_of_lent(const struct frame *f)
+{
+    static uint8_t laid[4 * MOST_NUMBERS];
+    if (f->op == PACK)
+        return crc(packed, f->z);
+    if (f->op != UNPACK)
+        return is_on_sheet(f->op) ? crc(sheet, sheet_length) : crc(settings, settings_length);
+    for (size_t i = 0; i < 4 * (size_t)f->z; i++)
+        laid[i] = (uint8_t)((uint32_t)numbers[i / 4] >> (24 - 8 * (i % 4)));
+    return crc(laid, 4 * (size_t)f->z);
+}
+
+/* What a frame does before its call: ops 19 and 39 are no calls, and op 31 and samples are written into slices of their own. */
 static void prepare(const struct frame *f)
 {
+    if (f->op == LOAD_SETTINGS) {
+        settings_length = f->a_length;
+        memcpy(settings, f->a, settings_length);
+    }
+    for (size_t i = 0; f->op == UNPACK && i < f->z; i++)
+        numbers[i] = FILLED_NUMBER;
+    for (size_t i = 0; f->op == PACK && i < f->a_length / 4; i++)
+        numbers[i] = signed_of((uint32_t)big_endian(f->a + 4 * i, 4));
+    if (f->op == PACK)
+        memset(packed, FILLED, f->z);
     if (f->op == LOAD) {
         sheet_length = f->a_length;
         memcpy(sheet, f->a, sheet_length);
@@ -138,6 +211,7 @@ static int does_nothing(const struct frame *f)
 {
     static const size_t lengths[] = {0, HERNGANOW_ANSWER - 1, HERNGANOW_ANSWER + 1};
     static uint8_t before[MOST_SHEET];
+    uint32_t sum = has_crc(f->op) ? crc_of_lent(f) : 0;
     memcpy(before, sheet, sizeof sheet);
     for (size_t i = 0; i < sizeof lengths / sizeof lengths[0]; i++) {
         uint8_t answer[HERNGANOW_ANSWER + 8], filled[sizeof answer];
@@ -146,6 +220,8 @@ static int does_nothing(const struct frame *f)
         if (make(f, answer, lengths[i]) != HERNGANOW_REFUSED_ANSWER_LENGTH)
             return 0;
         if (memcmp(answer, filled, sizeof answer) || memcmp(sheet, before, sizeof sheet))
+            return 0;
+        if (has_crc(f->op) && crc_of_lent(f) != sum)
             return 0;
     }
     return 1;
@@ -158,37 +234,50 @@ static size_t numbers_of_none(uint32_t op)
 }
 
 /* A season's line has three words for each sheet, behind the number of sheets; the answer does not have them. */
-static void leave_sheets_out(uint64_t *numbers, size_t *count)
+static void leave_sheets_out(uint64_t *words, size_t *count)
 {
     if (*count < 2)
         return;
-    size_t out = 3 * (size_t)numbers[1];
-    memmove(numbers + 2, numbers + 2 + out, (*count - 2 - out) * sizeof *numbers);
-    memset(numbers + *count - out, 0, out * sizeof *numbers);
+    size_t out = 3 * (size_t)words[1];
+    memmove(words + 2, words + 2 + out, (*count - 2 - out) * sizeof *words);
+    memset(words + *count - out, 0, out * sizeof *words);
     *count -= out;
 }
 
-/* The answer that a line's words tell, from the reference's words alone; on a sheet the line's last word is the crc of the sheet. */
+/* The answer that a line's words tell, from the reference's words alone; where a call is lent something to change, the last is its crc. */
 static void told(char *line, const struct frame *f, uint8_t answer[HERNGANOW_ANSWER], uint64_t *sum)
 {
     size_t count = 0;
-    uint64_t numbers[HERNGANOW_ANSWER] = {0};
+    uint64_t words[HERNGANOW_ANSWER] = {0};
     for (char *word = strtok(line, " "); word; word = strtok(NULL, " ")) {
-        int none = !strcmp(word, "none") || !strcmp(word, "same");
-        if (!none)
-            numbers[count++] = word[0] == '-' ? -strtoull(word + 1, NULL, 10) : strtoull(word, NULL, 10);
+        if (strcmp(word, "none") && strcmp(word, "same"))
+            words[count++] = word[0] == '-' ? -strtoull(word + 1, NULL, 10) : strtoull(word, NULL, 10);
         else
             for (size_t left = numbers_of_none(f->op); left; left--)
-                numbers[count++] = HERNGANOW_NONE;
+                words[count++] = HERNGANOW_NONE;
     }
     if (f->op == SEASON)
-        leave_sheets_out(numbers, &count);
-    if (is_on_sheet(f->op)) {
-        *sum = numbers[--count];
-        numbers[count] = 0;
+        leave_sheets_out(words, &count);
+    if (has_crc(f->op)) {
+        *sum = words[--count];
+        words[count] = 0;
     }
     for (size_t i = 0; i < HERNGANOW_ANSWER; i++)
-        answer[i] = (uint8_t)(numbers[i / 8] >> (56 - 8 * (i % 8)));
+        answer[i] = (uint8_t)(words[i / 8] >> (56 - 8 * (i % 8)));
+}
+
+/* With a setting of the frame's edition for the record's mission from day 0 on, the agreed gain is the gain. */
+static int agrees(const struct frame *f, const uint8_t wanted[HERNGANOW_ANSWER])
+{
+    uint8_t agreed[HERNGANOW_SETTINGS], answer[HERNGANOW_ANSWER];
+    hernganow_settings_make_empty(agreed, sizeof agreed, answer, sizeof answer);
+    hernganow_read_headers(f->a, f->a_length, 2, answer, sizeof answer);
+    uint8_t mission = (uint8_t)hernganow_number(answer, HERNGANOW_AT_MISSION);
+    if (hernganow_settings_add(agreed, sizeof agreed, mission, f->x, 0, 0, answer, sizeof answer))
+        return 1;
+    if (hernganow_agreed_gain(agreed, sizeof agreed, f->a, f->a_length, answer, sizeof answer) != big_endian(wanted, 8))
+        return 0;
+    return !memcmp(answer, wanted, sizeof answer);
 }
 
 /* Whether the call of a frame answers as its line tells. */
@@ -198,7 +287,7 @@ static int is_right(const struct frame *f, char *line)
     uint64_t sum = 0;
     prepare(f);
     told(line, f, wanted, &sum);
-    if (f->op != LOAD) {
+    if (!is_load(f->op)) {
         memset(answer, FILLED, sizeof answer);
         memset(behind, FILLED, sizeof behind);
         if (!does_nothing(f))
@@ -208,7 +297,9 @@ static int is_right(const struct frame *f, char *line)
         if (memcmp(answer, wanted, sizeof wanted) || memcmp(answer + HERNGANOW_ANSWER, behind, sizeof behind))
             return 0;
     }
-    return !is_on_sheet(f->op) || crc(sheet, sheet_length) == sum;
+    if (f->op == GAIN && !agrees(f, wanted))
+        return 0;
+    return !has_crc(f->op) || crc_of_lent(f) == sum;
 }
 
 int main(int count, char **words)
@@ -238,7 +329,7 @@ int main(int count, char **words)
                 fprintf(stderr, "%s: the call of frame %zu, op %" PRIu32 ", does not answer as its line tells\n", words[1], number, f.op);
                 return 1;
             }
-            compared += f.op != LOAD;
+            compared += !is_load(f.op);
         }
         line = end + 1;
     }

@@ -1,4 +1,5 @@
-/* Hernganow's calls on records, stream keys, dates and ledger sheets, for programs in C and C++. Link libhost.a (`rt staticlib host`).
+/* Hernganow's calls on records, samples, stream keys, dates, ledger sheets and mission agreements, for programs in C and C++. Link
+ * libhost.a (`rt staticlib host`).
  *
  * Each call answers as the proved library's call does, for every input whose pointers are good for their lengths and whose slices do not
  * overlap. It returns 0, or the number of the refusal, and writes its answer, a refusal's too, into the last slice: HERNGANOW_ANSWER
@@ -19,9 +20,10 @@
 extern "C" {
 #endif
 
-/* How many bytes an answer and a ledger sheet have, and each number of a none. */
+/* How many bytes an answer, a ledger sheet and a settings sheet have, and each number of a none. */
 #define HERNGANOW_ANSWER 256
 #define HERNGANOW_SHEET 6968
+#define HERNGANOW_SETTINGS 784
 #define HERNGANOW_NONE UINT64_MAX
 
 /* What a call returns: 0, or the number of a refusal. */
@@ -119,6 +121,14 @@ enum hernganow_at {
     HERNGANOW_AT_SEASON_GAP_SHEET = 5,
     HERNGANOW_AT_SEASON_GAP_ROW = 6,
     HERNGANOW_AT_SEASON_GAP_NUMBER = 7,
+    /* A setting. */
+    HERNGANOW_AT_SETTING_EDITION = 1,
+    HERNGANOW_AT_SETTING_DAY = 2,
+    HERNGANOW_AT_SETTING_FRAME = 3,
+    /* A gain multiplier. */
+    HERNGANOW_AT_GAIN = 1,
+    /* How many samples or bytes were written. */
+    HERNGANOW_AT_COUNT = 1,
     /* Read headers, of both kinds. */
     HERNGANOW_AT_KIND = 1,
     HERNGANOW_AT_SIZE = 2,
@@ -185,6 +195,41 @@ static inline uint64_t hernganow_number(const uint8_t *answer, enum hernganow_at
 uint32_t hernganow_read_headers(
     const uint8_t *record, size_t record_length,
     uint32_t wanted,
+    uint8_t *answer, size_t answer_length);
+
+/* The gain multiplier of the RSR record that the slice begins with, in an edition: 1 old, 2 new. Answers the multiplier's four bytes as
+ * one number; none in edition 1.
+ * Refused: read headers' for kind 2, with HERNGANOW_AT_FAULT as there; 44. */
+uint32_t hernganow_gain(
+    const uint8_t *record, size_t record_length,
+    uint32_t edition,
+    uint8_t *answer, size_t answer_length);
+
+/* The same with the edition that the settings sheet has for the record's mission on the record's day.
+ * Refused: read headers' for kind 2, with HERNGANOW_AT_FAULT as there; 43, 47. */
+uint32_t hernganow_agreed_gain(
+    const uint8_t *settings, size_t settings_length,
+    const uint8_t *record, size_t record_length,
+    uint8_t *answer, size_t answer_length);
+
+/* ---- Samples: a list's length is how many numbers it has */
+
+/* Unpacks the samples of the RSR record that the slice begins with into the start of the list: the in-phase number and the quadrature
+ * number in turn, each odd, as the codes stand for 2k + 1. Answers how many numbers were written; the rest of the list stays, and all
+ * of it where the call is refused.
+ * Refused: read headers' for kind 2, with HERNGANOW_AT_FAULT as there; 19, 34, 35. */
+uint32_t hernganow_unpack(
+    const uint8_t *record, size_t record_length,
+    int32_t *list, size_t list_length,
+    uint8_t *answer, size_t answer_length);
+
+/* Packs samples, in the order that unpacking gives, of a size in bits and a rate in thousands a second, into a data part at the start of
+ * the slice. Answers how many bytes were written; the rest of the slice stays, and all of it where the call is refused.
+ * Refused: 19, 34, 37, 35. */
+uint32_t hernganow_pack(
+    uint32_t size, uint32_t rate,
+    const int32_t *samples, size_t samples_length,
+    uint8_t *out, size_t out_length,
     uint8_t *answer, size_t answer_length);
 
 /* ---- Stream keys */
@@ -292,6 +337,25 @@ uint32_t hernganow_replay(
  * row, the number, or none: all three all ones. For one sheet alone lend that sheet.
  * Refused: 42 by the length, 20 where a sheet is not right, 41. */
 uint32_t hernganow_season(const uint8_t *sheets, size_t sheets_length, uint8_t *answer, size_t answer_length);
+
+/* ---- Mission agreements: a settings sheet has HERNGANOW_SETTINGS bytes */
+
+/* Makes the slice an empty settings sheet; what it held does not matter. Refused: 43, by the length alone. */
+uint32_t hernganow_settings_make_empty(uint8_t *settings, size_t settings_length, uint8_t *answer, size_t answer_length);
+
+/* Adds a setting: from the first day on, a day count as in hernganow_date, the mission has this edition (1 old, 2 new) and frame length.
+ * Refused: 43, 44, 45, 46. */
+uint32_t hernganow_settings_add(
+    uint8_t *settings, size_t settings_length,
+    uint8_t mission, uint32_t edition, uint32_t day, uint32_t frame,
+    uint8_t *answer, size_t answer_length);
+
+/* The setting of a mission on a day: the one with the latest first day not after it. Answers its edition, first day and frame length.
+ * Refused: 43, 47. */
+uint32_t hernganow_settings_ask(
+    const uint8_t *settings, size_t settings_length,
+    uint8_t mission, uint32_t day,
+    uint8_t *answer, size_t answer_length);
 
 #ifdef __cplusplus
 }

@@ -22,5 +22,6 @@ refused-words size why = rw (ne-eqb (numberOf why) 0 (number-positive why)) refl
 pub refused-whole : {numbers : List ℕ} (size : ℕ) (why : Refusal) → Few numbers (plain (numberOf why ∷ [])) → Few numbers (withNone size (numberOf why ∷ []))
 refused-whole {numbers = ns} size why h = subst⁻¹ (λ (words : List Word). Few ns words) (refused-words size why) h
 
-pub refused-all : {numbers : List ℕ} (size : ℕ) (why : Refusal) → Numbers numbers (plain (numberOf why ∷ [])) → Numbers numbers (withNone size (numberOf why ∷ []))
+pub refused-all : {numbers : List ℕ} (size : ℕ) (why : Refusal) → Numbers numbers (plain (numberOf why ∷ []))
+    → Numbers numbers (withNone size (numberOf why ∷ []))
 refused-all {numbers = ns} size why h = subst⁻¹ (λ (words : List Word). Numbers ns words) (refused-words size why) h

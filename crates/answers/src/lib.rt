@@ -1,16 +1,20 @@
 // The numbers of an answer, for whoever exports, prints or times it (document 02, Req 06): the refusal's number, or 0 and the answer's
 // numbers in the papers' order; zeros behind them. Most answers have a few numbers, which are handed out without the zeros.
+pub mod agreements;
 pub mod ledgers;
 pub mod nights;
 pub mod places;
+pub mod receivers;
 pub mod records;
 pub mod seasons;
 
 use dates::DateAnswer;
 use keys::KeyAnswer;
 use refusals::Refusal;
+use sfdu::Fault;
 ghost use mathlib.Core.List.{[], _∷_};
 ghost use Rattle.refusals.specs.Table.{numberOf};
+ghost use Rattle.sfdu.specs.Read.{faultWords};
 ghost use Rattle.dates.specs.Answers as Dates;
 ghost use Rattle.keys.specs.Words as Keys;
 ghost use Rattle.answers.specs.Numbers.{plain, Few};
@@ -34,6 +38,17 @@ pub fn refused(why: Refusal) -> [u64; FEW]
 {
     let mut numbers = [0u64; FEW];
     numbers[places::REFUSAL] = refusals::number(why) as u64;
+    numbers
+}
+
+// A refusal of a record, and the offset or the count that goes with it.
+pub fn wrong(fault: Fault) -> [u64; FEW]
+    ensures { λ r. ⌜ Few r (plain (faultWords fault)) ⌝ }
+{
+    let refusal = fault.refusal;
+    let mut numbers = [0u64; FEW];
+    numbers[places::REFUSAL] = refusals::number(refusal) as u64;
+    numbers[places::FAULT] = fault.at as u64;
     numbers
 }
 

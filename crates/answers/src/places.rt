@@ -48,6 +48,19 @@ pub const SEASON_GAP_ROW: usize = 6;
 
 pub const SEASON_GAP_NUMBER: usize = 7;
 
+// A setting.
+pub const SETTING_EDITION: usize = 1;
+
+pub const SETTING_DAY: usize = 2;
+
+pub const SETTING_FRAME: usize = 3;
+
+// A gain multiplier.
+pub const GAIN: usize = 1;
+
+// How many samples or bytes were written.
+pub const COUNT: usize = 1;
+
 // Read headers, of both kinds.
 pub const KIND: usize = 1;
 

@@ -15,8 +15,8 @@ pub unwritten : {r : ℕ} (words : List Word) (answer : List ℕ) → length ans
 unfolding exported
 unwritten words answer h e = rw (ne-eqb _ _ h, e)
 
-pub unwritten-on : {r : ℕ} (read : List ℕ → List Word) (promised : List ℕ → List ℕ × List ℕ) (answer lent : List ℕ) → length answer ≢ answerSize → r ≡ numberOf AnswerLength
-    → (r, answer, lent) ≡ exportedAs read promised answer lent
+pub unwritten-on : {A : Type 0} {r : ℕ} (read : List ℕ → List Word) (promised : List A → List ℕ × List A) (answer : List ℕ) (lent : List A)
+    → length answer ≢ answerSize → r ≡ numberOf AnswerLength → (r, answer, lent) ≡ exportedAs read promised answer lent
 unfolding exportedAs
 unwritten-on read promised answer lent h e = rw (ne-eqb _ _ h, e)
 
@@ -25,7 +25,8 @@ pub written : {r : ℕ} {out numbers : List ℕ} {words : List Word} (promised :
 unfolding exported
 written promised answer h e n w = rw (eq-eqb _ _ h, w .0, w .1, n, e)
 
-pub written-on : {r : ℕ} {out numbers left words : List ℕ} (read : List ℕ → List Word) (promised : List ℕ → List ℕ × List ℕ) (answer lent : List ℕ) → length answer ≡ answerSize
-    → (words, left) ≡ promised lent → numbers ≡ numbersOf (read words) → Written r out numbers → (r, out, left) ≡ exportedAs read promised answer lent
+pub written-on : {A : Type 0} {r : ℕ} {out numbers words : List ℕ} {left : List A} (read : List ℕ → List Word) (promised : List A → List ℕ × List A)
+    (answer : List ℕ) (lent : List A) → length answer ≡ answerSize → (words, left) ≡ promised lent → numbers ≡ numbersOf (read words)
+    → Written r out numbers → (r, out, left) ≡ exportedAs read promised answer lent
 unfolding exportedAs
 written-on read promised answer lent h e n w = rw (eq-eqb _ _ h, w .0, w .1, n, ← e)

@@ -1,0 +1,48 @@
+-- `answers::receivers::samples` meets its contract. Assumes nothing.
+use Rattle.answers.proofs.Told.{told-few}
+use Rattle.answers.specs.Numbers.{plain}
+use Rattle.sfdu_samples.specs.Calls.{wordsOf}
+use borrow.Author.Needs.{needs}
+use Rattle.answers.proofs.receivers.samples.Statement.{statement}
+use Rattle.answers.proofs.receivers.samples.Tie as tie
+
+enum-known-answer : tie.Need-enum-known-answer
+enum-known-answer c = search needs
+
+array-write-numbers : tie.Need-array-write-numbers
+array-write-numbers c = search needs
+
+enum-known-answer-2 : tie.Need-enum-known-answer-2
+enum-known-answer-2 c = search needs
+
+wrong-requires : tie.Need-wrong-requires
+wrong-requires c κs = search needs
+
+enum-known-answer-3 : tie.Need-enum-known-answer-3
+enum-known-answer-3 c = search needs
+
+refused-requires : tie.Need-refused-requires
+refused-requires c κs = search needs
+
+returns : tie.Need-returns
+returns c = told-few (λ a. plain (wordsOf a)) (c .before .answer .given .1) (search needs)
+
+returns-2 : tie.Need-returns-2
+returns-2 c = told-few (λ a. plain (wordsOf a)) (c .before .before .answer2 .given .1) (c .wrong .ensures)
+
+returns-3 : tie.Need-returns-3
+returns-3 c = told-few (λ a. plain (wordsOf a)) (c .before .before .answer3 .given .1) (c .refused .ensures)
+
+pub samples-spec : {M : Type 1} → statement M
+samples-spec =
+    tie.close
+    (tie.spec
+    enum-known-answer
+    array-write-numbers
+    enum-known-answer-2
+    wrong-requires
+    enum-known-answer-3
+    refused-requires
+    returns
+    returns-2
+    returns-3)

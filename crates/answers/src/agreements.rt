@@ -1,0 +1,36 @@
+// The numbers of what the settings sheet's calls answer.
+use crate::FEW;
+use crate::places;
+use crate::refused;
+use settings::Answer;
+use settings::Asked;
+ghost use Rattle.settings.specs.Words.{answerWords, askedWords};
+ghost use Rattle.answers.specs.Numbers.{Few, plain};
+
+pub fn answer(answer: Answer) -> [u64; FEW]
+    ensures { λ r. ⌜ Few r (plain (answerWords answer)) ⌝ }
+{
+    match answer {
+        Answer::Done => [0u64; FEW],
+        Answer::Refused(why) => refused(why),
+    }
+}
+
+pub fn asked(answer: Asked) -> [u64; FEW]
+    ensures { λ r. ⌜ Few r (plain (askedWords answer)) ⌝ }
+{
+    match answer {
+        Asked::Given {
+            edition,
+            day,
+            frame,
+        } => {
+            let mut numbers = [0u64; FEW];
+            numbers[places::SETTING_EDITION] = edition as u64;
+            numbers[places::SETTING_DAY] = day as u64;
+            numbers[places::SETTING_FRAME] = frame as u64;
+            numbers
+        }
+        Asked::Refused(why) => refused(why),
+    }
+}

@@ -1,0 +1,46 @@
+-- `host::receivers::hernganow_pack` meets its contract. Assumes nothing.
+use Rattle.host.proofs.Exports.{unwritten-on, written-on}
+use borrow.Author.Needs.{needs}
+use Rattle.host.proofs.receivers.hernganow_pack.Statement.{statement}
+use Rattle.host.proofs.receivers.hernganow_pack.Tie as tie
+
+unwritten-requires : tie.Need-unwritten-requires
+unwritten-requires c κs = search needs
+
+returns : tie.Need-returns
+returns c = unwritten-on _ _ _ _ (c .before .if1 .taken) (c .unwritten .ensures)
+
+pack-requires : tie.Need-pack-requires
+pack-requires c κs = search needs
+
+samples-requires : tie.Need-samples-requires
+samples-requires c κs = search needs
+
+write-few-requires : tie.Need-write-few-requires
+write-few-requires c κs = search needs
+
+same-length : tie.Need-same-length
+same-length c = search needs
+
+same-length-2 : tie.Need-same-length-2
+same-length-2 c = search needs
+
+returns-2 : tie.Need-returns-2
+returns-2 c =
+    let wrote = c .before .before in
+    let told = wrote .before in
+    let called = told .before .before .before .before in
+    written-on _ _ _ _ (called .before .before .if1 .left) (called .pack .ensures) (told .samples .ensures .same) (wrote .write-few .ensures)
+
+pub hernganow-pack-spec : {M : Type 1} → statement M
+hernganow-pack-spec =
+    tie.close
+    (tie.spec
+    unwritten-requires
+    returns
+    pack-requires
+    samples-requires
+    write-few-requires
+    same-length
+    same-length-2
+    returns-2)
