@@ -15,7 +15,7 @@ use Rattle.ledger_model.specs.Step.{Call, Enrol, Ask, Open, Mark, Save, Drop, S
 use Rattle.ledger_layout.proofs.Parts.{number-within}
 use Rattle.ledger_replay.specs.declared.Line.{Line}
 use Rattle.ledger_replay.specs.Trace.{numberSize, recordAt, keyAt, keySize, entrySize, lineAt, isCall, deskRight, rowRight, numberRight, keyRight, lineRight, callIn, answerIn, entryIn}
-use Rattle.ledger_replay.specs.Record.{isKept, answerNumber, answeredRow, lineOf, lineBytes}
+use Rattle.ledger_replay.specs.Record.{isKept, answerNumber, answeredRow, markCall, lineOf, lineBytes}
 use Rattle.ledger_replay.specs.Laws.{isRefusal, rowFits, nothingFits, answerFits, fits}
 
 -- ---- the bytes of a line, and the line in them
@@ -102,6 +102,22 @@ rowed (gave (r ∷ [])) h = record { byte = lit< tt; row-byte = ltb-true r 256 h
 rowed (gave (r ∷ q ∷ words)) h = absurd (false≢true h)
 rowed (refused n) h = let p = refusal-parts n h in record { byte = p .1; row-byte = lit< tt; row-fine = refl; back = rw (p .0) }
 
+-- A tick and an untick differ in their call's number alone.
+mark-byte : (flag : Bool) → markCall flag < 256
+mark-byte true = lit< tt
+mark-byte false = lit< tt
+
+mark-right : (flag : Bool) (d n : ℕ) (a : Answer) → lineRight (lineOf (Mark flag d n ⇒ a)) ≡ true
+unfolding lineOf lineRight isCall deskRight rowRight numberRight keyRight
+mark-right true d n a = rw (or-true (eqb d 0), or-true (eqb n 0 || false))
+mark-right false d n a = rw (or-true (eqb d 0), or-true (eqb n 0 || false || false))
+
+mark-back : (flag : Bool) (d n : ℕ) (a : Answer) → cond (eqb (answerNumber a) 0) done (refused (answerNumber a)) ≡ a
+    → entryIn (lineOf (Mark flag d n ⇒ a)) ≡ Mark flag d n ⇒ a
+unfolding lineOf callIn answerIn
+mark-back true d n a h = ap (λ x. Mark true d n ⇒ x) h
+mark-back false d n a h = ap (λ x. Mark false d n ⇒ x) h
+
 pub good : (e : Entry) → fits e ≡ true → Good e
 unfolding isKept answerFits lineOf lineRight isCall deskRight rowRight numberRight keyRight callIn answerIn
 good (Enrol key first ⇒ a) h =
@@ -137,37 +153,21 @@ good (Open d r ⇒ a) h =
       right = rw (or-true (eqb d 0), or-true (eqb r 0));
       back = ap (λ x. Open d r ⇒ x) (t .back);
     }
-good (Mark true d n ⇒ a) h =
+good (Mark flag d n ⇒ a) h =
     let p = and-split _ _ h in
     let k = and-split _ _ (p .0) in
     let t = nothing a (p .1) in
     record {
       held = record {
-        call-byte = lit< tt;
+        call-byte = mark-byte flag;
         desk-byte = ltb-true _ _ (k .0);
         row-byte = lit< tt;
         answer-byte = t .byte;
         number-fits = ltb-true _ _ (k .1);
         key-fits = lit< tt;
       };
-      right = rw (or-true (eqb d 0), or-true (eqb n 0 || false));
-      back = ap (λ x. Mark true d n ⇒ x) (t .back);
-    }
-good (Mark false d n ⇒ a) h =
-    let p = and-split _ _ h in
-    let k = and-split _ _ (p .0) in
-    let t = nothing a (p .1) in
-    record {
-      held = record {
-        call-byte = lit< tt;
-        desk-byte = ltb-true _ _ (k .0);
-        row-byte = lit< tt;
-        answer-byte = t .byte;
-        number-fits = ltb-true _ _ (k .1);
-        key-fits = lit< tt;
-      };
-      right = rw (or-true (eqb d 0), or-true (eqb n 0 || false || false));
-      back = ap (λ x. Mark false d n ⇒ x) (t .back);
+      right = mark-right flag d n a;
+      back = mark-back flag d n a (t .back);
     }
 good (Save d ⇒ a) h =
     let p = and-split _ _ h in
