@@ -8,7 +8,7 @@ use Rattle.ledger_season.specs.declared.SheetCounts.{SheetCounts}
 use Rattle.ledger_season.specs.declared.SeasonGap.{SeasonGap}
 use Rattle.ledger_season.specs.Season.{countsWords, orFurther}
 
--- How many numbers an accepted one has: 0, the sheets, "ticked, missing, and missing per million", "sheet (from 0), row and number".
+-- How many numbers an accepted one has: 0, the count of sheets, three counts in all, three of the gap.
 abbrev pub inAllCount : ℕ
 inAllCount = 8
 

@@ -1,6 +1,5 @@
--- Document 02, Req 06: what an exported call returns and leaves, from the words that the library's call promises. "It returns the refusal
--- number or 0 and writes its answer, a refusal's too". "38, judged first with nothing written, when that slice isn't 256 bytes."
--- Assumes nothing.
+-- Document 02, Req 06: what an exported call returns and leaves, from the words that the library's call promises. A refusal is written
+-- too; 38, for an answer's slice of another length than 256, comes before everything and writes nothing. Assumes nothing.
 use Prim.Native.Nat.{ℕ}
 use mathlib.Core.Bool.{cond}
 use mathlib.Core.List.{List, [], _∷_, _++_}
@@ -13,7 +12,7 @@ use Rattle.refusals.specs.declared.Refusal.the-variants.{AnswerLength}
 use Rattle.sfdu_headers.specs.Words.{Word}
 use Rattle.answers.specs.Numbers.{numbersOf, plain}
 
--- "a lent slice of 256 bytes as 8-byte numbers"
+-- The answer's slice, and each number in it.
 abbrev pub answerSize : ℕ
 answerSize = 256
 

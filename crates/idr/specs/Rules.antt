@@ -20,7 +20,7 @@ outcomeNumber (Refused r) = numberOf r
 unfoldable pub areDigits : List ℕ → Bool
 areDigits w = all digitCount (λ k. leb (digit w k) 9)
 
--- "day 1 to 366, hour to 23, minute and second to 59, microseconds to 999,999"
+-- The time tag's ranges: days from 1 to 366, hours below 24, minutes and seconds below 60, microseconds below 1,000,000.
 unfoldable pub isClock : (day hour minute second micros : ℕ) → Bool
 isClock day hour minute second micros =
     leb 1 day && leb day 366 && leb hour 23 && leb minute 59 && leb second 59 && leb micros 999999

@@ -6,7 +6,7 @@ use mathlib.Core.List.{List, [], _∷_}
 use lib.Dec.{leb, ltb}
 use Rattle.refusals.specs.Judge.{Rule, _when_, judge}
 
--- "Telemetry: spacecraft x 2^32 + source x 2^24 + equipment x 2^8 + virtual stream."
+-- A telemetry key: the virtual stream from bit 0, equipment from bit 8, source from bit 24, spacecraft from bit 32.
 abbrev pub telemetryKey : (spacecraft source equipment stream : ℕ) → ℕ
 telemetryKey spacecraft source equipment stream = spacecraft * 2 ^ 32 + source * 2 ^ 24 + equipment * 2 ^ 8 + stream
 
@@ -18,11 +18,11 @@ rsrStart = 2 ^ 42
 abbrev pub rsrEnd : ℕ
 rsrEnd = rsrStart + 2 ^ 32
 
--- "RSR (house rule): 2^42 + spacecraft x 2^24 + station x 2^16 + receiver x 2^8 + subchannel."
+-- An RSR key (the house's own rule): a byte each of subchannel, receiver, station and spacecraft, above 2^42.
 abbrev pub rsrKey : (spacecraft station receiver subchannel : ℕ) → ℕ
 rsrKey spacecraft station receiver subchannel = rsrStart + spacecraft * 2 ^ 24 + station * 2 ^ 16 + receiver * 2 ^ 8 + subchannel
 
--- "A key is valid below 2^42, and from 2^42 up to but not including 2^42 + 2^32."
+-- The valid keys: telemetry's, below 2^42, and RSR's, the 2^32 next ones.
 abbrev pub isTelemetryKey : ℕ → Bool
 isTelemetryKey key = ltb key rsrStart
 
@@ -36,11 +36,11 @@ validKey key = isTelemetryKey key || isRsrKey key
 abbrev pub fits : (bits number : ℕ) → Bool
 fits bits number = ltb number (2 ^ bits)
 
--- "telemetry: spacecraft 10 bits, equipment 16, the others 8"
+-- Telemetry's widths: 10 bits of spacecraft, 16 of equipment, 8 of source and of stream.
 abbrev pub telemetryFits : (spacecraft source equipment stream : ℕ) → Bool
 telemetryFits spacecraft source equipment stream = fits 10 spacecraft && fits 8 source && fits 16 equipment && fits 8 stream
 
--- "RSR: 8 each"
+-- RSR's: 8 bits of each.
 abbrev pub rsrFits : (spacecraft station receiver subchannel : ℕ) → Bool
 rsrFits spacecraft station receiver subchannel = fits 8 spacecraft && fits 8 station && fits 8 receiver && fits 8 subchannel
 
@@ -48,7 +48,7 @@ rsrFits spacecraft station receiver subchannel = fits 8 spacecraft && fits 8 sta
 abbrev pub made : List (Rule ℕ) → (key : ℕ) → List ℕ
 made rules key = judge (λ n. n ∷ []) rules (0 ∷ key ∷ [])
 
--- "A call for each kind makes the key from its four numbers; 22 where one is wider than its field."
+-- The two calls: the key, or 22 where a number does not fit its field.
 unfoldable pub telemetryKeyCall : (spacecraft source equipment stream : ℕ) → List ℕ
 telemetryKeyCall spacecraft source equipment stream =
     made

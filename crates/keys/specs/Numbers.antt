@@ -4,7 +4,7 @@ use mathlib.Core.Bool.{Bool, cond}
 use lib.Dec.{ltb}
 use Rattle.keys.specs.Key.{isTelemetryKey}
 
--- What the record numbers of a stream are counted modulo: 2^32; "the RSR record number has 16 bits", so "for keys from 2^42 up" 65,536.
+-- What the record numbers of a stream are counted modulo: 2^32, and 65,536 for RSR, whose keys are 2^42 and more.
 unfoldable pub modulus : (key : ℕ) → ℕ
 modulus key = cond (isTelemetryKey key) (2 ^ 32) (2 ^ 16)
 

@@ -32,7 +32,7 @@ headerBytes n =
     bytesOf headerNumberSize sheetSize ++ bytesOf headerNumberSize n ++ bytesOf headerNumberSize rowCount
     ++ bytesOf headerNumberSize rowsStart ++ bytesOf headerNumberSize deskCount ++ bytesOf headerNumberSize desksStart
 
--- "A fresh sheet has no rows and eight closed desks."
+-- A fresh sheet: every row free, every desk closed.
 unfoldable pub freshSheet : List ℕ
 freshSheet = headerBytes 0 ++ replicate (sheetSize - rowsStart) 0
 
@@ -59,7 +59,7 @@ rowWith s key = lowest rowCount (isRowOf s key)
 abbrev pub hasKey : List ℕ → ℕ → Bool
 hasKey s key = ltb (rowWith s key) rowCount
 
--- "enrol takes the lowest free one": the lowest free row, or 32 where there is none.
+-- Where enrol puts a stream: the lowest free row, or 32 where there is none.
 unfoldable pub freeRow : List ℕ → ℕ
 freeRow s = lowest rowCount (λ i. not (isUsed s i))
 
@@ -77,21 +77,21 @@ enrolAt i key first s = counting (used s + 1) (put s (rowAt i) (rowBytes key fir
 unfoldable pub noneHasOpen : List ℕ → ℕ → Bool
 noneHasOpen s i = all deskCount (λ d. isClosed s d || not (eqb (deskRow s d) i))
 
--- "a free row is all zero": row i becomes zeros, and the header counts one less.
+-- Strike: row i becomes zeros, and the header counts one less.
 unfoldable pub strikeAt : ℕ → List ℕ → List ℕ
 strikeAt i s = counting (used s - 1) (put s (rowAt i) (replicate rowSize 0))
 
 -- ---- open, drop
 
--- An open desk: "1 if open, row, two zeros, the row as opened, the row as worked on".
+-- An open desk: a 1, the row's number, two zeros, and two copies of the row, as opened and as worked on.
 unfoldable pub openDesk : ℕ → (opened worked : List ℕ) → List ℕ
 openDesk row opened worked = 1 ∷ row ∷ 0 ∷ 0 ∷ opened ++ worked
 
--- "Open (desk, row): both copies become the row."
+-- Open: the desk's two copies are made from the row.
 unfoldable pub openAt : (d row : ℕ) → List ℕ → List ℕ
 openAt d row s = put s (deskAt d) (openDesk row (part s (rowAt row) rowSize) (part s (rowAt row) rowSize))
 
--- "The desk is cleared."
+-- A desk closed: zeros.
 unfoldable pub clearDesk : (d : ℕ) → List ℕ → List ℕ
 clearDesk d s = put s (deskAt d) (replicate deskSize 0)
 
@@ -105,7 +105,7 @@ positionIn row n = position (keyAt row 0) (firstNumberAt row 0) n
 abbrev pub marked : Bool → List ℕ → ℕ → List ℕ
 marked on row i = cond on (setTick row 0 i) (clearTick row 0 i)
 
--- The refusals that the row itself decides: "29 and 30 are judged on that copy".
+-- The refusals that the row itself decides; 29 and 30 look at the worked copy.
 abbrev pub markRows : Bool → List ℕ → ℕ → List (Rule ℕ)
 markRows on row i = (28 when not (inRow i)) ∷ (alreadySo on when Bool·beq (tickedAt row 0 i) on) ∷ []
 
@@ -116,7 +116,7 @@ markPosition on i row = judged (markRows on row i) (done, marked on row i) row
 unfoldable pub markRow : Bool → ℕ → List ℕ → Outcome
 markRow on n row = markPosition on (positionIn row n) row
 
--- The desk's worked copy, "which is lent on as that middle part of the sheet".
+-- The desk's worked copy, lent on as a part of the sheet.
 abbrev pub workedCopy : (d : ℕ) → List ℕ → List ℕ
 workedCopy d s = part s (deskAt d + workedAt) rowSize
 
@@ -127,7 +127,7 @@ markDesk on d n s =
 
 -- ---- save
 
--- "If the row equals the opened copy it becomes the worked copy, and the desk is cleared; else 31", which "clears that desk".
+-- Save: a row that is still as opened takes the worked copy; one that is not is 31. Either way the desk is closed.
 abbrev pub isCurrent : (d : ℕ) → List ℕ → Bool
 isCurrent d s = sameAt s (rowAt (deskRow s d)) s (deskAt d + openedAt) rowSize
 
@@ -148,12 +148,12 @@ abbrev pub lowestWords : List ℕ → ℕ → Option ℕ → List ℕ
 lowestWords s a none = []
 lowestWords s a (some i) = numberAtPosition s a i ∷ []
 
--- "Row report (row): ticked count; missing count ..; the number at the lowest missing position, or none."
+-- Row report: how many positions are ticked, how many missing, and the lowest missing one's number or none.
 unfoldable pub reportWords : List ℕ → ℕ → List ℕ
 reportWords s a =
     0 ∷ size (ticksOf s a) ∷ size (missing (ticksOf s a)) ∷ lowestWords s a (least (missing (ticksOf s a)))
 
--- "First gap: scanning rows in order and positions in order, the first missing number and its row, or none."
+-- First gap: the lowest missing number of the first row that has one, and that row; or none.
 -- The gap in row i, at the position given, or where there is none the words of the rows after it.
 abbrev pub gapOr : List ℕ → ℕ → Option ℕ → List ℕ → List ℕ
 gapOr s i none rest = rest

@@ -10,7 +10,7 @@ use Rattle.octets.specs.Octets.{bytesOf, part}
 use Rattle.ledger_sheet.specs.Sheet.{usedWordSize, usedWord, keySize, firstSize, ticksAt, ticksSize, byteBits, keyAt, firstNumberAt}
 use Rattle.ledger_sheet.specs.declared.Row.{Row}
 
--- "Position i is bit i mod 8, counted from the lowest, of tick byte i div 8." The row or the copy stands at offset a.
+-- Position i of the row or copy at offset a: tick byte i / 8, and in it the bit that counts 2 ^ (i % 8).
 abbrev pub tickByteAt : ℕ → ℕ → ℕ
 tickByteAt a i = a + ticksAt + i / byteBits
 
@@ -40,7 +40,7 @@ ticksOf s a = table rowLength (tickedAt s a)
 unfoldable pub rowBytes : (key first : ℕ) → List ℕ → List ℕ
 rowBytes key first ticks = bytesOf usedWordSize usedWord ++ bytesOf keySize key ++ bytesOf firstSize first ++ ticks
 
--- "a row starts from a blank map of 128 zero bytes"
+-- The ticks of a row at first: 128 zeros.
 unfoldable pub blankTicks : List ℕ
 blankTicks = replicate ticksSize 0
 

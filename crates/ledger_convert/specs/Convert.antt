@@ -1,5 +1,5 @@
--- Document 02, request 10: "A converter makes a new sheet of an old one, places and open desks kept; 20 where the old isn't right or the new
--- slice isn't 6,968 bytes." Assumes nothing.
+-- Document 02, request 10, the converter: a new sheet with the old one's rows at their places and its open desks; 20 for an old sheet that is
+-- not right, or a slice for the new one that has not 6,968 bytes. Assumes nothing.
 use Prim.Native.Nat.{ℕ, _+_, _/_, _%_, _^_}
 use mathlib.Core.Bool.{Bool, cond, _&&_}
 use mathlib.Core.List.{List, [], _∷_}
@@ -13,7 +13,7 @@ use Rattle.ledger_changes.specs.Bytes.{Outcome}
 use Rattle.ledger_layout.specs.Layout.{layout}
 use Rattle.ledger_convert.specs.Old.{ticksAt, byteBits, rowCount, openedAt, workedAt, deskCount, rowAt, deskAt, used, keyAt, firstNumberAt, deskRow, isClosed, right}
 
--- "Position i is bit i mod 8, counted from the lowest, of tick byte i div 8." The old row or copy stands at offset a.
+-- Position i of the old row or copy at offset a: tick byte i / 8, and in it the bit that counts 2 ^ (i % 8).
 abbrev pub oldTickedAt : List ℕ → ℕ → ℕ → Bool
 oldTickedAt s a i = eqb (getD s (a + ticksAt + i / byteBits) 0 / 2 ^ (i % byteBits) % 2) 1
 

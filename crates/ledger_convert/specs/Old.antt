@@ -12,7 +12,7 @@ use Rattle.octets.specs.Octets.{numberAt, all, zeroAt, sameAt}
 
 -- ---- sizes and offsets
 
--- "A row is 140 bytes: key (8), first number (4), ticks (128)." There are 32, and the first stands at 24.
+-- A row of 140 bytes: 8 of key, 4 of first number, 128 of ticks. There are 32, and the first stands at 24.
 abbrev pub keySize : ℕ
 keySize = 8
 
@@ -41,8 +41,8 @@ rowsStart = 24
 abbrev pub byteBits : ℕ
 byteBits = 8
 
--- "A desk is 284 bytes: 1 if open, row, two zeros, the row as opened (140), the row as worked on (140)." There are eight,
--- and they stand behind the rows.
+-- A desk of 284 bytes: whether it is open, its row, two zeros, and two copies of the row of 140 each, as opened and as worked on. There
+-- are eight, and they stand behind the rows.
 abbrev pub deskRowAt : ℕ
 deskRowAt = 1
 
@@ -67,11 +67,12 @@ deskCount = 8
 abbrev pub desksStart : ℕ
 desksStart = rowsStart + rowSize * rowCount
 
--- "A lent slice of exactly 6,776 bytes."
+-- The whole sheet: 6,776 bytes.
 abbrev pub sheetSize : ℕ
 sheetSize = desksStart + deskSize * deskCount
 
--- "A header of six 4-byte numbers: length 6,776, rows used, row places 32, offset of rows 24, desks 8, offset of desks 4,504."
+-- The header, six numbers of 4 bytes: the sheet's length, how many rows are used, how many there can be, where they begin, and how many
+-- desks there are and where those begin.
 abbrev pub headerNumberSize : ℕ
 headerNumberSize = 4
 
@@ -95,7 +96,7 @@ desksStartAt = 20
 
 -- ---- what stands there
 
--- The offset of row i, and of desk d. "Rows and desks count from 0."
+-- The offset of row i, and of desk d, both from 0.
 abbrev pub rowAt : ℕ → ℕ
 rowAt i = rowsStart + rowSize * i
 
@@ -124,43 +125,42 @@ deskByte s d = getD s (deskAt d) 0
 abbrev pub deskRow : List ℕ → ℕ → ℕ
 deskRow s d = getD s (deskAt d + deskRowAt) 0
 
--- "1 if open": a desk whose first byte is 0 is closed.
+-- A desk whose first byte is 0 is closed.
 abbrev pub isClosed : List ℕ → ℕ → Bool
 isClosed s d = eqb (deskByte s d) 0
 
--- ---- "A sheet is right when ..", a definition for each clause
+-- ---- when a sheet is right, a definition for each clause
 
--- "the header is so"
+-- The header's fixed numbers, and a count that there are rows for.
 unfoldable pub headerRight : List ℕ → Bool
 headerRight s =
     eqb (headerNumber s lengthAt) sheetSize && leb (used s) rowCount && eqb (headerNumber s rowCountAt) rowCount
     && eqb (headerNumber s rowsStartAt) rowsStart && eqb (headerNumber s deskCountAt) deskCount
     && eqb (headerNumber s desksStartAt) desksStart
 
--- "used rows come first with valid, different keys"
+-- The used rows are the first ones; their keys are valid, and no two the same.
 unfoldable pub validKeys : List ℕ → Bool
 validKeys s = all (used s) (λ i. validKey (keyAt s (rowAt i)))
 
 unfoldable pub differentKeys : List ℕ → Bool
 differentKeys s = all (used s) (λ i. all i (λ j. not (eqb (keyAt s (rowAt j)) (keyAt s (rowAt i)))))
 
--- "an RSR row with such a first number makes the sheet 20" (request 03): a used row's first number is one of its stream. The copies at
--- desks carry it.
+-- Request 03: a used row's first number is one that records of its stream have. The copies at desks carry it.
 unfoldable pub firstNumbers : List ℕ → Bool
 firstNumbers s = all (used s) (λ i. isNumber (keyAt s (rowAt i)) (firstNumberAt s (rowAt i)))
 
--- "unused rows and closed desks are all zero"
+-- Zeros alone in rows that are not used, and in closed desks.
 unfoldable pub unusedZero : List ℕ → Bool
 unusedZero s = all rowCount (λ i. ltb i (used s) || zeroAt s (rowAt i) rowSize)
 
 unfoldable pub closedZero : List ℕ → ℕ → Bool
 closedZero s d = not (isClosed s d) || zeroAt s (deskAt d) deskSize
 
--- "a desk's first byte is 0 or 1 and its two zeros are zero"
+-- A desk begins with 0 or 1, and its two zeros are so.
 unfoldable pub deskMarked : List ℕ → ℕ → Bool
 deskMarked s d = leb (deskByte s d) 1 && zeroAt s (deskAt d + deskZerosAt) deskZerosSize
 
--- "an open desk names a used row and both its copies carry that row's key and first number"
+-- The row of an open desk is used, and its key and first number stand in both copies.
 abbrev pub carries : List ℕ → (copy row : ℕ) → Bool
 carries s copy row = sameAt s (rowAt row) s copy ticksAt
 

@@ -1,6 +1,5 @@
 -- The model's book laid out as the bytes of a sheet, the book that a right sheet holds, and a call of the model as a call on a
--- sheet (document 01, "The ledger sheet" and "The plain book": "The ledger after a list is the book laid out as a sheet, byte
--- for byte"). Assumes nothing.
+-- sheet (document 01, "The ledger sheet" and "The plain book", which the sheet is to agree with in every byte). Assumes nothing.
 use Prim.Native.Nat.{ℕ, zero, suc, _+_, _*_}
 use mathlib.Core.Bool.{Bool, true, false, cond}
 use mathlib.Core.List.{List, [], _∷_, _++_}
@@ -24,24 +23,24 @@ unfoldable pub bitsValue : List Bool → ℕ
 bitsValue [] = 0
 bitsValue (x ∷ xs) = bit x + 2 * bitsValue xs
 
--- "Position i is bit i mod 8, counted from the lowest, of tick byte i div 8": a set as n bytes of eight positions each.
+-- A set as n bytes of eight positions each, the lowest position in the lowest bit.
 unfoldable pub tickBytes : (n : ℕ) → Positions → List ℕ
 tickBytes zero t = []
 tickBytes (suc n) t = bitsValue (take byteBits t) ∷ tickBytes n (drop byteBits t)
 
--- A row is 144 bytes: the used word, 1 (4), key (8), first number (4), ticks (128). "a free row is all zero"
+-- A row is 144 bytes: the used word, 1 (4), key (8), first number (4), ticks (128). A free one is zeros.
 unfoldable pub placeBytes : Place → List ℕ
 placeBytes free = replicate rowSize 0
 placeBytes (row key first ticks) = rowBytes key first (tickBytes ticksSize ticks)
 
--- A desk is 292 bytes: "1 if open, row, two zeros, the row as opened, the row as worked on". Its copies are the row of its place, with
--- sets of their own, so that they carry the 1. "closed desks are all zero"
+-- A desk is 292 bytes: whether it is open, its row, two zeros, and two copies of the row of its place, as opened and as worked on, with
+-- sets of their own, so that they carry the 1. A closed one is zeros.
 unfoldable pub deskBytes : List Place → Desk → List ℕ
 deskBytes places closed = replicate deskSize 0
 deskBytes places (working r opened worked) =
     openDesk r (placeBytes (withTicks opened (getD places r free))) (placeBytes (withTicks worked (getD places r free)))
 
--- "the header counts them": how many rows are used.
+-- How many rows are used, which the header has.
 unfoldable pub countUsed : List Place → ℕ
 countUsed [] = 0
 countUsed (free ∷ ps) = countUsed ps
@@ -81,6 +80,6 @@ laidOut r = (r .0, layout (r .1))
 unfoldable pub onSheet : (Book → List ℕ × Book) → List ℕ → Outcome
 onSheet f s = cond (right s) (laidOut (f (bookOf s))) (20 ∷ [], s)
 
--- "The call that makes a fresh sheet judges only the slice's length (20)."
+-- Fresh: 20 for another length, and nothing else is judged.
 unfoldable pub freshOn : List ℕ → Outcome
 freshOn s = cond (eqb (length s) sheetSize) (0 ∷ [], layout fresh) (20 ∷ [], s)

@@ -8,12 +8,12 @@ use Rattle.ledger_model.specs.Positions.{rowLength, position, Positions}
 
 -- ---- the book
 
--- "A place is free or has a key, a first number and a set of positions."
+-- A place: free, or a stream's key and first number and the positions ticked.
 pub data Place : Type 0 where
   free : Place
   row : (key first : ℕ) (ticks : Positions) → Place
 
--- "A desk is closed or has a place, an opened set and a worked set."
+-- A desk: closed, or a place with two sets, as opened and as worked on.
 pub data Desk : Type 0 where
   closed : Desk
   working : (place : ℕ) (opened worked : Positions) → Desk
@@ -22,7 +22,7 @@ pub record Book : Type 0 where
   pub places : List Place
   pub desks : List Desk
 
--- "It has 32 row places and eight desks."
+-- How many places and desks there are.
 abbrev pub placeCount : ℕ
 placeCount = 32
 
@@ -33,7 +33,7 @@ deskCount = 8
 abbrev pub idle : List Place → Book
 idle ps = record { places = ps; desks = replicate deskCount closed }
 
--- "At first all places are free and all desks closed."
+-- The book at first: nothing in any place, no desk open.
 abbrev pub fresh : Book
 fresh = idle (replicate placeCount free)
 

@@ -5,7 +5,7 @@ use mathlib.Core.List.{List, [], _∷_}
 use Rattle.ledger_model.specs.Positions.{size, missing, least, numberAt}
 use Rattle.ledger_model.specs.Book.{Place, free, row}
 
--- "ticked count; missing count; the number at the lowest missing position, or none"
+-- Row report: how many are ticked, how many missing, and the lowest missing number, or none.
 abbrev pub lowestNumber : (key first : ℕ) → Option ℕ → List ℕ
 lowestNumber key first none = []
 lowestNumber key first (some i) = numberAt key first i ∷ []
@@ -15,7 +15,7 @@ abbrev pub placeReport : Place → List ℕ
 placeReport free = []
 placeReport (row key first ticks) = size ticks ∷ size (missing ticks) ∷ lowestNumber key first (least (missing ticks))
 
--- "scanning rows in order and positions in order, the first missing number and its row, or none"
+-- First gap: the lowest missing number of the first row that has one, and the row; or none.
 abbrev pub gapOr : (key first r : ℕ) → Option ℕ → List ℕ → List ℕ
 gapOr key first r none further = further
 gapOr key first r (some i) further = numberAt key first i ∷ r ∷ []

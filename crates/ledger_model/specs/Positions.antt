@@ -13,7 +13,7 @@ rowLength = 1024
 
 -- ---- numbers
 
--- "Number n has position (n - first) mod 2^32"; "for keys from 2^42 up the position is (n - first) mod 65,536". A number that no
+-- The position of number n: how far it is past the first, counted modulo 2^32, for RSR modulo 65,536 (request 03). A number that no
 -- record of the stream has is outside the row.
 unfoldable pub position : (key first n : ℕ) → ℕ
 position key first n = cond (isNumber key n) ((n + (modulus key - first % modulus key)) % modulus key) rowLength
@@ -22,7 +22,7 @@ position key first n = cond (isNumber key n) ((n + (modulus key - first % modulu
 unfoldable pub numberAt : (key first i : ℕ) → ℕ
 numberAt key first i = (first + i) % modulus key
 
--- "and is in the row if that is under 1,024"
+-- The positions of a row are those below 1,024.
 abbrev pub inRow : ℕ → Bool
 inRow i = ltb i rowLength
 
@@ -55,7 +55,7 @@ unfoldable pub anyTicked : Positions → Bool
 anyTicked [] = false
 anyTicked (x ∷ s) = x || anyTicked s
 
--- "a position unticked below the highest ticked one being missing": the set of those, unticked with a ticked one above.
+-- The missing positions: unticked, with a ticked one above.
 unfoldable pub missing : Positions → Positions
 missing [] = []
 missing (x ∷ s) = (not x && anyTicked s) ∷ missing s

@@ -115,7 +115,7 @@ effect (Save d) b =
 effect (Drop d) b = reply done (putDesk d closed b)
 effect (Strike r) b = reply done (putPlace r free b)
 
--- "A call refused by the table changes nothing, but 31 closes the desk."
+-- A refusal leaves the book as it is, save that 31 closes the desk.
 unfoldable pub afterRefusal : ℕ → Call → Book → Book
 afterRefusal number (Enrol key first) b = b
 afterRefusal number (Ask q) b = b

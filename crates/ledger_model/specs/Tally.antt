@@ -1,5 +1,5 @@
--- Request 13: "ticked in all equals ticks less unticks that were accepted and whose visit was saved, over rows not struck since".
--- Assumes nothing.
+-- Request 13, the identity: what stands ticked is what was ticked less what was unticked, counting accepted marks of saved transactions on
+-- rows that were not struck later. Assumes nothing.
 use Prim.Native.Nat.{ℕ, _+_}
 use mathlib.Core.Path.{_≡_}
 use mathlib.Core.Bool.{Bool, true, false, cond, _&&_, _||_, Bool·beq}

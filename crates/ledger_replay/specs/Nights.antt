@@ -24,8 +24,8 @@ pub record PlaysAgain (log : List Entry) (last : List ℕ) : Type 0 where
 abbrev pub NightPlaysAgain : Type 0
 NightPlaysAgain = (log : List Entry) (last : List ℕ) → Night log last → length (recorded log) ≤ mostEntries → PlaysAgain log last
 
--- "says "same" exactly when every call answers as written": where a replay of any trace says so, every answer in the trace is the model's, and
--- the sheet is the model's book laid out;
+-- When a replay says 'same'. Where it does, of any trace, every answer in the trace is the model's, and the sheet is the model's book laid
+-- out;
 pub record AsModel (t s : List ℕ) : Type 0 where
   pub model-answers : run fresh (map callOf (entriesOf t)) .log ≡ entriesOf t
   pub model-sheet : replayOn t s .1 ≡ layout (bookAfter (entriesOf t))

@@ -23,8 +23,8 @@ isRecordNumber n = ltb n (256 ^ numberSize)
 abbrev pub isKeyNumber : ℕ → Bool
 isKeyNumber k = ltb k (256 ^ keySize)
 
--- "Calls with a desk or row above 255, refused anyway, aren't kept"; questions have no number. (A key or a record number that a call can be
--- given always fits.)
+-- A desk or row that is no byte cannot be written: such calls, all refused, are left out. Questions have no number. (A key or a record
+-- number that a call can be given always fits.)
 unfoldable pub isKept : Call → Bool
 isKept (Enrol key first) = isKeyNumber key && isRecordNumber first
 isKept (Ask q) = false
@@ -39,7 +39,7 @@ recorded log = only (λ e. isKept (callOf e)) log
 
 -- ---- the bytes
 
--- "Answer 0 is accepted, any other byte a refusal"; enrol's row is "the one answered (0 if refused)".
+-- 0 for an accepted call, else the refusal's number; the row that enrol answered, and 0 where it was refused.
 abbrev pub answerNumber : Answer → ℕ
 answerNumber (gave words) = 0
 answerNumber (refused number) = number

@@ -21,14 +21,14 @@ replayedWords Same = 0 ∷ []
 replayedWords (Differs entry number row) = 0 ∷ entry ∷ number ∷ row ∷ []
 replayedWords (Refused r) = numberOf r ∷ []
 
--- "what it answered (number, and enrol's row or 0)", of an answer's words.
+-- Of an answer's words: the refusal's number or 0, and the row, which enrol alone has.
 unfoldable pub told : List ℕ → Told
 told words = record { number = getD words 0 0; row = getD words 1 0 }
 
 unfoldable pub sameTold : Told → Told → Bool
 sameTold x y = eqb (x .number) (y .number) && eqb (x .row) (y .row)
 
--- "the first entry that differs, counted from 0, and what it answered"
+-- Entry k, from 0, is the first that differs, and this was answered.
 abbrev pub differs : ℕ → Told → List ℕ
 differs k x = 0 ∷ k ∷ x .number ∷ x .row ∷ []
 
@@ -40,7 +40,7 @@ replayFrom k ((c ⇒ a) ∷ entries) s =
     let made = onSheet (call c) s in
     cond (sameTold (told (made .0)) (told (answerWords a))) (replayFrom (suc k) entries (made .1)) (differs k (told (made .0)), made .1)
 
--- "20 first, for a lent slice not 6,968 bytes long; 40 for a trace not so formed, sheet untouched." Else the sheet is made fresh.
+-- 20 for a slice of another length than a sheet's, then 40 for what is no trace; both leave the slice as it is. Else it is made fresh.
 unfoldable pub replayOn : (t s : List ℕ) → Outcome
 replayOn t s =
     judged ((20 when not (eqb (length s) sheetSize)) ∷ (40 when not (isTrace t)) ∷ []) (replayFrom 0 (entriesOf t) (freshOn s .1)) s

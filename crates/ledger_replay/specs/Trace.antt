@@ -27,7 +27,7 @@ startAt = 8
 abbrev pub headerSize : ℕ
 headerSize = 12
 
--- "count (up to 4,000)"
+-- The most entries of a trace.
 abbrev pub mostEntries : ℕ
 mostEntries = 4000
 
@@ -53,7 +53,7 @@ keySize = 8
 abbrev pub entrySize : ℕ
 entrySize = 16
 
--- "call 1 to 7 (enrol, open, tick, untick, save, drop, strike)"
+-- The numbers of the calls.
 abbrev pub enrolCall : ℕ
 enrolCall = 1
 
@@ -100,17 +100,17 @@ lineAt t a =
 
 -- ---- well-formed, clause by clause
 
--- "length (the lent trace's, 12 + 16 x count), count (up to 4,000), offset 12"
+-- The header: the trace's length, which its entries make; their count, not above 4,000; where they begin.
 unfoldable pub headerRight : List ℕ → Bool
 headerRight t =
     eqb (headerNumber t lengthAt) (length t) && leb (count t) mostEntries && eqb (length t) (entryAt (count t))
     && eqb (headerNumber t startAt) headerSize
 
--- "call 1 to 7"
+-- The call is one of the seven.
 unfoldable pub isCall : Line → Bool
 isCall x = leb enrolCall (x .call) && leb (x .call) strikeCall
 
--- "what a call doesn't use is zero": the desk of enrol and strike;
+-- Zero where a call has no use for the field: the desk of enrol and strike;
 unfoldable pub deskRight : Line → Bool
 deskRight x = eqb (x .desk) 0 || (leb openCall (x .call) && leb (x .call) dropCall)
 
@@ -137,7 +137,7 @@ isTrace t = leb headerSize (length t) && headerRight t && linesRight t
 
 -- ---- the entries read
 
--- "for enrol the number is the first"
+-- An enrolment's first number stands where other calls have the record's.
 unfoldable pub callIn : Line → Call
 callIn x =
     cond (eqb (x .call) enrolCall) (Enrol (x .key) (x .number))
@@ -147,7 +147,7 @@ callIn x =
     (cond (eqb (x .call) saveCall) (Save (x .desk))
     (cond (eqb (x .call) dropCall) (Drop (x .desk)) (Strike (x .row)))))))
 
--- "Answer 0 is accepted, any other byte a refusal"; for enrol the row is the one answered.
+-- A zero is an accepted call, an enrolment with the row that it answered; anything else is a refusal's number.
 unfoldable pub answerIn : Line → Answer
 answerIn x = cond (eqb (x .answer) 0) (cond (eqb (x .call) enrolCall) (atRow (x .row)) done) (refused (x .answer))
 

@@ -12,14 +12,13 @@ use Rattle.ledger.specs.Demand3.{MadeFresh, Promised}
 use Rattle.ledger_season.specs.Report.{mostSheets, keyInTwo}
 use Rattle.ledger_season.specs.declared.SeasonReport.{SeasonReport}
 
--- "sheets grown from fresh by demand 3's calls": one list of calls for each sheet, each with its log, made one after the other on
--- the sheet that `fresh` made.
+-- Sheets and how each came to be: a list of calls with its log, made one after the other on the sheet that `fresh` made.
 pub data Grown : (logs : List (List Entry)) (sheets : List (List ℕ)) → Type 0 where
   no-sheet : Grown [] []
   and-sheet : (s : List ℕ) {start last : List ℕ} {log : List Entry} {logs : List (List Entry)} {sheets : List (List ℕ)}
       → MadeFresh s start → Chain Promised start log last → Grown logs sheets → Grown (log ∷ logs) (last ∷ sheets)
 
--- "laid one after another"
+-- The sheets in one slice.
 unfoldable pub laidInOne : List (List ℕ) → List ℕ
 laidInOne [] = []
 laidInOne (sheet ∷ sheets) = sheet ++ laidInOne sheets
@@ -33,5 +32,5 @@ overLogs count (log ∷ logs) = count log + overLogs count logs
 pub record Identity (logs : List (List Entry)) (sheets : List (List ℕ)) (r : SeasonReport) : Type 0 where
   -- It is accepted where there are not too many sheets and no key stands in two of them: none is refused as not right.
   pub accepted : length sheets ≤ mostSheets → keyInTwo (map bookAfter logs) ≡ false → r .answer ≡ A.Done
-  -- "ticked in all equals ticks less unticks that were accepted and whose visit was saved, over rows not struck since"
+  -- What is ticked in all is the ticks less the unticks, of accepted calls in saved transactions on rows not struck later.
   pub balanced : r .answer ≡ A.Done → r .total .ticked + overLogs savedUnticks logs ≡ overLogs savedTicks logs

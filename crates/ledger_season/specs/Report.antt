@@ -9,25 +9,25 @@ use Rattle.ledger_model.specs.Book.{Place, free, row, Book, ticksOf, hasKey}
 use Rattle.ledger_model.specs.Counts.{firstGapFrom}
 use Rattle.ledger_model.specs.Tally.{ticked}
 
--- "Over up to 16 sheets laid one after another"
+-- The most sheets of a season.
 abbrev pub mostSheets : ℕ
 mostSheets = 16
 
--- ---- "ticked, missing, and missing per million of both together"
+-- ---- three numbers: ticked, missing, and the rate of the missing ones
 
 -- The positions missing in all places; `ticked` of the model counts those ticked.
 unfoldable pub missed : List Place → ℕ
 missed [] = 0
 missed (p ∷ ps) = size (missing (ticksOf p)) + missed ps
 
--- "missing per million of both together, rounded down (0 where both are 0)"
+-- How many of a million positions, ticked and missing together, are missing: the whole part; 0 where there is no position.
 unfoldable pub perMillion : (ticked missing : ℕ) → ℕ
 perMillion t m = cond (eqb (t + m) 0) 0 (m * 1000000 / (t + m))
 
 unfoldable pub three : (ticked missing : ℕ) → List ℕ
 three t m = t ∷ m ∷ perMillion t m ∷ []
 
--- "per sheet"
+-- Of one sheet.
 abbrev pub tickedIn : Book → ℕ
 tickedIn b = ticked (b .places)
 
@@ -40,12 +40,12 @@ eachSheet zero bs = []
 eachSheet (suc n) [] = 0 ∷ 0 ∷ 0 ∷ eachSheet n []
 eachSheet (suc n) (b ∷ bs) = three (tickedIn b) (missingIn b) ++ eachSheet n bs
 
--- "and in all"
+-- Of all sheets.
 unfoldable pub inAll : (Book → ℕ) → List Book → ℕ
 inAll count [] = 0
 inAll count (b ∷ bs) = count b + inAll count bs
 
--- ---- "and once, the first gap of all as sheet (from 0), row and number"
+-- ---- the first gap of all: the sheet's number from 0, the row, the missing number
 
 -- What first gap gives of a sheet, its number and row, with the sheet's number; where it gives none, what the sheets after it do.
 abbrev pub gapIn : (sheet : ℕ) (gap further : List ℕ) → List ℕ
@@ -63,7 +63,7 @@ seasonGapFrom k (b ∷ bs) = gapIn k (firstGapFrom 0 (b .places)) (seasonGapFrom
 unfoldable pub report : List Book → List ℕ
 report bs = length bs ∷ eachSheet mostSheets bs ++ three (inAll tickedIn bs) (inAll missingIn bs) ++ seasonGapFrom 0 bs
 
--- ---- "a key stands in two sheets"
+-- ---- one key in two sheets
 
 -- The key stands in one of the books.
 unfoldable pub keyInOne : (key : ℕ) → List Book → Bool

@@ -22,7 +22,7 @@ use Rattle.ledger_season.specs.declared.SeasonReport.{SeasonReport}
 
 -- ---- the sheets in a slice
 
--- "sheets laid one after another": sheet k, how many sheets there are, and the books that they hold.
+-- Sheet k of a slice, how many sheets there are, and the books that they hold.
 abbrev pub sheetAt : List ℕ → ℕ → List ℕ
 sheetAt s k = part s (sheetSize * k) sheetSize
 
@@ -47,8 +47,7 @@ seasonRules s =
     ∷ (41 when keyInTwo (books s))
     ∷ []
 
--- The words of the answer: 0 and the report; or the refusal's number, with the report on no sheet behind it. ("None given: all
--- zero, no gap.")
+-- The words of the answer: 0 and the report; or the refusal's number, with the report on no sheet, which is zeros and no gap, behind it.
 unfoldable pub season : List ℕ → List ℕ
 season s = judge (λ number. number ∷ report []) (seasonRules s) (0 ∷ report (books s))
 

@@ -11,8 +11,8 @@ use Rattle.octets.specs.Octets.{numberAt, all, zeroAt, sameAt}
 
 -- ---- sizes and offsets
 
--- "Each row gains a 4-byte word before its key, 1 used and 0 free": a row is 144 bytes, used word (4), key (8), first number (4), ticks
--- (128). There are 32, and the first stands at 24.
+-- A row of 144 bytes: a word that is 1 where the row is used and 0 where it is free (4), key (8), first number (4), ticks (128). There are
+-- 32, and the first stands at 24.
 abbrev pub usedWordSize : ℕ
 usedWordSize = 4
 
@@ -50,8 +50,8 @@ rowsStart = 24
 abbrev pub byteBits : ℕ
 byteBits = 8
 
--- A desk is 292 bytes: "1 if open, row, two zeros, the row as opened, the row as worked on". There are eight, and they stand
--- behind the rows, from 4,632.
+-- A desk of 292 bytes: whether it is open, its row, two zeros, and two copies of the row, as opened and as worked on. There are eight, and
+-- they stand behind the rows, from 4,632.
 abbrev pub deskRowAt : ℕ
 deskRowAt = 1
 
@@ -76,11 +76,12 @@ deskCount = 8
 abbrev pub desksStart : ℕ
 desksStart = rowsStart + rowSize * rowCount
 
--- "sheet 6,968"
+-- The whole sheet: 6,968 bytes.
 abbrev pub sheetSize : ℕ
 sheetSize = desksStart + deskSize * deskCount
 
--- "A header of six 4-byte numbers: length, rows used, row places 32, offset of rows 24, desks 8, offset of desks."
+-- The header, six numbers of 4 bytes: the sheet's length, how many rows are used, how many there can be, where they begin, and how many
+-- desks there are and where those begin.
 abbrev pub headerNumberSize : ℕ
 headerNumberSize = 4
 
@@ -104,7 +105,7 @@ desksStartAt = 20
 
 -- ---- what stands there
 
--- The offset of row i, and of desk d. "Rows and desks count from 0."
+-- The offset of row i, and of desk d, both from 0.
 abbrev pub rowAt : ℕ → ℕ
 rowAt i = rowsStart + rowSize * i
 
@@ -119,11 +120,11 @@ headerNumber s at = numberAt s at headerNumberSize
 abbrev pub used : List ℕ → ℕ
 used s = headerNumber s usedAt
 
--- "1 used and 0 free": row i is used where its word is 1.
+-- Row i is used where its word is 1.
 abbrev pub isUsed : List ℕ → ℕ → Bool
 isUsed s i = eqb (numberAt s (rowAt i) usedWordSize) usedWord
 
--- Whether there is a row with this number. "A free row is no row, in every call."
+-- Whether there is a row with this number: to every call a free one is none.
 abbrev pub isRow : List ℕ → ℕ → Bool
 isRow s i = ltb i rowCount && isUsed s i
 
@@ -141,13 +142,13 @@ deskByte s d = getD s (deskAt d) 0
 abbrev pub deskRow : List ℕ → ℕ → ℕ
 deskRow s d = getD s (deskAt d + deskRowAt) 0
 
--- "1 if open": a desk whose first byte is 0 is closed.
+-- A desk whose first byte is 0 is closed.
 abbrev pub isClosed : List ℕ → ℕ → Bool
 isClosed s d = eqb (deskByte s d) 0
 
--- ---- "A sheet is right when ..", a definition for each clause
+-- ---- when a sheet is right, a definition for each clause
 
--- "the header is so"
+-- The header's fixed numbers.
 unfoldable pub headerRight : List ℕ → Bool
 headerRight s =
     eqb (headerNumber s lengthAt) sheetSize && eqb (headerNumber s rowCountAt) rowCount && eqb (headerNumber s rowsStartAt) rowsStart
@@ -158,11 +159,11 @@ unfoldable pub count : ℕ → (ℕ → Bool) → ℕ
 count zero p = 0
 count (suc n) p = count n p + cond (p n) 1 0
 
--- "used rows needn't come first, the header counts them"
+-- The header's count is that of the used rows, wherever they stand.
 unfoldable pub countRight : List ℕ → Bool
 countRight s = eqb (count rowCount (isUsed s)) (used s)
 
--- "valid, different keys"
+-- The keys of used rows are valid, and no two the same.
 unfoldable pub validKeys : List ℕ → Bool
 validKeys s = all rowCount (λ i. not (isUsed s i) || validKey (keyAt s (rowAt i)))
 
@@ -173,24 +174,23 @@ isNew s n key = all n (λ j. not (isUsed s j) || not (eqb (keyAt s (rowAt j)) ke
 unfoldable pub differentKeys : List ℕ → Bool
 differentKeys s = all rowCount (λ i. not (isUsed s i) || isNew s i (keyAt s (rowAt i)))
 
--- "an RSR row with such a first number makes the sheet 20" (request 03): a used row's first number is one of its stream. The copies at
--- desks carry it.
+-- Request 03: a used row's first number is one that records of its stream have. The copies at desks carry it.
 unfoldable pub firstNumbers : List ℕ → Bool
 firstNumbers s = all rowCount (λ i. not (isUsed s i) || isNumber (keyAt s (rowAt i)) (firstNumberAt s (rowAt i)))
 
--- "a free row is all zero": a row whose word is not 1 is, its word too, so that a word is 1 or 0.
+-- A row whose word is not 1 is zeros, its word too, so that a word is 1 or 0.
 unfoldable pub freeZero : List ℕ → Bool
 freeZero s = all rowCount (λ i. isUsed s i || zeroAt s (rowAt i) rowSize)
 
--- "closed desks are all zero"
+-- A closed desk is zeros.
 unfoldable pub closedZero : List ℕ → ℕ → Bool
 closedZero s d = not (isClosed s d) || zeroAt s (deskAt d) deskSize
 
--- "a desk's first byte is 0 or 1 and its two zeros are zero"
+-- A desk begins with 0 or 1, and its two zeros are so.
 unfoldable pub deskMarked : List ℕ → ℕ → Bool
 deskMarked s d = leb (deskByte s d) 1 && zeroAt s (deskAt d + deskZerosAt) deskZerosSize
 
--- "an open desk names a used row and both its copies carry that row's key and first number"; "a desk's copies carry the 1"
+-- The row of an open desk is used, and its word, key and first number stand in both copies.
 abbrev pub carries : List ℕ → (copy row : ℕ) → Bool
 carries s copy row = sameAt s (rowAt row) s copy ticksAt
 

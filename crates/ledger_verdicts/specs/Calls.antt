@@ -10,23 +10,23 @@ use Rattle.ledger_sheet.specs.Sheet.{sheetSize, rowCount, rowAt, right}
 use Rattle.ledger_changes.specs.Bytes.{Outcome, judged, done, freshSheet, rowWith, freeRow, enrolAt, strikeAt, openAt, clearDesk, markDesk, saveAt, reportWords, gapFrom}
 use Rattle.ledger_verdicts.specs.Verdicts.{enrolRows, findRows, openRows, deskRows, reportRows, strikeRows}
 
--- "The call that makes a fresh sheet judges only the slice's length (20)."
+-- Fresh: 20 for another length, and nothing else is judged.
 unfoldable pub freshCall : List ℕ → Outcome
 freshCall s = judged ((20 when not (eqb (length s) sheetSize)) ∷ []) (done, freshSheet) s
 
--- "enrol takes the lowest free one"; no ticks; it answers the row.
+-- Enrol: the stream at the lowest free row, with no ticks; the answer is the row.
 unfoldable pub enrolCall : (key first : ℕ) → List ℕ → Outcome
 enrolCall key first s = judged (enrolRows key first s) (0 ∷ freeRow s ∷ [], enrolAt (freeRow s) key first s) s
 
--- "Find (key): answers the row with it."
+-- Find: the row that has the key.
 unfoldable pub findCall : (key : ℕ) → List ℕ → Outcome
 findCall key s = judged (findRows key s) (0 ∷ rowWith s key ∷ [], s) s
 
--- "Open (desk, row): both copies become the row."
+-- Open: the desk's two copies are made from the row.
 unfoldable pub openCall : (d row : ℕ) → List ℕ → Outcome
 openCall d row s = judged (openRows d row s) (done, openAt d row s) s
 
--- "Tick, untick (desk, number): change one bit of the desk's worked copy." 28, 29 and 30 are judged there.
+-- Tick and untick: one bit of the desk's worked copy, on which 28, 29 and 30 are judged.
 unfoldable pub markCall : Bool → (d n : ℕ) → List ℕ → Outcome
 markCall on d n s = judged (deskRows d s) (markDesk on d n s) s
 
@@ -42,6 +42,6 @@ reportCall row s = judged (reportRows row s) (reportWords s (rowAt row), s) s
 unfoldable pub gapCall : List ℕ → Outcome
 gapCall s = judged ((20 when not (right s)) ∷ []) (gapFrom s 0 rowCount, s) s
 
--- "strike gives 20, 25 .., then 36"; else the row is zeroed, and the header counts one less.
+-- Strike: 20, 25, 36 in this order; else the row is zeroed, and the header counts one less.
 unfoldable pub strikeCall : (row : ℕ) → List ℕ → Outcome
 strikeCall row s = judged (strikeRows row s) (done, strikeAt row s) s

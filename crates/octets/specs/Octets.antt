@@ -1,4 +1,4 @@
--- Numbers and ranges in a list of bytes (document 01: "All fields are big-endian").
+-- Numbers and ranges in a list of bytes (all big-endian, as document 01 has them).
 -- Assumes nothing.
 use Prim.Native.Nat.{ℕ, zero, suc, _+_, _*_, _/_, _%_}
 use mathlib.Core.Bool.{Bool, true, _&&_}

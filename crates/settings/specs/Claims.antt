@@ -11,7 +11,7 @@ use Rattle.settings.specs.Model.{add, ask, WellFormed}
 use Rattle.settings.specs.Sheet.{settingsOf, right}
 use Rattle.settings.specs.Layout.{onSheet}
 
--- ---- "the setting with the latest first day not after it"
+-- ---- which setting is found for a day
 
 pub record OldEnough (mission day : ℕ) (x : Setting) : Type 0 where
   pub of-mission : x .mission ≡ mission
@@ -33,7 +33,7 @@ abbrev pub answerTo : (mission day : ℕ) → List ℕ → List ℕ
 answerTo mission day s = onSheet (ask mission day) s .0
 
 pub record Added (mission edition day frame : ℕ) (s t : List ℕ) : Type 0 where
-  -- "Adding never changes an answer for a day before the added setting's first day", nor for another mission.
+  -- A setting that is added changes nothing that is answered for earlier days than its first, nor for another mission.
   pub keeps-earlier : (m d : ℕ) → d < day → answerTo m d t ≡ answerTo m d s
   pub keeps-others : (m d : ℕ) → m ≢ mission → answerTo m d t ≡ answerTo m d s
   -- An accepted setting is given for its mission on its first day.
@@ -52,7 +52,7 @@ unfoldable pub addEach : (start : List Setting) → List Setting → List Settin
 addEach start [] = start
 addEach start (x ∷ xs) = addEach (add (x .mission) (x .edition) (x .day) (x .frame) start .1) xs
 
--- "adding takes the next place": settings that can all be kept are all there, in the order of adding.
+-- Settings that can all be kept are all there, in the order of adding.
 abbrev pub AllThere : Type 0
 AllThere = (xs : List Setting) → WellFormed xs → addEach [] xs ≡ xs
 

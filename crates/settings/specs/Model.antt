@@ -10,15 +10,15 @@ use Rattle.settings.specs.declared.Setting.{Setting}
 use Rattle.settings.specs.declared.Found.{Found}
 use Rattle.settings.specs.declared.Found.the-variants.{Nothing, Latest}
 
--- "Up to 64 settings"
+-- The most settings of a sheet.
 abbrev pub places : ℕ
 places = 64
 
--- "edition (1 old, 2 new)"
+-- The editions: the old one is 1, the new one 2.
 abbrev pub known : (edition : ℕ) → Bool
 known edition = eqb edition 1 || eqb edition 2
 
--- ---- "no mission and day twice"
+-- ---- a mission has one setting for a first day
 
 abbrev pub isOf : (mission day : ℕ) → Setting → Bool
 isOf mission day x = eqb (x .mission) mission && eqb (x .day) day
@@ -31,7 +31,7 @@ unfoldable pub different : List Setting → Bool
 different [] = true
 different (x ∷ xs) = not (holds (x .mission) (x .day) xs) && different xs
 
--- ---- "the setting with the latest first day not after it"
+-- ---- the setting for a day: of those that began by then, the one that began last
 
 abbrev pub isLater : Found → (day : ℕ) → Bool
 isLater Nothing day = true
@@ -53,18 +53,18 @@ latest mission day xs = latestFrom mission day Nothing xs
 abbrev pub Outcome : Type 0
 Outcome = List ℕ × List Setting
 
--- "44 unknown edition, 45 same mission and day already there, 46 full"
+-- 44 for an edition that there is not, 45 where the mission has a setting for that day, 46 where no place is left.
 abbrev pub addRules : (mission edition day : ℕ) → List Setting → List (Rule ℕ)
 addRules mission edition day xs =
     (44 when not (known edition)) ∷ (45 when holds mission day xs) ∷ (46 when eqb (length xs) places) ∷ []
 
--- "adding takes the next place, any day"
+-- Added behind the others, whatever its day.
 unfoldable pub add : (mission edition day frame : ℕ) → List Setting → Outcome
 add mission edition day frame xs =
     judge (λ n. (n ∷ [], xs)) (addRules mission edition day xs)
     (0 ∷ [], xs ++ (record { mission = mission; edition = edition; day = day; frame = frame } ∷ []))
 
--- "47 when no setting is old enough"
+-- 47 where none of the mission's settings began by then.
 abbrev pub isMissing : Found → Bool
 isMissing Nothing = true
 isMissing (Latest x) = false

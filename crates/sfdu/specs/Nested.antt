@@ -49,7 +49,7 @@ pub record Nested (k : Kind) (s : List ℕ) : Type 0 where
 abbrev pub AcceptedNest : Type 0
 AcceptedNest = (s : List ℕ) → accepts s ≡ true → Nested (kindOf s) s
 
--- ---- document 01's 18: "a block ends past the field that encloses it"
+-- ---- document 01's 18: a block that ends outside the field round it
 
 abbrev pub endsPast : Kind → List ℕ → Block → Bool
 endsPast k s b = ltb (enclosingEnd s b) (blockEnd s (startOf k b))

@@ -101,11 +101,11 @@ secondaryType Rsr = 104
 abbrev pub dataType : ℕ
 dataType = 10
 
--- "The data block's length is .. in 16 bits": at most this.
+-- The most that the 16 bits of a data block's length hold.
 abbrev pub mostData : ℕ
 mostData = 65535
 
--- "The label's length is 100 to 65,635 for telemetry and 240 to 65,775 for RSR."
+-- The range of the label's length: from headers with no data to headers with the most.
 abbrev pub leastLabelLength : Kind → ℕ
 leastLabelLength Telemetry = 100
 leastLabelLength Rsr = 240

@@ -122,7 +122,7 @@ cutRule s = 6 giving length s when ltb (length s) (recordLength s)
 abbrev pub lengthRules : Kind → List ℕ → List (Rule (List ℕ))
 lengthRules k s = rangeRule k s ∷ cutRule s ∷ []
 
--- A block's label: "type before length". Each field's offset, given when it is wrong.
+-- A block's label, its type and then its length. Each field's offset, given when it is wrong.
 abbrev pub typeAndLength : List ℕ → (at type size : ℕ) → List (Rule ℕ)
 typeAndLength s at type size = (at when not (eqb (blockType s at) type)) ∷ ((at + wordSize) when not (eqb (blockLength s at) size)) ∷ []
 
@@ -147,8 +147,8 @@ readRules s = labelRules s ++ lengthRules (kindOf s) s ++ headerRules (kindOf s)
 unfoldable pub isCount : ℕ → Bool
 isCount n = eqb n 1 || eqb n 6
 
--- The refusal of the record at a place of a stream: "offsets (not the byte counts of 1 and 6) then counting from the stream's
--- start".
+-- The refusal of the record at a place of a stream: an offset is counted from the stream's start; the byte counts that go with 1 and 6
+-- stay.
 unfoldable pub inStream : (place : ℕ) → List ℕ → List ℕ
 inStream place [] = []
 inStream place (n ∷ []) = n ∷ []

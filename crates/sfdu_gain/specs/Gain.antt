@@ -1,5 +1,5 @@
--- Document 02, Req 14, the gain multiplier: "The older RSR edition has 16 reserved bytes at the secondary block's end; the newer has 12
--- and a 4-byte gain multiplier". Assumes nothing.
+-- Document 02, Req 14, the gain multiplier: four bytes that the old edition of the RSR record reserves, with twelve more, at the end of the
+-- secondary block. Assumes nothing.
 use Prim.Native.Nat.{ℕ}
 use mathlib.Core.Bool.{not, cond}
 use mathlib.Core.List.{List, [], _∷_, _++_, map}
@@ -24,16 +24,16 @@ wordsOf NoGain = number 0 ∷ none ∷ []
 wordsOf (Header f) = map number (faultWords f)
 wordsOf (Refused r) = map number (only (numberOf r))
 
--- Document 004, section 1.2: of the 16 reserved bytes at the secondary block's end 12 are left. Section 3.5: "BYTES 208 TO 211", the
--- first of the 16.
+-- Document 004, section 1.2: of the 16 reserved bytes at the secondary block's end 12 are left. Section 3.5: the multiplier is bytes 208 to 211,
+-- the first of the 16.
 abbrev pub multiplier : List ℕ → ℕ
 multiplier s = fieldAt s 208 4
 
--- "The old edition answers "none"."
+-- The old edition has none.
 abbrev pub gainOf : (edition : ℕ) → List ℕ → Word
 gainOf edition s = cond (eqb edition 2) (number (multiplier s)) none
 
--- "the gain call, read headers' then 44"
+-- Read headers' refusals, then 44.
 abbrev pub gainRules : (edition : ℕ) → List ℕ → List (Rule (List ℕ))
 gainRules edition s = rsrRules s ++ (only 44 when not (known edition)) ∷ []
 

@@ -20,7 +20,7 @@ fieldAt s at width = numberAt s (secondaryAt + at) width
 
 -- ---- telemetry
 
--- "The lowest two bits of byte 6, then byte 7 (0 to 1,023)."
+-- Ten bits: two of byte 6, its lowest, above the eight of byte 7.
 abbrev pub spacecraft : List ℕ → ℕ
 spacecraft s = byteAt s 6 % 4 * 256 + byteAt s 7
 
@@ -46,11 +46,11 @@ uplinkAt = 26
 abbrev pub uplink : List ℕ → ℕ
 uplink s = byteAt s uplinkAt
 
--- "The lowest two bits of 28."
+-- Two bits of byte 28, its lowest.
 abbrev pub predictsMode : List ℕ → ℕ
 predictsMode s = byteAt s 28 % 4
 
--- "The band is handed out only in mode 2 or 3."
+-- There is a band in modes 2 and 3 alone.
 abbrev pub hasBand : List ℕ → Bool
 hasBand s = leb 2 (predictsMode s)
 

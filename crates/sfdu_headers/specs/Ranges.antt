@@ -1,5 +1,5 @@
--- Document 01: which fields are judged, and refusal 12: "a field out of range; it gives the first byte of the lowest such field,
--- counted from the record's start". Assumes nothing.
+-- Document 01: which fields are judged, and refusal 12, which gives the offset in the record of the lowest field that is out of range.
+-- Assumes nothing.
 use Prim.Native.Nat.{ℕ, _+_}
 use mathlib.Core.Bool.{Bool, not, _&&_, _||_}
 use mathlib.Core.List.{List, [], _∷_, _++_, map}
@@ -30,7 +30,7 @@ letterU = 85
 abbrev pub letterX : ℕ
 letterX = 88
 
--- RSR: "(S, X, K)". Telemetry: "U, S, X or K".
+-- The bands of an RSR record are S, X and K; a telemetry record has U too.
 unfoldable pub isRsrBand : ℕ → Bool
 isRsrBand b = eqb b letterS || eqb b letterX || eqb b letterK
 
@@ -63,7 +63,7 @@ byteRule s f = (f .at) when not (inRange (f .allowed) (getD s (f .at) 0))
 abbrev pub byteRules : List ℕ → List (Rule ℕ)
 byteRules s = map (byteRule s) judgedBytes
 
--- Year and day of the ADC reading: "year 28-29 (1900 to 3000) and day 30-31"; document 02, Req 01: day 366 in a leap year alone.
+-- Year and day of the ADC reading: years 1900 to 3000; the last day is 365, in a leap year 366 (document 02, Req 01).
 abbrev pub dateRules : List ℕ → List (Rule ℕ)
 dateRules s = ((secondaryAt + yearAt) when not (isYear (year s))) ∷ ((secondaryAt + dayAt) when not (isDay (year s) (day s))) ∷ []
 

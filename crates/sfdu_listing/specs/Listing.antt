@@ -9,17 +9,17 @@ use Rattle.sfdu.specs.Read.{kindOf, recordLength, labelRules, rangeRule, cutRul
 use Rattle.sfdu_headers.specs.Fields.{recordNumber}
 use Rattle.sfdu_listing.specs.Text.{heading, line, lastLine}
 
--- "65,536, its buffer".
+-- The bytes of the program's buffer.
 abbrev pub bufferSize : ℕ
 bufferSize = 65536
 
 -- ---- the record at the start of s, the rest of a stream
 
--- 17, which no number goes with: "N over 65,536, its buffer".
+-- 17, which no number goes with: a record that the buffer cannot hold.
 abbrev pub overRule : List ℕ → Rule (List ℕ)
 overRule s = (17 ∷ []) when ltb bufferSize (recordLength s)
 
--- Read one's rules with 17 "judged straight after 5".
+-- Read one's rules, with 17 next after 5.
 abbrev pub listRules : List ℕ → List (Rule (List ℕ))
 listRules s =
     labelRules s ++ (rangeRule (kindOf s) s ∷ overRule s ∷ cutRule s ∷ []) ++ headerRules (kindOf s) s ++ dataRules (kindOf s) s
@@ -32,8 +32,8 @@ refusal s = answered (listRules s) []
 unfoldable pub whole : List ℕ → Bool
 whole s = noneApplies (listRules s)
 
--- Why the listing stops there: the stop number, "0 when the stop place is the end, else the refusal of the record there", and the
--- "third number, 0 when there is none".
+-- Why the listing stops there: 0 at the end, else the refusal of the record that is not passed; and the number that goes with it, 0
+-- where none does.
 abbrev pub orZero : List ℕ → List ℕ
 orZero [] = []
 orZero (n ∷ []) = n ∷ 0 ∷ []

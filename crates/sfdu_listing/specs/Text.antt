@@ -1,5 +1,4 @@
--- The lines of a listing. Document 01, "The program, given one telemetry record .., writes exactly"; document 02, Req 05. Bytes are
--- ASCII. Assumes nothing.
+-- The lines of a listing, as document 01's example of the program has them; document 02, Req 05. Bytes are ASCII. Assumes nothing.
 use Prim.Native.Nat.{ℕ, zero, suc, _/_}
 use mathlib.Core.Bool.{cond}
 use mathlib.Core.List.{List, [], _∷_, _++_}
@@ -23,7 +22,7 @@ space = 32
 abbrev pub lineEnd : ℕ
 lineEnd = 10
 
--- "RSR is R": T and R.
+-- The letters T, of telemetry, and R.
 abbrev pub letter : Kind → ℕ
 letter Telemetry = 84
 letter Rsr = 82

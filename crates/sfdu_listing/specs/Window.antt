@@ -30,8 +30,8 @@ wordsOf More = []
 unfoldable pub foundAt : (place : ℕ) → List ℕ → List ℕ
 foundAt place s = cond (whole s) (0 ∷ kindNumber (kindOf s) ∷ recordLength s ∷ recordNumber (kindOf s) s ∷ []) (stopWords place s)
 
--- Refusals 1 and 6, which count the bytes that were there, are judged only where the stream ends with the window ("a record cut off
--- by the end").
+-- Refusals 1 and 6, which count the bytes that were there, are judged only where the stream ends with the window, and cuts a
+-- record off.
 abbrev pub givesCount : List ℕ → Bool
 givesCount [] = false
 givesCount (n ∷ rest) = isCount n

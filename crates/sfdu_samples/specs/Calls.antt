@@ -31,7 +31,7 @@ writes rules xs old = judge (λ refusal. (refusal, old)) rules (0 ∷ length xs 
 
 -- ---- unpack
 
--- Document 004, section 3.5, of a record s: "Sample resolution in bits per data sample", "Sample rate in Kilo-samples per second".
+-- Document 004, section 3.5, of a record s: how many bits a sample has, and how many thousand samples there are in a second.
 abbrev pub sizeOf : List ℕ → ℕ
 sizeOf s = byteAt s 36
 

@@ -1,4 +1,4 @@
--- Document 004, table 3-1, "Supported Sample Rates and Sample Sizes": the 36 rows in its order, rate (Ksamp/sec) and size
+-- Document 004, table 3-1, the listed pairs: the 36 rows in its order, rate (Ksamp/sec) and size
 -- (bits/samp). Assumes nothing.
 use Prim.Native.Nat.{ℕ}
 use mathlib.Core.Bool.{Bool, false, _&&_, _||_}

@@ -1,4 +1,4 @@
--- Document 02, Req 08, the round trip: "Unpacking then packing gives the same data part", and the other way. For every listed
+-- Document 02, Req 08, the round trip: a data part unpacked and packed again is the same, and numbers the other way. For every listed
 -- size; the statements speak of what the contracts of unpack and pack cite. Assumes nothing.
 use Prim.Native.Nat.{ℕ, _≤_, _<_}
 use mathlib.Core.Bool.{true}

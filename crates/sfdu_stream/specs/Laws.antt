@@ -10,12 +10,12 @@ use Rattle.sfdu_stream.specs.declared.Entry.{Entry}
 use Rattle.sfdu_stream.specs.Walk.{atEnd, whole, past, full}
 use Rattle.sfdu_stream.specs.Listing.{entryAt, Listing, listing, walkFrom, walked, Columns, listNumbers, listEntries}
 
--- "Records back to back" from one place to another: each is whole, and has its entry.
+-- Records with nothing between them from one place to another: each is whole, and has its entry.
 abbrev pub BackToBack : List ℕ → (from : ℕ) → List Entry → (to : ℕ) → Type 0
 BackToBack s from [] to = from ≡ to
 BackToBack s from (e ∷ es) to = (whole s from ≡ true) × (e ≡ entryAt s from) × BackToBack s (past s from) es to
 
--- "0 when the stop place is the end, else the refusal of the record there", its offset counted from the stream's start.
+-- 0 at the end, else the refusal of the record that is not passed, its offset counted from the stream's start.
 abbrev pub StopsAtEnd : List ℕ → Listing → Type 0
 StopsAtEnd s l = (l .stop ≡ length s) × (l .why ≡ atEnd)
 
@@ -42,7 +42,7 @@ pub record ListRight (s : List ℕ) (size : ℕ) (l : Listing) : Type 0 where
 abbrev pub EveryWalk : Type 0
 EveryWalk = (s : List ℕ) → WalkRight s (walkFrom s 0)
 
--- "An empty stream gives 0, 0, 0", and no number goes with it.
+-- An empty stream: no record, the stop place 0, the stop number 0, and no number goes with it.
 abbrev pub EmptyWalk : Type 0
 EmptyWalk = walked [] ≡ 0 ∷ 0 ∷ 0 ∷ 0 ∷ []
 

@@ -53,7 +53,7 @@ walked s = answer (walkFrom s 0)
 
 -- ---- the lists
 
--- A list with xs at its start: "entries past the count stay".
+-- A list with xs at its start; what stands behind them stays.
 abbrev pub fills {ℓ} : {A : Type ℓ} → List A → List A → List A
 fills xs old = xs ++ drop (length xs) old
 
@@ -64,7 +64,7 @@ pub record Columns : Type 0 where
   pub kinds : List ℕ
   pub numbers : List ℕ
 
--- "Of number lists of unequal length the shortest counts."
+-- Number lists hold as many records as the shortest of them.
 abbrev pub shortest : Columns → ℕ
 shortest c = min (min (length (c .places)) (length (c .lengths))) (min (length (c .kinds)) (length (c .numbers)))
 

@@ -31,7 +31,7 @@ pub record Enough (s : List ℕ) (n : ℕ) : Type 0 where
 abbrev pub EveryStream : Type 0
 EveryStream = (s : List ℕ) → Enough s (mostRecords Telemetry (length s))
 
--- "Streams of RSR alone": every whole record that the walk of the whole stream passes is RSR, also those past where a list is full.
+-- A stream of RSR alone: every whole record that the walk of the whole stream passes is RSR, also those past where a list is full.
 abbrev pub AllRsr : List Entry → Type 0
 AllRsr [] = Unit {0}
 AllRsr (e ∷ es) = (e .kind ≡ kindNumber Rsr) × AllRsr es

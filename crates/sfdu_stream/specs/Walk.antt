@@ -22,7 +22,7 @@ stepWords (Found kind n p next) = next .at ∷ 0 ∷ kindNumber kind ∷ n ∷ p
 stepWords (Done c) = c .at ∷ []
 stepWords (Refused f c) = c .at ∷ faultWords f
 
--- The stop number, "0 when the stop place is the end, else the refusal", and the number that goes with it, 0 where none does.
+-- The stop number, 0 at the end and else the refusal, and the number that goes with it, 0 where none does.
 abbrev pub atEnd : List ℕ
 atEnd = 0 ∷ 0 ∷ []
 
@@ -54,7 +54,7 @@ refusal s at = cond (leb (length s) at) atEnd (judge (inStream at) (readRules (d
 
 -- ---- the step
 
--- "The place in the stream is a cursor that each step hands back moved on; at or past the end it comes back unmoved, with
--- 'done'; at a refused record unmoved, with the refusal."
+-- A step moves the cursor past a whole record. It stays where the record is refused, which the step answers, and at the end or behind it,
+-- where the step answers 'done'.
 unfoldable pub step : List ℕ → (at : ℕ) → List ℕ
 step s at = cond (whole s at) (past s at) at ∷ cond (leb (length s) at) [] (readOne (drop at s))
