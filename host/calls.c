@@ -1,6 +1,6 @@
 /* Makes the calls of a call script (docs/call-script.md) that are exported, and holds each answer, all 256 bytes, and what a call was lent
  * to change to the lines that the reference writes for the script. Each call is made with answers' slices of other lengths first, which
- * must do nothing. The agreed gain, which has no op, is held to the lines of the gain. */
+ * must do nothing. The agreed gain, which has no op, is compared with the lines of the gain. */
 #include "../include/hernganow.h"
 
 #include <inttypes.h>

@@ -110,7 +110,8 @@ pub fn day_count(year: u16, day: u16) -> CountAnswer
     CountAnswer::Day(count)
 }
 
-// The year that a day count falls in. The cycle's mean tells it, or the year after it.
+// The year that a day count falls in: a search of the table of new years, by interpolation. The cycle's mean leads to the year or to the
+// one after it, and one comparison with the table's entry, computed, decides.
 fn year_of(count: u32) -> u16
     requires { ⌜ count ≤ lastCount ⌝ }
     ensures { λ r. ⌜ Within r count ⌝ }
