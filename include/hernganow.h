@@ -6,10 +6,11 @@
  * bytes, 32 numbers of 8 bytes, most significant byte first. The first is the number that is returned; HERNGANOW_AT_.. name the others.
  * Each number of a none is HERNGANOW_NONE; numbers that the answer does not have are 0. A signed number is in two's complement.
  *
- * A slice that is not HERNGANOW_ANSWER bytes is refused first, with 38: the call does nothing and writes nothing. Of the refusals in a
+ * An answer's slice of another length is refused first, with 38: the call does nothing and writes nothing. Of the refusals in a
  * call's comment the first that applies is given; a refused call leaves the sheet as it was, but for 31.
  *
- * Nothing is kept between calls: a sheet may move, and different sheets may be worked on at the same time. */
+ * Nothing is kept between calls: a sheet may move, and different sheets may be worked on at the same time, but no two calls may use one
+ * sheet at the same time. A pointer is never null, even where its length is 0. */
 #ifndef HERNGANOW_H
 #define HERNGANOW_H
 
@@ -43,7 +44,7 @@ enum hernganow_refusal {
     HERNGANOW_REFUSED_DATA_LENGTH = 11, /* data block: length */
     HERNGANOW_REFUSED_WRONG_KIND = 15, /* a record of the other kind */
     HERNGANOW_REFUSED_FIELD_RANGE = 12, /* a header field out of its range */
-    /* Records: samples (document 02, Req 08). */
+    /* Records: samples. */
     HERNGANOW_REFUSED_SAMPLE_PAIR = 19, /* size and rate are not a listed pair */
     HERNGANOW_REFUSED_SAMPLE_WORDS = 34, /* samples do not fill whole words */
     HERNGANOW_REFUSED_SAMPLE_VALUE = 37, /* a sample that the size has no code for */
@@ -68,7 +69,7 @@ enum hernganow_refusal {
     HERNGANOW_REFUSED_NOT_TICKED = 30, /* not ticked */
     HERNGANOW_REFUSED_STALE = 31, /* the row is not what the desk opened */
     HERNGANOW_REFUSED_ROW_OPEN = 36, /* a desk has the row open */
-    /* Traces and seasons (document 02, Req 11 and Req 13). */
+    /* Traces and seasons. */
     HERNGANOW_REFUSED_NOT_TRACE = 40, /* not a trace */
     HERNGANOW_REFUSED_SEASON_LENGTH = 42, /* not a whole number of sheets, or over 16 */
     HERNGANOW_REFUSED_KEY_IN_TWO_SHEETS = 41, /* a key stands in two sheets */
@@ -80,13 +81,13 @@ enum hernganow_refusal {
     HERNGANOW_REFUSED_TAPE_TIME = 52, /* tape: not a time */
     HERNGANOW_REFUSED_TAPE_RATE = 53, /* tape: rate */
     HERNGANOW_REFUSED_TAPE_BLOCK = 54, /* tape: block */
-    /* Mission agreements (document 02, Req 14). */
+    /* Mission agreements. */
     HERNGANOW_REFUSED_NOT_SETTINGS = 43, /* not a settings sheet */
     HERNGANOW_REFUSED_UNKNOWN_EDITION = 44, /* unknown edition */
     HERNGANOW_REFUSED_ALREADY_SET = 45, /* same mission and day already there */
     HERNGANOW_REFUSED_SETTINGS_FULL = 46, /* all 64 settings used */
     HERNGANOW_REFUSED_NO_SETTING = 47, /* no setting is old enough */
-    /* Calls from C (document 02, Req 06). */
+    /* Calls from C. */
     HERNGANOW_REFUSED_ANSWER_LENGTH = 38 /* the answer's slice is not 256 bytes: nothing done, nothing written */
 };
 
@@ -302,7 +303,8 @@ uint32_t hernganow_strike(
     uint32_t row,
     uint8_t *answer, size_t answer_length);
 
-/* Reports on a row. Answers how many numbers are ticked, how many are missing, and the lowest missing one or none. Refused: 20, 25. */
+/* Reports on a row. Answers how many numbers are ticked, how many are missing, and the number at the
+ * lowest missing position, or none. Refused: 20, 25. */
 uint32_t hernganow_row_report(
     const uint8_t *sheet, size_t sheet_length,
     uint32_t row,

@@ -14,7 +14,7 @@ reference samples [--raw] [FILE..]
                                  the samples of streams of RSR records: I Q a line, or 32-bit little-endian integers
 reference season [FILE..]        the season's gap report over ledger sheets
 reference random SEED COUNT [PART]
-                                 a random call script; of calls on records, samples, ledger, seasons, traces, tapes or settings alone
+                                 a random call script; of calls on records, samples, ledger, seasons, traces, tapes, settings or gain alone
 reference sample [NAME]          a sample stream; without a name, the names, what is wrong in each, and its last line
 reference big BYTES              a stream of mixed records of about so many bytes
 reference bench                  benchmarks
