@@ -76,13 +76,13 @@ module _ (w : List ℕ) (place : ℕ) (last : Bool) (out₀ : List ℕ) (start :
     last-room = omega (arith, r .few, r .fits, r .room, r .same, r .under .within)
 
     pub round-goes : (k : Kind) (n m : ℕ) (new : List ℕ) (q : ℕ) → FoundRecord (drop at w) k n m
-        → Puts out new end q (line (place + at) n k m) → q ≤ end + 40 → length new ≡ length out
+        → Puts out new end q (line (place + at) n (kindNumber k) m) → q ≤ end + 40 → length new ≡ length out
         → Round w place last out₀ start new (at + n) q
     round-goes k n m new q f p short same =
         let b = record-bounds w at k n m f in
         let l = line-room k n m f in
         record {
-          t = r .t ++ line (place + at) n k m;
+          t = r .t ++ line (place + at) n (kindNumber k) m;
           under = goes w place last at (r .t) (r .under) k n m f;
           puts = then (r .puts) p (omega (arith, r .same));
           same = same ∙ r .same;

@@ -4,6 +4,7 @@ pub mod Rows
 pub mod Judging
 pub mod Stable
 pub mod Streams
+pub mod OneWalk
 pub mod Draining
 pub mod Pieces
 pub mod Promised

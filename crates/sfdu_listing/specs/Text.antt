@@ -2,10 +2,10 @@
 use Prim.Native.Nat.{ℕ, zero, suc, _/_}
 use mathlib.Core.Bool.{cond}
 use mathlib.Core.List.{List, [], _∷_, _++_}
-use lib.Dec.{ltb}
+use lib.Dec.{eqb, ltb}
 use Rattle.io.specs.Digits.{digits}
-use Rattle.sfdu.specs.declared.Kind.{Kind}
-use Rattle.sfdu.specs.declared.Kind.the-variants.{Telemetry, Rsr}
+use Rattle.sfdu.specs.declared.Kind.the-variants.{Telemetry}
+use Rattle.sfdu.specs.Nesting.{kindNumber}
 
 -- The fewest decimal digits that hold n, but one at least. `most` bounds the search; n itself is enough.
 unfoldable pub placesIn : (most : ℕ) → ℕ → ℕ
@@ -22,10 +22,9 @@ space = 32
 abbrev pub lineEnd : ℕ
 lineEnd = 10
 
--- The letters T, of telemetry, and R.
-abbrev pub letter : Kind → ℕ
-letter Telemetry = 84
-letter Rsr = 82
+-- The letter of a kind by its number: T for telemetry, and R.
+abbrev pub letter : (kind : ℕ) → ℕ
+letter kind = cond (eqb kind (kindNumber Telemetry)) 84 82
 
 -- A number and the byte that ends it.
 unfoldable pub word : ℕ → (after : ℕ) → List ℕ
@@ -36,7 +35,7 @@ unfoldable pub heading : List ℕ
 heading = 112 ∷ 108 ∷ 97 ∷ 99 ∷ 101 ∷ space ∷ 108 ∷ 101 ∷ 110 ∷ 103 ∷ 116 ∷ 104 ∷ space ∷ 107 ∷ 105 ∷ 110 ∷ 100 ∷ space ∷ 110 ∷ 117 ∷ 109 ∷ 98 ∷ 101 ∷ 114 ∷ lineEnd ∷ []
 
 -- 0 120 T 7
-unfoldable pub line : (place size : ℕ) → Kind → (number : ℕ) → List ℕ
+unfoldable pub line : (place size kind number : ℕ) → List ℕ
 line place size kind number = word place space ++ word size space ++ (letter kind ∷ space ∷ []) ++ word number lineEnd
 
 -- Its most bytes: the place has 20 digits at most, the length 5, and the record number 10.

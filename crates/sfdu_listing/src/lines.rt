@@ -3,6 +3,7 @@ ghost use mathlib.Core.Path.{_≡_};
 ghost use Prim.Native.Nat.{_+_, _≤_, _<_};
 ghost use lib.ListN.{length};
 ghost use mathlib.Core.List.{[], _∷_};
+ghost use Rattle.sfdu.specs.Nesting.{kindNumber};
 ghost use Rattle.sfdu_listing.specs.Listing.{bufferSize};
 ghost use Rattle.sfdu_listing.specs.Text.{space, letter, word, heading, line, lastLine, mostLine, mostLast};
 ghost use Rattle.sfdu_listing.specs.Window.{Puts};
@@ -50,7 +51,7 @@ fn put_word(out: &mut [u8], at: usize, n: u64, after: u8) -> usize
 
 fn put_letter(out: &mut [u8], at: usize, kind: Kind) -> usize
     requires { ⌜ at + 2 ≤ length (now out) ⌝ }
-    ensures { λ r. ⌜ Puts (now (out .entry)) (now (out .exit)) at r (letter kind ∷ space ∷ []) ⌝ }
+    ensures { λ r. ⌜ Puts (now (out .entry)) (now (out .exit)) at r (letter (kindNumber kind) ∷ space ∷ []) ⌝ }
 {
     out[at] = letter_of(kind);
     out[at + 1] = SPACE;
@@ -58,7 +59,7 @@ fn put_letter(out: &mut [u8], at: usize, kind: Kind) -> usize
 }
 
 fn letter_of(kind: Kind) -> u8
-    ensures { λ r. ⌜ r ≡ letter kind ⌝ }
+    ensures { λ r. ⌜ r ≡ letter (kindNumber kind) ⌝ }
 {
     match kind {
         Kind::Telemetry => b'T',
@@ -76,7 +77,7 @@ pub fn put_line(
     number: u32,
 ) -> usize
     requires { ⌜ (at + mostLine ≤ length (now out)) × (size ≤ bufferSize) ⌝ }
-    ensures { λ r. ⌜ Puts (now (out .entry)) (now (out .exit)) at r (line place size kind number) ⌝ }
+    ensures { λ r. ⌜ Puts (now (out .entry)) (now (out .exit)) at r (line place size (kindNumber kind) number) ⌝ }
     ensures { λ r. ⌜ r ≤ at + mostLine ⌝ }
 {
     let a = put_word(out, at, place, SPACE);
