@@ -9,10 +9,11 @@ use Rattle.sfdu_write.specs.Write.{recordBytes, headBytes, labelBytes, primaryB
 use Rattle.sfdu.specs.Read.{kindOf, hasKind, recordLength, labelLength, lengthInRange, blockType, blockLength, isCount, inStream}
 use Rattle.octets.specs.Octets.{bytesOf, numberAt, sameAt, all}
 use Rattle.refusals.specs.Judge.{judge}
+use Rattle.text.specs.Text.{placesIn, decimal, word}
 use Rattle.sfdu_headers.specs.Fields.{recordNumber}
 use Rattle.sfdu_stream.specs.Walk.{wholeBy, refusalBy}
 use Rattle.sfdu_stream.specs.Listing.{entryOf, listingBy, walkBy}
-use Rattle.sfdu_listing.specs.Text.{placesIn, decimal, word, heading, line, numbersLine, lastLine}
+use Rattle.sfdu_listing.specs.Text.{heading, line, numbersLine, lastLine}
 use Rattle.sfdu_listing.specs.Listing.{linesOf, textOf, linesFrom, listing}
 
 -- the record number stands in bytes 22 to 25 of the secondary block, whose value starts at byte 4

@@ -1,5 +1,3 @@
-pub mod Decimals
-pub mod Laid
 pub mod Rows
 pub mod Judging
 pub mod Stable

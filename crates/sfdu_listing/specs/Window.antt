@@ -8,6 +8,7 @@ use lib.ListN.{length, take, drop}
 use lib.Dec.{eqb}
 use Rattle.octets.specs.Octets.{part, put}
 use Rattle.refusals.specs.Judge.{answered}
+use Rattle.text.specs.Text.{Puts}
 use Rattle.sfdu.specs.Nesting.{kindNumber}
 use Rattle.sfdu.specs.Read.{kindOf, recordLength, isCount}
 use Rattle.sfdu_headers.specs.Fields.{recordNumber}
@@ -44,11 +45,6 @@ unfoldable pub foundIn : (place : ℕ) → List ℕ → (last : Bool) → List �
 foundIn place s last = cond (cutShort s && not last) [] (foundAt place s)
 
 -- ---- text laid out
-
--- `new` is `old` with the text t put in from `at` on, which ends before r.
-pub record Puts (old new : List ℕ) (at r : ℕ) (t : List ℕ) : Type 0 where
-  pub bytes : new ≡ put old at t
-  pub end : r ≡ at + length t
 
 -- The text that is still to come, unless the listing is done.
 abbrev pub unless : Bool → List ℕ → List ℕ
