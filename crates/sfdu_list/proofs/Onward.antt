@@ -7,12 +7,13 @@ use mathlib.Core.Path.{_≡_, refl, sym, ap, _∙_, subst}
 use lib.Dec.{lit<, lit≤}
 use lib.ListN.{length, take, drop, length-drop}
 use lib.Seq.{take-add, length-take-le}
+use Rattle.text.specs.Text.{Puts}
 use Rattle.sfdu_listing.specs.declared.State.{State}
 use Rattle.sfdu_listing.specs.Text.{heading}
 use Rattle.sfdu_listing.specs.Listing.{bufferSize}
-use Rattle.sfdu_listing.specs.Window.{Puts, mostText, Ready, Lists}
+use Rattle.sfdu_listing.specs.Window.{mostText, Ready, Lists}
 use Rattle.sfdu_listing.specs.Run.{Run, begins, lists, writes, begun, emptied}
-use Rattle.sfdu_listing.proofs.Promised.{grown}
+use Rattle.text.proofs.Laid.{grown}
 use Rattle.sfdu_list.specs.declared.Piece.{Piece}
 use Rattle.sfdu_list.specs.declared.Turn.{Turn}
 use Rattle.sfdu_list.specs.Turn.{Going, Behind, Stands, Turns, Ends}
@@ -113,7 +114,7 @@ pub record Round (w out : List ℕ) (s : State) (turns : ℕ) : Type 0 where
 
 begins-stands : (w old out : List ℕ) → Puts old out 0 (begun .text) heading → Stands w out begun
 begins-stands w old out p =
-    let laid : take (begun .text) out ≡ heading = grown old out 0 (begun .text) heading p in
+    let laid : take (begun .text) out ≡ heading = grown p in
     record { read = []; ended = false; written = []; run = subst (λ (t : List ℕ). Run [] false [] begun [] t) (sym laid) begins }
 
 pub round-begins : (w old out : List ℕ) (s : State) (turns : ℕ) → length w ≡ bufferSize → length out ≡ bufferSize → s ≡ begun

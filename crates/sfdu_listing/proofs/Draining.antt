@@ -6,13 +6,14 @@ use mathlib.Core.List.{List, [], _∷_, _++_}
 use mathlib.Core.Path.{_≡_, refl, ap, _∙_}
 use lib.ListN.{length, take, drop, length-drop}
 use lib.Seq.{take-length}
+use Rattle.text.specs.Text.{Puts}
 use Rattle.sfdu.specs.declared.Kind.{Kind}
 use Rattle.sfdu.specs.Nesting.{kindNumber}
-use Rattle.sfdu_listing.specs.Text.{line, lastLine, mostLast}
+use Rattle.sfdu_listing.specs.Text.{line, lastLine, lineRoom, mostLast}
 use Rattle.sfdu_listing.specs.Listing.{bufferSize}
-use Rattle.sfdu_listing.specs.Window.{Puts, Drains, foundIn, cutShort, mostText}
+use Rattle.sfdu_listing.specs.Window.{Drains, foundIn, cutShort, mostText}
 use Rattle.sfdu_listing.proofs.Judging.{whole-record, FoundRecord, FoundStop, found-record, found-stop, found-more}
-use Rattle.sfdu_listing.proofs.Laid.{nothing, then}
+use Rattle.text.proofs.Laid.{nothing, then}
 use Rattle.sfdu_listing.proofs.Streams.{Underway, begins, goes, stops}
 
 -- ---- what the window says of a place, from what `judge` says of the part that is lent to it
@@ -69,20 +70,20 @@ module _ (w : List ℕ) (place : ℕ) (last : Bool) (out₀ : List ℕ) (start :
 
   module _ (out : List ℕ) (at end : ℕ) (r : Round w place last out₀ start out at end) where
     -- room for a line, and for the last one
-    pub line-room : (k : Kind) (n m : ℕ) → FoundRecord (drop at w) k n m → end + 40 ≤ length out
+    pub line-room : (k : Kind) (n m : ℕ) → FoundRecord (drop at w) k n m → end + lineRoom ≤ length out
     line-room k n m f = let b = record-bounds w at k n m f in omega (arith, r .few, r .fits, r .room, r .same)
 
     pub last-room : end + mostLast ≤ length out
     last-room = omega (arith, r .few, r .fits, r .room, r .same, r .under .within)
 
     pub round-goes : (k : Kind) (n m : ℕ) (new : List ℕ) (q : ℕ) → FoundRecord (drop at w) k n m
-        → Puts out new end q (line (place + at) n k m) → q ≤ end + 40 → length new ≡ length out
+        → Puts out new end q (line (place + at) n (kindNumber k) m) → q ≤ end + 40 → length new ≡ length out
         → Round w place last out₀ start new (at + n) q
     round-goes k n m new q f p short same =
         let b = record-bounds w at k n m f in
         let l = line-room k n m f in
         record {
-          t = r .t ++ line (place + at) n k m;
+          t = r .t ++ line (place + at) n (kindNumber k) m;
           under = goes w place last at (r .t) (r .under) k n m f;
           puts = then (r .puts) p (omega (arith, r .same));
           same = same ∙ r .same;

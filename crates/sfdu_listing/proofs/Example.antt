@@ -9,9 +9,12 @@ use Rattle.sfdu_write.specs.Write.{recordBytes, headBytes, labelBytes, primaryB
 use Rattle.sfdu.specs.Read.{kindOf, hasKind, recordLength, labelLength, lengthInRange, blockType, blockLength, isCount, inStream}
 use Rattle.octets.specs.Octets.{bytesOf, numberAt, sameAt, all}
 use Rattle.refusals.specs.Judge.{judge}
+use Rattle.text.specs.Text.{placesIn, decimal, word}
 use Rattle.sfdu_headers.specs.Fields.{recordNumber}
-use Rattle.sfdu_listing.specs.Text.{placesIn, decimal, word, heading, line, numbersLine, lastLine}
-use Rattle.sfdu_listing.specs.Listing.{refusal, whole, stopWords, recordLine, linesIn, linesFrom, listing}
+use Rattle.sfdu_stream.specs.Walk.{wholeBy, refusalBy}
+use Rattle.sfdu_stream.specs.Listing.{entryOf, listingBy, walkBy}
+use Rattle.sfdu_listing.specs.Text.{heading, line, numbersLine, lastLine}
+use Rattle.sfdu_listing.specs.Listing.{linesOf, textOf, linesFrom, listing}
 
 -- the record number stands in bytes 22 to 25 of the secondary block, whose value starts at byte 4
 abbrev pub example : List ℕ
@@ -20,5 +23,5 @@ example = recordBytes Telemetry (record { major = 0; minor = 0; mission = 0; for
 -- 0 120 T 7
 -- 120 0 0
 pub listed : listing example ≡ heading ++ (48 ∷ 32 ∷ 49 ∷ 50 ∷ 48 ∷ 32 ∷ 84 ∷ 32 ∷ 55 ∷ 10 ∷ []) ++ (49 ∷ 50 ∷ 48 ∷ 32 ∷ 48 ∷ 32 ∷ 48 ∷ 10 ∷ [])
-unfolding recordBytes headBytes labelBytes primaryBlock block bytesOf kindOf hasKind recordLength labelLength lengthInRange blockType blockLength isCount inStream numberAt sameAt all judge recordNumber placesIn decimal word heading line numbersLine lastLine refusal whole stopWords recordLine linesIn linesFrom listing
+unfolding recordBytes headBytes labelBytes primaryBlock block bytesOf kindOf hasKind recordLength labelLength lengthInRange blockType blockLength isCount inStream numberAt sameAt all judge recordNumber placesIn decimal word heading line numbersLine lastLine wholeBy refusalBy entryOf listingBy walkBy linesOf textOf linesFrom listing
 listed = refl

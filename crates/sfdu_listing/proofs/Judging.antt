@@ -9,7 +9,7 @@ use mathlib.Core.Path.{_≡_, refl, sym, ap, _∙_}
 use borrow.Author.Tests.{ltb-true, ltb-false, lt-ltb, le-ltb, eq-eqb, ne-eqb, not-false}
 use lib.Dec.{eqb, ltb, lit<}
 use lib.ListN.{length}
-use Rattle.refusals.specs.Judge.{Rule, _when_, judge}
+use Rattle.refusals.specs.Judge.{Rule, _when_, judge, answered}
 use Rattle.refusals.proofs.Judged.{NoneHolds, AllGive, First, here, Outcome, none, first, outcome, none-judge, first-judge, first-gives, none-applies, none-hold, one-first}
 use Rattle.sfdu.specs.declared.Kind.{Kind}
 use Rattle.octets.specs.Octets.{numberAt}
@@ -34,7 +34,8 @@ use Rattle.sfdu.specs.Read.{
 use Rattle.sfdu.proofs.Placed.{placed}
 use Rattle.sfdu.proofs.Accepted.{in-range, record-length, same-kind}
 use Rattle.sfdu_headers.specs.Fields.{recordNumber}
-use Rattle.sfdu_listing.specs.Listing.{bufferSize, overRule, listRules, refusal, whole, orZero, stopWords}
+use Rattle.sfdu_stream.specs.Walk.{wholeBy, full, refusalBy}
+use Rattle.sfdu_listing.specs.Listing.{bufferSize, overRule, listRules, whole, orZero, stopWords}
 use Rattle.sfdu_listing.specs.Window.{givesCount, foundAt, cutShort, foundIn}
 use Rattle.sfdu_listing.proofs.Rows.{skip, pass, first-front, first-behind, Stands, before, there, behind, stands}
 
@@ -64,20 +65,34 @@ back-offsets s = (refl, (refl, (refl, (refl, (refl, (refl, (refl, (refl, tt)))))
 
 -- ---- by what is given
 
+-- What the first rule that applies gives, and nothing where none does.
+unfoldable pub refusal : List ℕ → List ℕ
+refusal s = answered (listRules s) []
+
 pub refusal-is : (s : List ℕ) {g : List ℕ} → First (listRules s) g → refusal s ≡ g
 unfolding refusal
 refusal-is s f = first-judge (λ given. given) [] f
 
 pub not-whole : (s : List ℕ) {g : List ℕ} → First (listRules s) g → whole s ≡ false
-unfolding whole
+unfolding whole wholeBy
 not-whole s f = first-judge (λ given. false) true f
+
+-- Why the listing stops, by what is given.
+pub stop-words : (place : ℕ) (s : List ℕ) {g : List ℕ} → First (listRules s) g
+    → stopWords place s ≡ cond (eqb (length s) 0) (0 ∷ 0 ∷ []) (orZero (inStream place g))
+unfolding stopWords refusalBy
+stop-words place s {g} f = rw (first-judge (inStream place) full f) (by (eqb (length s) 0))
+  where
+    by : (b : Bool) → orZero (cond b (0 ∷ 0 ∷ []) (inStream place g)) ≡ cond b (0 ∷ 0 ∷ []) (orZero (inStream place g))
+    by true = refl
+    by false = refl
 
 pub short-refused : (s : List ℕ) → length s < labelSize → First (listRules s) (1 ∷ length s ∷ [])
 short-refused s h = rw (lt-ltb (length s) labelSize h) here
 
 -- where s is not cut short, there is a label
 pub labelled : (s : List ℕ) → cutShort s ≡ false → labelSize ≤ length s
-unfolding cutShort isCount
+unfolding cutShort refusal isCount
 labelled s h = by (ltb (length s) labelSize) refl
   where
     by : (b : Bool) → ltb (length s) labelSize ≡ b → labelSize ≤ length s
@@ -99,7 +114,7 @@ pub record Whole (s : List ℕ) : Type 0 where
   pub most : recordLength s ≤ bufferSize
 
 pub whole-record : (s : List ℕ) → whole s ≡ true → Whole s
-unfolding whole
+unfolding whole wholeBy
 whole-record s e =
     let h = none-hold (listRules s) e in
     let d = headers-within s (not-false _ (h .1 .1 .1 .1 .0)) in
@@ -116,15 +131,16 @@ unfolding refusal
 none-refused s n = none-judge (λ given. given) (listRules s) [] n
 
 pub whole-refusal : (s : List ℕ) → whole s ≡ true → refusal s ≡ []
-unfolding whole
+unfolding whole wholeBy
 whole-refusal s e = none-refused s (none-hold (listRules s) e)
 
+-- Where a record is refused, the first rule that applies gives the refusal.
+pub refused-first : (s : List ℕ) → whole s ≡ false → First (listRules s) (refusal s)
+unfolding whole wholeBy
+refused-first s e = let f = one-first (listRules s) e in rw (refusal-is s (f .1)) (f .1)
+
 pub refused-something : (s : List ℕ) → whole s ≡ false → refusal s ≡ [] → ⊥
-unfolding whole
-refused-something s e r =
-    let f = one-first (listRules s) e in
-    let q : length (refusal s) ≡ length (f .0) = ap length (refusal-is s (f .1)) in
-    omega (arith, first-gives (λ w. 0 < length w) some (f .1), ap length r)
+refused-something s e r = omega (arith, first-gives (λ w. 0 < length w) some (refused-first s e), ap length r)
   where
     some : AllGive (λ w. 0 < length w) (listRules s)
     some = (
@@ -149,7 +165,7 @@ something-refused s h = by (whole s) refl
 
 -- Where s is cut short, it is shorter than the window: more of the stream can be read behind it.
 pub cut-room : (s : List ℕ) → cutShort s ≡ true → length s < bufferSize
-unfolding cutShort
+unfolding cutShort refusal
 cut-room s e = by (ltb (length s) labelSize) refl
   where
     counted : {g : List ℕ} → NoCount g → refusal s ≡ g → ⊥
@@ -247,13 +263,13 @@ over-label s n e = by (ltb 65516 n) refl
 
 -- The whole records are those that read one accepts, but for those over the window.
 pub whole-accepted : (s : List ℕ) → whole s ≡ true → accepts s ≡ true
-unfolding whole accepts
+unfolding whole wholeBy accepts
 whole-accepted s e =
     let h = none-hold (listRules s) e in
     none-applies (readRules s) (h .0, (h .1 .0, (h .1 .1 .0, (h .1 .1 .1 .0, (h .1 .1 .1 .1 .0, h .1 .1 .1 .1 .1 .1)))))
 
 pub accepted-whole : (s : List ℕ) → accepts s ≡ true → recordLength s ≤ bufferSize → whole s ≡ true
-unfolding whole accepts
+unfolding whole wholeBy accepts
 accepted-whole s a fits =
     let h = none-hold (readRules s) a in
     let o : ltb bufferSize (recordLength s) ≡ false = le-ltb bufferSize (recordLength s) fits in
@@ -273,42 +289,44 @@ module _ (place n m : ℕ) where
 
 module _ (place : ℕ) (s : List ℕ) (last : Bool) (g : List ℕ) (f : First (listRules s) g) where
   pub stops : givesCount g ≡ false → orZero (inStream place g) ≡ foundIn place s last
-  unfolding foundIn foundAt cutShort stopWords
+  unfolding foundIn foundAt cutShort refusal
   stops c =
       let r = refusal-is s f in
       let cut : cutShort s ≡ false = rw r c in
       let l = labelled s cut in
-      rw (r, c, not-whole s f, ne-eqb (length s) 0 (λ q. omega arith))
+      rw (r, c, not-whole s f, stop-words place s f, ne-eqb (length s) 0 (λ q. omega arith))
 
   pub ends : last ≡ true → length s ≢ 0 → orZero (inStream place g) ≡ foundIn place s last
-  unfolding foundIn foundAt cutShort stopWords
-  ends t l = rw (t, refusal-is s f, not-whole s f, ne-eqb (length s) 0 l) (by (givesCount g))
+  unfolding foundIn foundAt cutShort refusal
+  ends t l = rw (t, refusal-is s f, not-whole s f, stop-words place s f, ne-eqb (length s) 0 l) (by (givesCount g))
     where
       by : (b : Bool) → orZero (inStream place g) ≡ cond (b && false) [] (orZero (inStream place g))
       by true = refl
       by false = refl
 
   pub waits : last ≡ false → givesCount g ≡ true → [] ≡ foundIn place s last
-  unfolding foundIn cutShort
+  unfolding foundIn cutShort refusal
   waits t c = rw (t, refusal-is s f, c)
 
 pub at-end : (place : ℕ) (s : List ℕ) (last : Bool) → last ≡ true → length s ≡ 0 → 0 ∷ 0 ∷ [] ≡ foundIn place s last
-unfolding foundIn foundAt cutShort stopWords isCount
+unfolding foundIn foundAt cutShort refusal isCount
 at-end place s last t e =
     let f = short-refused s (omega arith) in
-    rw (t, refusal-is s f, not-whole s f, eq-eqb (length s) 0 e)
+    rw (t, refusal-is s f, not-whole s f, stop-words place s f, eq-eqb (length s) 0 e)
 
 pub records : (place : ℕ) (s : List ℕ) (last : Bool) (k : Kind) (n m : ℕ) → whole s ≡ true → k ≡ kindOf s → n ≡ recordLength s
     → m ≡ recordNumber k s → 0 ∷ kindNumber k ∷ n ∷ m ∷ [] ≡ foundIn place s last
-unfolding foundIn foundAt cutShort
+unfolding foundIn foundAt cutShort refusal
 records place s last k n m w p q r = rw (whole-refusal s w, w, r, p, q)
 
 -- ---- what the window's words say
 
 -- Where a listing stops it says two numbers.
 two-words : (place : ℕ) (s : List ℕ) → whole s ≡ false → length (stopWords place s) ≡ 2
-unfolding whole stopWords inStream
-two-words place s e = by (eqb (length s) 0)
+unfolding inStream
+two-words place s e =
+    let f = refused-first s e in
+    rw (stop-words place s f) (by (eqb (length s) 0) (refusal s) (first-gives Two all f))
   where
     Two : List ℕ → Type 0
     Two w = length (orZero (inStream place w)) ≡ 2
@@ -316,9 +334,9 @@ two-words place s e = by (eqb (length s) 0)
     all : AllGive Two (listRules s)
     all = (refl, (refl, (refl, (refl, (refl, (refl, (refl, (refl, (refl, (refl, (refl, (refl, (refl, (refl, (refl, tt)))))))))))))))
 
-    by : (b : Bool) → length (cond b (0 ∷ 0 ∷ []) (orZero (inStream place (refusal s)))) ≡ 2
-    by true = refl
-    by false = let f = one-first (listRules s) e in rw (refusal-is s (f .1)) (first-gives Two all (f .1))
+    by : (b : Bool) (g : List ℕ) → Two g → length (cond b (0 ∷ 0 ∷ []) (orZero (inStream place g))) ≡ 2
+    by true g h = refl
+    by false g h = h
 
 pub record FoundRecord (s : List ℕ) (k : Kind) (n m : ℕ) : Type 0 where
   pub is-whole : whole s ≡ true

@@ -1,9 +1,8 @@
-pub mod Decimals
-pub mod Laid
 pub mod Rows
 pub mod Judging
 pub mod Stable
 pub mod Streams
+pub mod OneWalk
 pub mod Draining
 pub mod Pieces
 pub mod Promised

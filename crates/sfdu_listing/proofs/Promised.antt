@@ -1,17 +1,15 @@
 -- The promise of a run. Assumes nothing.
-use Prim.Native.Nat.{ℕ, _+_, _≤_}
+use Prim.Native.Nat.{ℕ}
 use native.Mathlib.Omega.{arith}
 use mathlib.Core.Bool.{Bool, true, false}
 use mathlib.Core.List.{List, [], _++_, append-assoc, append-nil}
 use mathlib.Core.Path.{_≡_, refl, sym, ap, _∙_}
-use borrow.Author.Tests.{ne-eqb, leb-true, leb-false}
-use lib.Dec.{leb}
-use lib.ListN.{length, take, drop, length-append, drop-of-length-le}
-use lib.Seq.{take-at, take-all, length-take-le}
-use Rattle.octets.specs.Octets.{put}
+use borrow.Author.Tests.{ne-eqb}
+use lib.ListN.{length, take}
+use Rattle.text.proofs.Laid.{grown}
 use Rattle.sfdu_listing.specs.declared.State.{State}
 use Rattle.sfdu_listing.specs.Listing.{linesFrom, listing}
-use Rattle.sfdu_listing.specs.Window.{Puts, unless, GoesOn}
+use Rattle.sfdu_listing.specs.Window.{unless, GoesOn}
 use Rattle.sfdu_listing.specs.Run.{Run, begins, lists, writes, Promise}
 
 -- What holds wherever a run stands.
@@ -19,21 +17,6 @@ record Kept (read : List ℕ) (ended : Bool) (written : List ℕ) (s : State) (h
   pub going : s .done ≡ false → ended ≡ false
   pub says : (more : List ℕ) → GoesOn ended more
       → listing (read ++ more) ≡ written ++ (text ++ unless (s .done) (linesFrom (s .place) (held ++ more)))
-
--- the text that is laid out grows by what is put behind it
-pub grown : (old new : List ℕ) (at r : ℕ) (t : List ℕ) → Puts old new at r t → take r new ≡ take at old ++ t
-unfolding put
-grown old new at r t p = by (leb at (length old)) refl
-  where
-    by : (b : Bool) → leb at (length old) ≡ b → take r new ≡ take at old ++ t
-    by true e =
-        let l = length-take-le at old (leb-true at (length old) e) in
-        rw (p .bytes, take-at (take at old ++ t) (drop (at + length t) old) r (length-append (take at old) t ∙ omega (arith, l, p .end)))
-    by false e =
-        let h = leb-false at (length old) e in
-        let none : drop (at + length t) old ≡ [] = drop-of-length-le old {i = at + length t} (omega arith) in
-        let l : length (take at old ++ t) ≤ r = rw (length-append, take-all at old (omega arith)) (omega (arith, p .end)) in
-        rw (p .bytes, none, append-nil, take-all r (take at old ++ t) l)
 
 never : {A : Type 0} (b : Bool) → b ≡ true → b ≡ false → A
 never b p q = let z : _≡_ {A = ℕ} 0 1 = cc in absurd (omega arith)
@@ -52,7 +35,7 @@ kept (lists {read} {ended} {written} {s} {held} {text} run going piece w out w�
           ap (linesFrom (s .place)) (sym (append-assoc held piece more) ∙ ap (λ (x : List ℕ). x ++ more) (sym behind)) ∙ listed .says more on in
           let laid′ : text ++ (listed .t ++ rest) ≡ take (r .text) out′ ++ rest =
           sym (append-assoc text (listed .t) rest)
-          ∙ ap (λ (x : List ℕ). x ++ rest) (ap (λ (x : List ℕ). x ++ listed .t) (sym laid) ∙ sym (grown out out′ (s .text) (r .text) (listed .t) (listed .puts))) in
+          ∙ ap (λ (x : List ℕ). x ++ rest) (ap (λ (x : List ℕ). x ++ listed .t) (sym laid) ∙ sym (grown (listed .puts))) in
           ap listing (append-assoc read piece more)
           ∙ k .says (piece ++ more) (λ e. never ended e (k .going going))
           ∙ ap (λ (x : List ℕ). written ++ (text ++ x)) (ap (λ (b : Bool). unless b (linesFrom (s .place) (held ++ (piece ++ more)))) going ∙ before)

@@ -19,10 +19,11 @@ use Rattle.sfdu.specs.Nesting.{authority, control, authorityAt, controlAt, kind
 use Rattle.sfdu.specs.Read.{hasKind, kindOf, labelLength, recordLength, lengthInRange, blockType, blockLength, cutRule, isCount}
 use Rattle.sfdu.proofs.Placed.{placed}
 use Rattle.sfdu_headers.specs.Fields.{recordNumber}
-use Rattle.sfdu_listing.specs.Listing.{overRule, refusal, whole, stopWords, recordLine}
+use Rattle.sfdu_stream.specs.Listing.{entryOf}
+use Rattle.sfdu_listing.specs.Listing.{overRule, listRules, whole, stopWords}
 use Rattle.sfdu_listing.specs.Window.{givesCount, cutShort}
 use Rattle.sfdu_listing.proofs.Rows.{pass, first-behind, agree}
-use Rattle.sfdu_listing.proofs.Judging.{front, back, refusal-is, labelled, headers-within, whole-record, whole-refusal, nothing-whole, something-refused, refused-something}
+use Rattle.sfdu_listing.proofs.Judging.{front, back, refusal, refusal-is, stop-words, refused-first, labelled, headers-within, whole-record, whole-refusal, nothing-whole, something-refused, refused-something}
 
 -- ---- bytes of the first of two lists
 
@@ -125,7 +126,7 @@ module _ (s m : List ℕ) where
   -- where none of them applies, and 6 does not either, nothing changes behind
   back-same : (h : labelSize ≤ length s) → cutShort s ≡ false → NoneHolds (first-rules s)
       → answered (cutRule (s ++ m) ∷ back (kindOf s) (s ++ m)) [] ≡ answered (cutRule s ∷ back (kindOf s) s) []
-  unfolding judge cutShort isCount
+  unfolding judge cutShort refusal isCount
   back-same h uncut n = by (ltb (length s) (recordLength s)) refl
     where
       six : ltb (length s) (recordLength s) ≡ true → refusal s ≡ 6 ∷ length s ∷ []
@@ -157,14 +158,14 @@ module _ (s m : List ℕ) where
   -- ---- a whole record, and a stop
 
   pub whole-stays : whole s ≡ true → whole (s ++ m) ≡ true
-  unfolding cutShort
+  unfolding cutShort refusal
   whole-stays e =
       let r = whole-refusal s e in
       let c : cutShort s ≡ false = rw r in
       nothing-whole (s ++ m) (refusal-stays c ∙ r)
 
-  pub record-same : whole s ≡ true → (recordLength (s ++ m) ≡ recordLength s) × ((place : ℕ) → recordLine place (s ++ m) ≡ recordLine place s)
-  unfolding recordLine
+  pub record-same : whole s ≡ true → (recordLength (s ++ m) ≡ recordLength s) × ((place : ℕ) → entryOf place (s ++ m) ≡ entryOf place s)
+  unfolding entryOf
   record-same e =
       let r = whole-record s e in
       let h : labelSize ≤ length s = omega arith in
@@ -172,10 +173,10 @@ module _ (s m : List ℕ) where
 
   pub stop-stays : whole s ≡ false → cutShort s ≡ false
       → (whole (s ++ m) ≡ false) × ((place : ℕ) → stopWords place (s ++ m) ≡ stopWords place s)
-  unfolding stopWords
   stop-stays e c =
       let h = labelled s c in
-      let r = refusal-stays c in (
-        something-refused (s ++ m) (λ q. refused-something s e (sym r ∙ q)),
-        λ place. rw (r, ne-eqb (length s) 0 (λ q. omega arith), ne-eqb (length (s ++ m)) 0 (λ q. omega (arith, longer))),
+      let r = refusal-stays c in
+      let none = something-refused (s ++ m) (λ q. refused-something s e (sym r ∙ q)) in (
+        none,
+        λ place. rw (stop-words place s (refused-first s e), stop-words place (s ++ m) (refused-first (s ++ m) none), r, ne-eqb (length s) 0 (λ q. omega arith), ne-eqb (length (s ++ m)) 0 (λ q. omega (arith, longer))),
       )

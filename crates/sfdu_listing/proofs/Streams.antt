@@ -8,45 +8,35 @@ use mathlib.Core.Path.{_≡_, refl, sym, ap, _∙_}
 use lib.ListN.{length, drop, length-drop}
 use lib.Seq.{drop-drop, drop-append-le}
 use Rattle.sfdu.specs.declared.Kind.{Kind}
+use Rattle.sfdu.specs.Nesting.{kindNumber}
 use Rattle.sfdu.specs.Read.{recordLength}
+use Rattle.sfdu_stream.specs.Listing.{entryOf}
+use Rattle.sfdu_stream.proofs.Listings.{Bounded, goes-by, stops-by}
 use Rattle.sfdu_listing.specs.Text.{line, lastLine}
-use Rattle.sfdu_listing.specs.Listing.{whole, stopWords, recordLine, linesIn, linesFrom}
+use Rattle.sfdu_listing.specs.Listing.{listRules, whole, stopWords, lineOf, linesOf, textOf, linesFrom}
 use Rattle.sfdu_listing.specs.Window.{cutShort, GoesOn}
-use Rattle.sfdu_listing.proofs.Judging.{Whole, whole-record, FoundRecord, FoundStop}
+use Rattle.sfdu_listing.proofs.Judging.{whole-record, FoundRecord, FoundStop}
 use Rattle.sfdu_listing.proofs.Stable.{whole-stays, record-same, stop-stays}
 
 -- ---- the whole stream
 
--- a bound over the count of the bytes changes nothing
-enough : (f g place : ℕ) (s : List ℕ) → length s < f → length s < g → linesIn f place s ≡ linesIn g place s
-unfolding linesIn
-enough zero g place s hf hg = absurd (omega arith)
-enough (suc f) zero place s hf hg = absurd (omega arith)
-enough (suc f) (suc g) place s hf hg =
-    by (whole s) refl (λ (r : Whole s). enough f g (place + recordLength s) (drop (recordLength s) s) (simp length-drop (omega arith)) (simp length-drop (omega arith)))
-  where
-    by : (b : Bool) → whole s ≡ b
-        → (Whole s → linesIn f (place + recordLength s) (drop (recordLength s) s) ≡ linesIn g (place + recordLength s) (drop (recordLength s) s))
-        → cond b (recordLine place s ++ linesIn f (place + recordLength s) (drop (recordLength s) s)) (lastLine place (stopWords place s))
-        ≡ cond b (recordLine place s ++ linesIn g (place + recordLength s) (drop (recordLength s) s)) (lastLine place (stopWords place s))
-    by true e less = ap (λ (t : List ℕ). recordLine place s ++ t) (less (whole-record s e))
-    by false e less = refl
+pub list-bounded : Bounded listRules
+unfolding whole
+list-bounded s e = let r = whole-record s e in (omega arith, r .within)
 
 pub lines-whole : (place : ℕ) (s : List ℕ) → whole s ≡ true
-    → linesFrom place s ≡ recordLine place s ++ linesFrom (place + recordLength s) (drop (recordLength s) s)
-unfolding linesFrom linesIn
-lines-whole place s e =
-    let r = whole-record s e in
-    rw e (ap (λ (t : List ℕ). recordLine place s ++ t) (enough (length s) (suc (length (drop (recordLength s) s))) (place + recordLength s) (drop (recordLength s) s) (simp length-drop (omega arith)) (omega arith)))
+    → linesFrom place s ≡ lineOf (entryOf place s) ++ linesFrom (place + recordLength s) (drop (recordLength s) s)
+unfolding whole linesFrom textOf linesOf
+lines-whole place s e = ap textOf (goes-by listRules list-bounded place s e) ∙ append-assoc (lineOf (entryOf place s)) _ _
 
 pub lines-stop : (place : ℕ) (s : List ℕ) → whole s ≡ false → linesFrom place s ≡ lastLine place (stopWords place s)
-unfolding linesFrom linesIn
-lines-stop place s e = rw e
+unfolding whole linesFrom textOf linesOf stopWords
+lines-stop place s e = ap textOf (stops-by listRules list-bounded place s e)
 
 -- ---- a window onto it: what stands at the start of s, however the stream goes on
 
 window-whole : (place : ℕ) (s more : List ℕ) → whole s ≡ true
-    → linesFrom place (s ++ more) ≡ recordLine place s ++ linesFrom (place + recordLength s) (drop (recordLength s) s ++ more)
+    → linesFrom place (s ++ more) ≡ lineOf (entryOf place s) ++ linesFrom (place + recordLength s) (drop (recordLength s) s ++ more)
 window-whole place s more e =
     let r = whole-record s e in
     let same = record-same s more e in
@@ -73,8 +63,8 @@ module _ (w : List ℕ) (place : ℕ) (last : Bool) where
   begins = record { within = omega arith; says = λ more on. rw (add-zero place) }
 
   module _ (at : ℕ) (t : List ℕ) (u : Underway w place last at t) where
-    pub goes : (k : Kind) (n m : ℕ) → FoundRecord (drop at w) k n m → Underway w place last (at + n) (t ++ line (place + at) n k m)
-    unfolding recordLine
+    pub goes : (k : Kind) (n m : ℕ) → FoundRecord (drop at w) k n m → Underway w place last (at + n) (t ++ line (place + at) n (kindNumber k) m)
+    unfolding entryOf
     goes k n m f =
         let r = whole-record (drop at w) (f .is-whole) in
         let l = length-drop at w in

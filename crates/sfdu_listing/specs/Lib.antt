@@ -1,4 +1,5 @@
 pub mod Text
 pub mod Listing
+pub mod OneWalk
 pub mod Window
 pub mod Run

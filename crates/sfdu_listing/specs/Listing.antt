@@ -1,12 +1,13 @@
 -- The listing of a whole stream. Document 01, "The program", "Walk" and refusal 17; document 02, Req 05. Assumes nothing.
-use Prim.Native.Nat.{ℕ, zero, suc, _+_}
-use mathlib.Core.Bool.{Bool, cond}
+use Prim.Native.Nat.{ℕ}
+use mathlib.Core.Bool.{Bool}
 use mathlib.Core.List.{List, [], _∷_, _++_}
-use lib.ListN.{length, drop}
-use lib.Dec.{eqb, ltb}
-use Rattle.refusals.specs.Judge.{Rule, _when_, answered, noneApplies}
-use Rattle.sfdu.specs.Read.{kindOf, recordLength, labelRules, rangeRule, cutRule, headerRules, dataRules, inStream}
-use Rattle.sfdu_headers.specs.Fields.{recordNumber}
+use lib.Dec.{ltb}
+use Rattle.refusals.specs.Judge.{Rule, _when_}
+use Rattle.sfdu.specs.Read.{kindOf, recordLength, labelRules, rangeRule, cutRule, headerRules, dataRules}
+use Rattle.sfdu_stream.specs.declared.Entry.{Entry}
+use Rattle.sfdu_stream.specs.Walk.{wholeBy, refusalBy}
+use Rattle.sfdu_stream.specs.Listing.{Listing as Walk, walkBy}
 use Rattle.sfdu_listing.specs.Text.{heading, line, lastLine}
 
 -- The bytes of the program's buffer.
@@ -24,13 +25,9 @@ abbrev pub listRules : List ℕ → List (Rule (List ℕ))
 listRules s =
     labelRules s ++ (rangeRule (kindOf s) s ∷ overRule s ∷ cutRule s ∷ []) ++ headerRules (kindOf s) s ++ dataRules (kindOf s) s
 
--- What the first that applies gives, and nothing where none does.
-unfoldable pub refusal : List ℕ → List ℕ
-refusal s = answered (listRules s) []
-
 -- A whole record stands there: none of them applies.
 unfoldable pub whole : List ℕ → Bool
-whole s = noneApplies (listRules s)
+whole s = wholeBy listRules s
 
 -- Why the listing stops there: 0 at the end, else the refusal of the record that is not passed; and the number that goes with it, 0
 -- where none does.
@@ -40,23 +37,25 @@ orZero (n ∷ []) = n ∷ 0 ∷ []
 orZero (n ∷ m ∷ rest) = n ∷ m ∷ rest
 
 unfoldable pub stopWords : (place : ℕ) → List ℕ → List ℕ
-stopWords place s = cond (eqb (length s) 0) (0 ∷ 0 ∷ []) (orZero (inStream place (refusal s)))
+stopWords place s = orZero (refusalBy listRules place s)
 
 -- ---- the text
 
-unfoldable pub recordLine : (place : ℕ) → List ℕ → List ℕ
-recordLine place s = line place (recordLength s) (kindOf s) (recordNumber (kindOf s) s)
+-- A record's line.
+abbrev pub lineOf : Entry → List ℕ
+lineOf e = line (e .place) (e .length) (e .kind) (e .number)
 
--- A line for each whole record from a place on, and the last line: the stop place and why there. s is what stands there. `most`
--- bounds the records.
-unfoldable pub linesIn : (most : ℕ) → (place : ℕ) → List ℕ → List ℕ
-linesIn zero place s = []
-linesIn (suc most) place s =
-    cond (whole s) (recordLine place s ++ linesIn most (place + recordLength s) (drop (recordLength s) s)) (lastLine place (stopWords place s))
+unfoldable pub linesOf : List Entry → List ℕ
+linesOf [] = []
+linesOf (e ∷ es) = lineOf e ++ linesOf es
 
--- There are fewer records than bytes, and a last line.
+-- A line for each record of a walk, and the last line: the stop place and why there.
+unfoldable pub textOf : Walk → List ℕ
+textOf w = linesOf (w .entries) ++ lastLine (w .stop) (orZero (w .why))
+
+-- The walk of a stream from a place on is the library's, by the program's rules. s is what stands there.
 unfoldable pub linesFrom : (place : ℕ) → List ℕ → List ℕ
-linesFrom place s = linesIn (suc (length s)) place s
+linesFrom place s = textOf (walkBy listRules place s)
 
 -- What the program writes for a stream.
 unfoldable pub listing : List ℕ → List ℕ

@@ -1,47 +1,33 @@
 -- The lines of a listing, as document 01's example of the program has them; document 02, Req 05. Bytes are ASCII. Assumes nothing.
-use Prim.Native.Nat.{ℕ, zero, suc, _/_}
+use Prim.Native.Nat.{ℕ}
 use mathlib.Core.Bool.{cond}
 use mathlib.Core.List.{List, [], _∷_, _++_}
-use lib.Dec.{ltb}
-use Rattle.io.specs.Digits.{digits}
-use Rattle.sfdu.specs.declared.Kind.{Kind}
-use Rattle.sfdu.specs.declared.Kind.the-variants.{Telemetry, Rsr}
+use lib.Dec.{eqb}
+use Rattle.text.specs.Text.{space, lineEnd, word}
+use Rattle.sfdu.specs.declared.Kind.the-variants.{Telemetry}
+use Rattle.sfdu.specs.Nesting.{kindNumber}
 
--- The fewest decimal digits that hold n, but one at least. `most` bounds the search; n itself is enough.
-unfoldable pub placesIn : (most : ℕ) → ℕ → ℕ
-placesIn zero n = 1
-placesIn (suc most) n = cond (ltb n 10) 1 (suc (placesIn most (n / 10)))
-
--- A number in decimal, with no zeros in front.
-unfoldable pub decimal : ℕ → List ℕ
-decimal n = digits 10 (placesIn n n) n
-
-abbrev pub space : ℕ
-space = 32
-
-abbrev pub lineEnd : ℕ
-lineEnd = 10
-
--- The letters T, of telemetry, and R.
-abbrev pub letter : Kind → ℕ
-letter Telemetry = 84
-letter Rsr = 82
-
--- A number and the byte that ends it.
-unfoldable pub word : ℕ → (after : ℕ) → List ℕ
-word n after = decimal n ++ (after ∷ [])
+-- The letter of a kind by its number: T for telemetry, and R.
+abbrev pub letter : (kind : ℕ) → ℕ
+letter kind = cond (eqb kind (kindNumber Telemetry)) 84 82
 
 -- place length kind number
 unfoldable pub heading : List ℕ
-heading = 112 ∷ 108 ∷ 97 ∷ 99 ∷ 101 ∷ space ∷ 108 ∷ 101 ∷ 110 ∷ 103 ∷ 116 ∷ 104 ∷ space ∷ 107 ∷ 105 ∷ 110 ∷ 100 ∷ space ∷ 110 ∷ 117 ∷ 109 ∷ 98 ∷ 101 ∷ 114 ∷ lineEnd ∷ []
+heading =
+    (112 ∷ 108 ∷ 97 ∷ 99 ∷ 101 ∷ space ∷ []) ++ (108 ∷ 101 ∷ 110 ∷ 103 ∷ 116 ∷ 104 ∷ space ∷ [])
+    ++ (107 ∷ 105 ∷ 110 ∷ 100 ∷ space ∷ []) ++ (110 ∷ 117 ∷ 109 ∷ 98 ∷ 101 ∷ 114 ∷ lineEnd ∷ [])
 
 -- 0 120 T 7
-unfoldable pub line : (place size : ℕ) → Kind → (number : ℕ) → List ℕ
+unfoldable pub line : (place size kind number : ℕ) → List ℕ
 line place size kind number = word place space ++ word size space ++ (letter kind ∷ space ∷ []) ++ word number lineEnd
 
 -- Its most bytes: the place has 20 digits at most, the length 5, and the record number 10.
 abbrev pub mostLine : ℕ
 mostLine = 40
+
+-- The room that it is put in: the record number, at most 29 bytes on, as any number of 64 bits.
+abbrev pub lineRoom : ℕ
+lineRoom = 50
 
 -- Numbers, a space between them.
 unfoldable pub numbersLine : List ℕ → List ℕ

@@ -7,6 +7,8 @@ use mathlib.Core.Path.{_≡_}
 use lib.ListN.{length, take, drop}
 use lib.Dec.{eqb}
 use Rattle.octets.specs.Octets.{part, put}
+use Rattle.refusals.specs.Judge.{answered}
+use Rattle.text.specs.Text.{Puts}
 use Rattle.sfdu.specs.Nesting.{kindNumber}
 use Rattle.sfdu.specs.Read.{kindOf, recordLength, isCount}
 use Rattle.sfdu_headers.specs.Fields.{recordNumber}
@@ -15,7 +17,7 @@ use Rattle.sfdu_listing.specs.declared.Found.the-variants.{Record, More,
 use Rattle.sfdu_listing.specs.declared.Drained.{Drained}
 use Rattle.sfdu_listing.specs.declared.State.{State}
 use Rattle.sfdu_listing.specs.Text.{mostLast}
-use Rattle.sfdu_listing.specs.Listing.{bufferSize, refusal, whole, stopWords, linesFrom}
+use Rattle.sfdu_listing.specs.Listing.{bufferSize, listRules, whole, stopWords, linesFrom}
 
 -- ---- the record at the start of s, what the window holds from a place on
 
@@ -37,17 +39,12 @@ givesCount [] = false
 givesCount (n ∷ rest) = isCount n
 
 unfoldable pub cutShort : List ℕ → Bool
-cutShort s = givesCount (refusal s)
+cutShort s = givesCount (answered (listRules s) [])
 
 unfoldable pub foundIn : (place : ℕ) → List ℕ → (last : Bool) → List ℕ
 foundIn place s last = cond (cutShort s && not last) [] (foundAt place s)
 
 -- ---- text laid out
-
--- `new` is `old` with the text t put in from `at` on, which ends before r.
-pub record Puts (old new : List ℕ) (at r : ℕ) (t : List ℕ) : Type 0 where
-  pub bytes : new ≡ put old at t
-  pub end : r ≡ at + length t
 
 -- The text that is still to come, unless the listing is done.
 abbrev pub unless : Bool → List ℕ → List ℕ

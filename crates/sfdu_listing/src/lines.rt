@@ -3,23 +3,24 @@ ghost use mathlib.Core.Path.{_≡_};
 ghost use Prim.Native.Nat.{_+_, _≤_, _<_};
 ghost use lib.ListN.{length};
 ghost use mathlib.Core.List.{[], _∷_};
+ghost use Rattle.sfdu.specs.Nesting.{kindNumber};
 ghost use Rattle.sfdu_listing.specs.Listing.{bufferSize};
-ghost use Rattle.sfdu_listing.specs.Text.{space, letter, word, heading, line, lastLine, mostLine, mostLast};
-ghost use Rattle.sfdu_listing.specs.Window.{Puts};
+ghost use Rattle.sfdu_listing.specs.Text.{letter, heading, line, lastLine, mostLine, lineRoom, mostLast};
+ghost use Rattle.text.specs.Text.{space, Puts};
 ghost use Rattle.sfdu_listing.specs.Run.{begun};
 use crate::State;
 use sfdu::Kind;
-
-const SPACE: u8 = b' ';
-
-const LINE_END: u8 = b'\n';
+use text::LINE_END;
+use text::SPACE;
+use text::put_text;
+use text::put_word;
 
 // The state of a listing of which nothing has been read; the first line is laid out.
 pub fn begin(out: &mut [u8]) -> State
     requires { ⌜ length heading ≤ length (now out) ⌝ }
     ensures { λ r. ⌜ (r ≡ begun) × Puts (now (out .entry)) (now (out .exit)) 0 (r .text) heading ⌝ }
 {
-    let end = copy_at(b"place length kind number\n", out, 0);
+    let end = put_text(out, 0, b"place length kind number\n");
     State {
         place: 0,
         have: 0,
@@ -28,41 +29,13 @@ pub fn begin(out: &mut [u8]) -> State
     }
 }
 
-fn copy_at(source: &[u8], out: &mut [u8], at: usize) -> usize
-    requires { ⌜ at + length (now source) ≤ length (now out) ⌝ }
-    ensures { λ r. ⌜ Puts (now (out .entry)) (now (out .exit)) at r (now (source .entry)) ⌝ }
-{
-    bytes::copy(source, &mut out[at..]);
-    at + source.len()
-}
-
-// A number in decimal and the byte that ends it.
-fn put_word(out: &mut [u8], at: usize, n: u64, after: u8) -> usize
-    requires { ⌜ at + length (word n after) ≤ length (now out) ⌝ }
-    ensures { λ r. ⌜ Puts (now (out .entry)) (now (out .exit)) at r (word n after) ⌝ }
-{
-    let mut digits = [0u8; 20];
-    let k = io::decimal(n, &mut digits);
-    let end = copy_at(&digits[..k], out, at);
-    out[end] = after;
-    end + 1
-}
-
 fn put_letter(out: &mut [u8], at: usize, kind: Kind) -> usize
     requires { ⌜ at + 2 ≤ length (now out) ⌝ }
-    ensures { λ r. ⌜ Puts (now (out .entry)) (now (out .exit)) at r (letter kind ∷ space ∷ []) ⌝ }
-{
-    out[at] = letter_of(kind);
-    out[at + 1] = SPACE;
-    at + 2
-}
-
-fn letter_of(kind: Kind) -> u8
-    ensures { λ r. ⌜ r ≡ letter kind ⌝ }
+    ensures { λ r. ⌜ Puts (now (out .entry)) (now (out .exit)) at r (letter (kindNumber kind) ∷ space ∷ []) ⌝ }
 {
     match kind {
-        Kind::Telemetry => b'T',
-        Kind::Rsr => b'R',
+        Kind::Telemetry => put_text(out, at, b"T "),
+        Kind::Rsr => put_text(out, at, b"R "),
     }
 }
 
@@ -75,8 +48,8 @@ pub fn put_line(
     kind: Kind,
     number: u32,
 ) -> usize
-    requires { ⌜ (at + mostLine ≤ length (now out)) × (size ≤ bufferSize) ⌝ }
-    ensures { λ r. ⌜ Puts (now (out .entry)) (now (out .exit)) at r (line place size kind number) ⌝ }
+    requires { ⌜ (at + lineRoom ≤ length (now out)) × (size ≤ bufferSize) ⌝ }
+    ensures { λ r. ⌜ Puts (now (out .entry)) (now (out .exit)) at r (line place size (kindNumber kind) number) ⌝ }
     ensures { λ r. ⌜ r ≤ at + mostLine ⌝ }
 {
     let a = put_word(out, at, place, SPACE);

@@ -10,12 +10,12 @@ use lib.ListN.{length, drop}
 use Rattle.sfdu.specs.declared.Kind.{Kind}
 use Rattle.sfdu.specs.declared.Kind.the-variants.{Telemetry, Rsr}
 use Rattle.sfdu.specs.Nesting.{kindNumber, dataValueAt}
-use Rattle.sfdu.specs.Read.{kindOf, recordLength}
+use Rattle.sfdu.specs.Read.{kindOf, recordLength, accepts}
 use Rattle.sfdu.proofs.Placed.{placed}
 use Rattle.sfdu.proofs.Accepted.{accepted, same-kind}
 use Rattle.sfdu_stream.specs.declared.Entry.{Entry}
-use Rattle.sfdu_stream.specs.Walk.{whole, past}
-use Rattle.sfdu_stream.specs.Listing.{Listing, entryAt, prepend, listing, walkFrom, walked, answer, Columns, shortest, listNumbers, listEntries}
+use Rattle.sfdu_stream.specs.Walk.{whole, past, wholeBy}
+use Rattle.sfdu_stream.specs.Listing.{Listing, entryAt, prepend, listing, walkFrom, walked, answer, Columns, shortest, listNumbers, listEntries, entryOf}
 use Rattle.sfdu_stream.specs.Laws.{BackToBack, StopsAtEnd, StopsRefused}
 use Rattle.sfdu_stream.specs.Room.{mostRecords, stopNumber, Enough, EveryStream, AllRsr, RsrStreams}
 use Rattle.sfdu_stream.proofs.Places.{whole-record}
@@ -30,7 +30,7 @@ AllLong m (e ∷ es) = (m ≤ e .length) × AllLong m es
 
 -- A whole record is not shorter than its kind's headers.
 record-long : (s : List ℕ) (at : ℕ) → whole s at ≡ true → dataValueAt (kindOf (drop at s)) ≤ recordLength (drop at s)
-unfolding whole
+unfolding whole wholeBy accepts
 record-long s at e =
     let a = accepted (drop at s) e in
     let p = placed (kindOf (drop at s)) in
@@ -41,7 +41,7 @@ least Telemetry = omega arith
 least Rsr = omega arith
 
 every-long : (s : List ℕ) (from : ℕ) (es : List Entry) (to : ℕ) → BackToBack s from es to → AllLong (dataValueAt Telemetry) es
-unfolding entryAt
+unfolding entryAt entryOf
 every-long s from [] to b = tt
 every-long s from (e ∷ es) to b =
     let long = record-long s from (b .0) in
@@ -49,7 +49,7 @@ every-long s from (e ∷ es) to b =
     (omega (arith, long, size, least (kindOf (drop from s))), every-long s (past s from) es to (b .2))
 
 rsr-long : (s : List ℕ) (from : ℕ) (es : List Entry) (to : ℕ) → BackToBack s from es to → AllRsr es → AllLong (dataValueAt Rsr) es
-unfolding entryAt
+unfolding entryAt entryOf
 rsr-long s from [] to b r = tt
 rsr-long s from (e ∷ es) to b r =
     let long = record-long s from (b .0) in
@@ -60,7 +60,7 @@ rsr-long s from (e ∷ es) to b r =
 -- ---- so many fit
 
 held : (m : ℕ) (s : List ℕ) (from : ℕ) (es : List Entry) (to : ℕ) → AllLong m es → BackToBack s from es to → from + length es * m ≤ to
-unfolding entryAt past
+unfolding entryAt entryOf past
 held m s from [] to long b = omega (arith, b)
 held m s from (e ∷ es) to long b =
     let size = ap (λ (x : Entry). x .length) (b .1) in
@@ -74,7 +74,7 @@ no-more m s h long =
 -- ---- a list of so many entries is the walk
 
 stands : (s : List ℕ) (at m : ℕ) → m ≤ entryAt s at .length → at + m ≤ past s at
-unfolding entryAt past
+unfolding entryAt entryOf past
 stands s at m h = omega (arith, h)
 
 -- What is longer than q records of m bytes by less than one is shorter than any more records.
@@ -106,7 +106,7 @@ walk-on m (suc free) s at long h = by (whole s at) refl (walk-on m free s (past 
 
 -- A walk gives no 16.
 walk-never-16 : (s : List ℕ) → stopNumber (walked s) ≢ 16
-unfolding walked whole
+unfolding walked whole wholeBy accepts
 walk-never-16 s e = by (walk-right s .stops)
   where
     l : Listing

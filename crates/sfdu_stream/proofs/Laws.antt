@@ -12,22 +12,22 @@ use borrow.Author.Tests.{leb-true, leb-false}
 use Rattle.sfdu.specs.Read.{inStream, accepts, readOne}
 use Rattle.sfdu.proofs.Accepted.{Reads, accepted-one, refused-one, reads}
 use Rattle.sfdu_stream.specs.declared.Entry.{Entry}
-use Rattle.sfdu_stream.specs.Walk.{whole, past, full, refusal}
-use Rattle.sfdu_stream.specs.Listing.{Listing, entryAt, stopped, prepend, listing, walkFrom, walked, answer, fills, shortest, fillsColumns, listNumbers, listEntries}
+use Rattle.sfdu_stream.specs.Walk.{whole, past, full, refusal, wholeBy}
+use Rattle.sfdu_stream.specs.Listing.{Listing, entryAt, stopped, prepend, listing, walkBy, walkFrom, walked, answer, fills, shortest, fillsColumns, listNumbers, listEntries}
 use Rattle.sfdu_stream.specs.Laws.{BackToBack, StopsAtEnd, StopsRefused, Full, EveryWalk, EmptyWalk, EveryList, columnsOf, SameInBothLayouts}
-use Rattle.sfdu_stream.proofs.Places.{whole-record, none-at-end, refused-by}
+use Rattle.sfdu_stream.proofs.Places.{whole-record, none-at-end, refusal-is, refused-by}
 use Rattle.sfdu_stream.proofs.Listings.{lists, lists-none, lists-full, stops as walk-stops}
 
 -- ---- where no record is found
 
 stops-there : (s : List ℕ) (at : ℕ) → at ≤ length s → whole s at ≡ false
     → StopsAtEnd s (stopped at (refusal s at)) ⊎ StopsRefused s (stopped at (refusal s at))
-unfolding whole refusal
+unfolding whole wholeBy accepts
 stops-there s at h e = by (leb (length s) at) refl
   where
     by : (b : Bool) → leb (length s) at ≡ b → StopsAtEnd s (stopped at (refusal s at)) ⊎ StopsRefused s (stopped at (refusal s at))
-    by true t = let l = leb-true (length s) at t in inl (omega arith, rw t)
-    by false t = inr (leb-false (length s) at t, e, rw t (refused-by (inStream at) (drop at s) full e))
+    by true t = let l = leb-true (length s) at t in inl (omega arith, refusal-is s at ∙ rw t)
+    by false t = inr (leb-false (length s) at t, e, refusal-is s at ∙ rw t (refused-by (inStream at) (drop at s) full e))
 
 -- ---- every listing
 
@@ -85,7 +85,7 @@ refused-16 s at why e h z = by (reads s)
     by (refused-one r) = let n : r .number ≡ 16 = rw (h, r .words) at z in omega (arith, n, r .small)
 
 pub list-right : EveryList
-unfolding whole
+unfolding whole wholeBy accepts
 list-right size s =
     let f = from size s 0 (omega arith) in
     record { within = f .within; fits = f .fits; records = f .records; stops = f .stops; full-told = told (f .stops); told-full = full-there (f .stops) }
@@ -116,7 +116,7 @@ taken s from (e ∷ es) to b =
     omega (arith, taken s (past s from) es to (b .2), w .further)
 
 pub walk-right : EveryWalk
-unfolding walkFrom
+unfolding walkFrom walkBy listing
 walk-right s =
     let f = from (length s) s 0 (omega arith) in
     record { within = f .within; records = f .records; stops = by (f .records) (f .stops) }
@@ -130,8 +130,8 @@ walk-right s =
     by b (inr (inr x)) = let w = whole-record s (l .stop) (x .0 .0) in absurd (omega (arith, taken s 0 (l .entries) (l .stop) b, x .0 .1))
 
 pub empty-walk : EmptyWalk
-unfolding walked refusal
-empty-walk = ap answer (walk-stops [] 0 (none-at-end [] 0 (omega arith)))
+unfolding walked
+empty-walk = ap answer (walk-stops [] 0 (none-at-end [] 0 (omega arith)) ∙ ap (stopped 0) (refusal-is [] 0))
 
 -- ---- both layouts
 

@@ -4,10 +4,10 @@ use native.Mathlib.Omega.{arith}
 use mathlib.Core.Bool.{Bool, true, false, cond, false≢true}
 use mathlib.Core.List.{List, [], _∷_}
 use mathlib.Core.Path.{_≡_, refl, sym, ap, _∙_}
-use lib.Dec.{leb}
+use lib.Dec.{eqb, leb}
 use lib.ListN.{length, take, drop, length-drop}
 use lib.Seq.{take-length}
-use borrow.Author.Tests.{le-leb, lt-leb, leb-true, leb-false}
+use borrow.Author.Tests.{le-leb, lt-leb, leb-true, leb-false, eq-eqb, ne-eqb}
 use Rattle.refusals.specs.Judge.{judge}
 use Rattle.refusals.proofs.Judged.{Outcome, none, first, outcome, none-judge, first-judge}
 use Rattle.sfdu.specs.declared.Kind.{Kind}
@@ -16,7 +16,7 @@ use Rattle.sfdu.specs.Read.{kindOf, recordLength, readRules, inStream, accepts,
 use Rattle.sfdu.proofs.Placed.{placed}
 use Rattle.sfdu.proofs.Accepted.{accepted, found, words-refused, accepted-words, Reads, accepted-one, refused-one, reads}
 use Rattle.sfdu.proofs.Within.{second-inside}
-use Rattle.sfdu_stream.specs.Walk.{atEnd, whole, past, full, refusal, step}
+use Rattle.sfdu_stream.specs.Walk.{atEnd, whole, past, full, refusal, step, wholeBy, refusalBy}
 use Rattle.sfdu_stream.specs.Turn.{RecordAt}
 
 -- Where a whole record stands, the place past it lies further on, and within the stream.
@@ -25,7 +25,7 @@ pub record Whole (s : List ℕ) (at : ℕ) : Type 0 where
   pub within : past s at ≤ length s
 
 pub whole-record : (s : List ℕ) (at : ℕ) → whole s at ≡ true → Whole s at
-unfolding whole past
+unfolding whole wholeBy accepts past
 whole-record s at e =
     let a = accepted (drop at s) e in
     let l = length-drop at s in
@@ -39,13 +39,25 @@ none-at-end s at h = by (whole s at) refl
     by true e = let w = whole-record s at e in absurd (omega arith)
     by false e = refl
 
+-- The end, as the code tests for it.
+end-there : (s : List ℕ) (at : ℕ) → eqb (length (drop at s)) 0 ≡ leb (length s) at
+end-there s at = by (leb (length s) at) refl
+  where
+    by : (b : Bool) → leb (length s) at ≡ b → eqb (length (drop at s)) 0 ≡ b
+    by true t = eq-eqb (length (drop at s)) 0 (omega (arith, leb-true (length s) at t, length-drop at s))
+    by false t = ne-eqb (length (drop at s)) 0 (λ z. omega (arith, z, leb-false (length s) at t, length-drop at s))
+
+pub refusal-is : (s : List ℕ) (at : ℕ) → refusal s at ≡ cond (leb (length s) at) atEnd (judge (inStream at) (readRules (drop at s)) full)
+unfolding refusal refusalBy
+refusal-is s at = rw (end-there s at)
+
 -- The part of the stream from a place on, as the code cuts it out.
 pub from-there : (s : List ℕ) (at : ℕ) → take (length s - at) (drop at s) ≡ drop at s
 from-there s at = rw (← length-drop at s, take-length)
 
 -- The headers of a whole record are within the stream.
 pub headers-there : (s : List ℕ) (at : ℕ) (k : Kind) (n : ℕ) → RecordAt s at k n → dataValueAt k ≤ length (take (length s - at) (drop at s))
-unfolding whole
+unfolding whole wholeBy accepts
 headers-there s at k n r =
     let a = accepted (drop at s) (r .is-whole) in
     let l : length (take (length s - at) (drop at s)) ≡ length (drop at s) = ap length (from-there s at) in
@@ -56,7 +68,7 @@ headers-there s at k n r =
 
 module _ (s : List ℕ) (at n : ℕ) (e : n ≡ wholeSize (take (length s - at) (drop at s))) where
   size-there : n ≡ cond (whole s at) (recordLength (drop at s)) 0
-  unfolding wholeSize whole
+  unfolding wholeSize whole wholeBy accepts
   size-there = e ∙ ap wholeSize (from-there s at)
 
   pub size-whole : (n ≡ 0 → ⊥) → (whole s at ≡ true) × (at + n ≡ past s at)
@@ -85,11 +97,11 @@ step-done s at h = rw (none-at-end s at h, le-leb (length s) at h)
 
 pub step-found : (s : List ℕ) (at : ℕ) (k : Kind) (n : ℕ) (rest : List ℕ) → at < length s → 0 ∷ kindNumber k ∷ n ∷ rest ≡ readOne (drop at s)
     → step s at ≡ (at + n) ∷ 0 ∷ kindNumber k ∷ n ∷ rest
-unfolding step whole past
+unfolding step whole wholeBy accepts past
 step-found s at k n rest h e = let f = found (drop at s) k n rest e in rw (f .accepted, lt-leb (length s) at h, ← e, ← f .size)
 
 pub step-refused : (s : List ℕ) (at n m : ℕ) → at < length s → n ∷ m ∷ [] ≡ readOne (drop at s) → step s at ≡ at ∷ n ∷ m ∷ []
-unfolding step whole
+unfolding step whole wholeBy accepts
 step-refused s at n m h e = rw (words-refused (drop at s) n m (sym e), lt-leb (length s) at h, ← e)
 
 -- ---- what a step's words say of the place
@@ -125,7 +137,7 @@ found-words s at k n rest next e = by (leb (length s) at) refl
 
 pub found-there : (s : List ℕ) (at : ℕ) (k : Kind) (n : ℕ) (rest : List ℕ) (next : ℕ) → next ∷ 0 ∷ kindNumber k ∷ n ∷ rest ≡ step s at
     → StepFound s at k n next
-unfolding step whole
+unfolding step whole wholeBy accepts
 found-there s at k n rest next e =
     let f = found (drop at s) k n rest (found-words s at k n rest next e) in
     let z = rw (f .accepted) at e in
@@ -140,14 +152,14 @@ no-words s e = by (reads s)
     by (refused-one r) = let y : _≡_ {A = ℕ} 0 1 = cc (r .words, e) in omega arith
 
 pub done-there : (s : List ℕ) (at place : ℕ) → place ∷ [] ≡ step s at → StepNone s at place atEnd
-unfolding step refusal
+unfolding step
 done-there s at place e = by (leb (length s) at) refl
   where
     by : (b : Bool) → leb (length s) at ≡ b → StepNone s at place atEnd
     by true t =
         let n = none-at-end s at (leb-true (length s) at t) in
         let z = rw (n, t) at e in
-        record { none = n; unmoved = cc; number = rw t }
+        record { none = n; unmoved = cc; number = refusal-is s at ∙ rw t }
     by false t = let z = rw t at e in absurd (no-words (drop at s) (cc))
 
 pub refused-words : (s : List ℕ) (at place n m : ℕ) → place ∷ n ∷ m ∷ [] ≡ step s at → readOne (drop at s) ≡ n ∷ m ∷ []
@@ -159,7 +171,7 @@ refused-words s at place n m e = by (leb (length s) at) refl
     by false t = let z = rw t at e in cc
 
 pub refused-there : (s : List ℕ) (at place n m : ℕ) → place ∷ n ∷ m ∷ [] ≡ step s at → StepNone s at place (inStream at (n ∷ m ∷ []))
-unfolding step refusal whole
+unfolding step whole wholeBy accepts
 refused-there s at place n m e = by (leb (length s) at) refl
   where
     by : (b : Bool) → leb (length s) at ≡ b → StepNone s at place (inStream at (n ∷ m ∷ []))
@@ -168,7 +180,7 @@ refused-there s at place n m e = by (leb (length s) at) refl
         let r : readOne (drop at s) ≡ n ∷ m ∷ [] = refused-words s at place n m e in
         let n = words-refused (drop at s) _ _ r in
         let z = rw n at e in
-        record { none = n; unmoved = cc; number = rw t (refused-by (inStream at) (drop at s) full n ∙ ap (inStream at) r) }
+        record { none = n; unmoved = cc; number = refusal-is s at ∙ rw t (refused-by (inStream at) (drop at s) full n ∙ ap (inStream at) r) }
 
 -- The offset, counted from the stream's start, lies in the stream.
 pub offset-there : (s : List ℕ) (at place n m : ℕ) → place ∷ n ∷ m ∷ [] ≡ step s at → at + m ≤ length s

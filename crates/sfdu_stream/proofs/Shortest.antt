@@ -16,8 +16,8 @@ use Rattle.sfdu_write.specs.Write.{recordBytes, sizeOf}
 use Rattle.sfdu_write.proofs.Written.{length-record}
 use Rattle.sfdu_write.proofs.Back.{slice, record-read}
 use Rattle.sfdu_stream.specs.declared.Entry.{Entry}
-use Rattle.sfdu_stream.specs.Walk.{whole, past, full}
-use Rattle.sfdu_stream.specs.Listing.{entryAt, listing, walkFrom, shortest, listNumbers, listEntries}
+use Rattle.sfdu_stream.specs.Walk.{whole, past, full, wholeBy}
+use Rattle.sfdu_stream.specs.Listing.{entryAt, listing, walkFrom, shortest, listNumbers, listEntries, entryOf}
 use Rattle.sfdu_stream.specs.Room.{AllRsr, RsrAlone, stopNumber, Needed, LeastNumber}
 use Rattle.sfdu_stream.proofs.Places.{none-at-end}
 use Rattle.sfdu_stream.proofs.Listings.{lists, lists-full, goes-on, stops}
@@ -64,7 +64,7 @@ record First (k : Kind) (n : ℕ) (s : List ℕ) (at : ℕ) : Type 0 where
   next : drop (past s at) s ≡ copies k n
 
 first-copy : (k : Kind) (n : ℕ) (s : List ℕ) (at : ℕ) → drop at s ≡ copies k (suc n) → First k n s at
-unfolding whole past copies
+unfolding whole wholeBy accepts past copies
 first-copy k n s at e =
     let f = short-found k (copies k n) in
     let long : recordLength (drop at s) ≡ dataValueAt k = rw e (omega (arith, f .size)) in
@@ -75,7 +75,7 @@ first-copy k n s at e =
     }
 
 no-copy : (k : Kind) (s : List ℕ) (at : ℕ) → drop at s ≡ copies k 0 → whole s at ≡ false
-unfolding whole copies
+unfolding whole wholeBy accepts copies
 no-copy k s at e = rw e (none-at-end [] 0 (omega arith))
 
 copies-walked : (k : Kind) (n : ℕ) (s : List ℕ) (at : ℕ) → drop at s ≡ copies k n → length (walkFrom s at .entries) ≡ n
@@ -85,7 +85,7 @@ copies-walked k (suc n) s at e =
     rw (goes-on s at (f .is-whole)) (ap suc (copies-walked k n s (past s at) (f .next)))
 
 copies-rsr : (n : ℕ) (s : List ℕ) (at : ℕ) → drop at s ≡ copies Rsr n → AllRsr (walkFrom s at .entries)
-unfolding entryAt
+unfolding entryAt entryOf
 copies-rsr zero s at e = rw (stops s at (no-copy Rsr s at e)) tt
 copies-rsr (suc n) s at e =
     let f = first-copy Rsr n s at e in

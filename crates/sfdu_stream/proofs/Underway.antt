@@ -16,7 +16,7 @@ use Rattle.sfdu_stream.specs.declared.Entry.{Entry}
 use Rattle.sfdu_stream.specs.declared.Turn.{Turn}
 use Rattle.sfdu_stream.specs.declared.Walked.{Walked}
 use Rattle.sfdu_stream.specs.Walk.{wordsOf, whole, past, full, refusal}
-use Rattle.sfdu_stream.specs.Listing.{Listing, entryAt, stopped, prepend, listing, answer, fills, listEntries}
+use Rattle.sfdu_stream.specs.Listing.{Listing, entryAt, stopped, prepend, listing, answer, fills, listEntries, entryOf}
 use Rattle.sfdu_stream.specs.Turn.{RecordAt, TurnAt, noTurn}
 use Rattle.sfdu_stream.proofs.Places.{from-there, StepNone}
 use Rattle.sfdu_stream.proofs.Listings.{lists, lists-none, lists-full}
@@ -25,7 +25,7 @@ use Rattle.sfdu_stream.proofs.Listings.{lists, lists-none, lists-full}
 
 pub entry-is : (s : List ℕ) (at : ℕ) (k : Kind) (n : ℕ) → RecordAt s at k n → (kind number : ℕ) → kind ≡ kindNumber k
     → number ≡ recordNumber k (take (length s - at) (drop at s)) → record { place = at; length = n; kind = kind; number = number } ≡ entryAt s at
-unfolding entryAt
+unfolding entryAt entryOf
 entry-is s at k n r kind number e q =
     let f = from-there s at in
     rw (e, q, f, r .kind, r .size)

@@ -1,23 +1,27 @@
 -- Document 01, "Calls on records": what a walk passes and what a list holds ("packing list"), and where they stop. One
 -- definition for the walk, the number lists and the table of entries. Assumes nothing.
-use Prim.Native.Nat.{ℕ, zero, suc, min}
+use Prim.Native.Nat.{ℕ, zero, suc, _+_, min}
 use mathlib.Core.Bool.{cond}
 use mathlib.Core.List.{List, [], _∷_, _++_, map}
 use lib.ListN.{length, drop}
 use Rattle.sfdu.specs.Nesting.{kindNumber}
-use Rattle.sfdu.specs.Read.{kindOf, recordLength}
+use Rattle.sfdu.specs.Read.{kindOf, recordLength, readRules}
 use Rattle.sfdu_headers.specs.Fields.{recordNumber}
 use Rattle.sfdu_stream.specs.declared.Entry.{Entry}
-use Rattle.sfdu_stream.specs.Walk.{whole, past, full, refusal}
+use Rattle.sfdu_stream.specs.Walk.{Rules, wholeBy, full, refusalBy}
 
--- The entry of the whole record at a place.
-unfoldable pub entryAt : List ℕ → ℕ → Entry
-entryAt s at = record {
-  place = at;
-  length = recordLength (drop at s);
-  kind = kindNumber (kindOf (drop at s));
-  number = recordNumber (kindOf (drop at s)) (drop at s);
+-- The entry of the whole record at a place; s is the stream from there on.
+unfoldable pub entryOf : (place : ℕ) → List ℕ → Entry
+entryOf place s = record {
+  place = place;
+  length = recordLength s;
+  kind = kindNumber (kindOf s);
+  number = recordNumber (kindOf s) s;
 }
+
+-- The same at a place in the stream s.
+unfoldable pub entryAt : List ℕ → ℕ → Entry
+entryAt s at = entryOf at (drop at s)
 
 -- The entries found, the stop place and why there.
 pub record Listing : Type 0 where
@@ -32,11 +36,17 @@ abbrev pub prepend : List Entry → Listing → Listing
 prepend es l = record { entries = es ++ l .entries; stop = l .stop; why = l .why }
 
 -- From a place on, where `free` entries are free: records are listed up to the first place with none, or with one and no
--- free entry (16).
+-- free entry (16). The one walk over a stream, by any rules; s is the stream from that place on.
+unfoldable pub listingBy : Rules → (free place : ℕ) → List ℕ → Listing
+listingBy rules zero place s = cond (wholeBy rules s) (stopped place full) (stopped place (refusalBy rules place s))
+listingBy rules (suc free) place s =
+    cond (wholeBy rules s)
+    (prepend (entryOf place s ∷ []) (listingBy rules free (place + recordLength s) (drop (recordLength s) s)))
+    (stopped place (refusalBy rules place s))
+
+-- By read one's rules.
 unfoldable pub listing : (free : ℕ) → List ℕ → (at : ℕ) → Listing
-listing zero s at = cond (whole s at) (stopped at full) (stopped at (refusal s at))
-listing (suc free) s at =
-    cond (whole s at) (prepend (entryAt s at ∷ []) (listing free s (past s at))) (stopped at (refusal s at))
+listing free s at = listingBy readRules free at (drop at s)
 
 -- Its answer: the count, the stop place and why there.
 abbrev pub answer : Listing → List ℕ
@@ -44,9 +54,13 @@ answer l = length (l .entries) ∷ l .stop ∷ l .why
 
 -- ---- the walk
 
--- A walk is never short of entries: there is one for each byte (the law `unlimited`).
+-- A walk is never short of entries: there is one for each byte (the law `enough-by`).
+unfoldable pub walkBy : Rules → (place : ℕ) → List ℕ → Listing
+walkBy rules place s = listingBy rules (length s) place s
+
+-- By read one's rules.
 unfoldable pub walkFrom : List ℕ → (at : ℕ) → Listing
-walkFrom s at = listing (length s) s at
+walkFrom s at = walkBy readRules at (drop at s)
 
 unfoldable pub walked : List ℕ → List ℕ
 walked s = answer (walkFrom s 0)

@@ -3,10 +3,10 @@ use Prim.Native.Nat.{ℕ, _+_}
 use mathlib.Core.Bool.{Bool, cond}
 use mathlib.Core.List.{List, [], _∷_}
 use lib.ListN.{length, drop}
-use lib.Dec.{leb}
-use Rattle.refusals.specs.Judge.{judge}
+use lib.Dec.{eqb, leb}
+use Rattle.refusals.specs.Judge.{Rule, judge, noneApplies}
 use Rattle.sfdu.specs.Nesting.{kindNumber}
-use Rattle.sfdu.specs.Read.{primaryWords, faultWords, recordLength, readRules, inStream, accepts, readOne}
+use Rattle.sfdu.specs.Read.{primaryWords, faultWords, recordLength, readRules, inStream, readOne}
 use Rattle.sfdu_stream.specs.declared.Step.{Step}
 use Rattle.sfdu_stream.specs.declared.Step.the-variants.{Found, Done, Refused}
 use Rattle.sfdu_stream.specs.declared.Stop.{Stop}
@@ -34,23 +34,35 @@ stopWords (StopRefused f) = faultWords f
 abbrev pub wordsOf : Walked → List ℕ
 wordsOf w = w .count ∷ w .place ∷ stopWords (w .stop)
 
--- ---- a place in the stream
+-- ---- what stands at a place of a stream, by rules for a record; s is the stream from there on
 
--- A whole record stands there: one that read one accepts.
-unfoldable pub whole : List ℕ → ℕ → Bool
-whole s at = accepts (drop at s)
+-- Read one's rules, or those of a program that refuses more.
+abbrev pub Rules : Type 0
+Rules = List ℕ → List (Rule (List ℕ))
 
--- The place past that record.
-unfoldable pub past : List ℕ → ℕ → ℕ
-past s at = at + recordLength (drop at s)
+-- A whole record: none of them applies.
+unfoldable pub wholeBy : Rules → List ℕ → Bool
+wholeBy rules s = noneApplies (rules s)
 
 -- A list that is full stops at a whole record.
 abbrev pub full : List ℕ
 full = 16 ∷ 0 ∷ []
 
 -- Why a walk or a list stops there: the end, or the refusal of the record there; where that is whole, no entry is free.
+unfoldable pub refusalBy : Rules → (place : ℕ) → List ℕ → List ℕ
+refusalBy rules place s = cond (eqb (length s) 0) atEnd (judge (inStream place) (rules s) full)
+
+-- ---- the same at a place in the stream s, by read one's rules
+
+unfoldable pub whole : List ℕ → ℕ → Bool
+whole s at = wholeBy readRules (drop at s)
+
+-- The place past the whole record there.
+unfoldable pub past : List ℕ → ℕ → ℕ
+past s at = at + recordLength (drop at s)
+
 unfoldable pub refusal : List ℕ → ℕ → List ℕ
-refusal s at = cond (leb (length s) at) atEnd (judge (inStream at) (readRules (drop at s)) full)
+refusal s at = refusalBy readRules at (drop at s)
 
 -- ---- the step
 

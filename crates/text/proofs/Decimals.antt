@@ -75,6 +75,10 @@ pub length-word : (n after : ℕ) → length (word n after) ≡ length (decimal 
 unfolding word
 length-word n after = length-append (decimal n) (after ∷ [])
 
+-- below 10 ^ m, m digits at most and one byte more
+pub word-short : (m n after : ℕ) → 0 < m → n < 10 ^ m → length (word n after) ≤ m + 1
+word-short m n after p h = omega (arith, length-word n after, decimal-short m n p h)
+
 -- of k digits and one byte more: for a number of 64 bits, at most 20 digits
 pub word-length : (k n after : ℕ) → Fits w64 n → Fewest 10 1 n k → (length (word n after) ≡ k + 1) × (k ≤ 20)
 word-length k n after h f =

@@ -7,12 +7,12 @@ use borrow.Author.Needs.{needs}
 use Rattle.sfdu_listing.proofs.lines.begin.Statement.{statement}
 use Rattle.sfdu_listing.proofs.lines.begin.Tie as tie
 
-slice-aggregate-copy-at : tie.Need-slice-aggregate-copy-at
-slice-aggregate-copy-at c = search needs
+slice-aggregate-put-text : tie.Need-slice-aggregate-put-text
+slice-aggregate-put-text c = search needs
 
-copy-at-requires : tie.Need-copy-at-requires
+put-text-requires : tie.Need-put-text-requires
 unfolding heading
-copy-at-requires c κs = search needs
+put-text-requires c κs = search needs
 
 same-length : tie.Need-same-length
 same-length c = search needs
@@ -20,8 +20,8 @@ same-length c = search needs
 returns : tie.Need-returns
 unfolding heading
 returns c =
-    let p = c .before .before .copy-at .ensures in
+    let p = c .before .before .put-text .ensures in
     (ap (λ (n : ℕ). record { place = 0; have = 0; text = n; done = false }) (p .end), p)
 
 pub begin-spec : {M : Type 1} → statement M
-begin-spec = tie.close (tie.spec slice-aggregate-copy-at copy-at-requires same-length returns)
+begin-spec = tie.close (tie.spec slice-aggregate-put-text put-text-requires same-length returns)

@@ -1,9 +1,10 @@
 -- `sfdu_listing::lines::put_line` meets its contract: four texts, each put behind the one before. Assumes nothing.
 use native.Mathlib.Omega.{arith}
 use lib.Dec.{lit<}
-use Rattle.sfdu_listing.specs.Text.{space, lineEnd, line}
-use Rattle.sfdu_listing.proofs.Decimals.{word-short}
-use Rattle.sfdu_listing.proofs.Laid.{then}
+use Rattle.sfdu_listing.specs.Text.{line}
+use Rattle.text.specs.Text.{space, lineEnd}
+use Rattle.text.proofs.Decimals.{word-short}
+use Rattle.text.proofs.Laid.{then}
 use borrow.Author.Needs.{needs}
 use Rattle.sfdu_listing.proofs.lines.put_line.Statement.{statement}
 use Rattle.sfdu_listing.proofs.lines.put_line.Tie as tie
@@ -19,14 +20,14 @@ put-word-requires-2 c κs =
     let k = c .before .before .before .before .before .before in
     let p = word-short 20 (k .args .place) space (lit< tt) (omega (arith, k .fits .place .fits)) in
     let z = word-short 5 (k .args .size) space (lit< tt) (omega arith) in
-    omega (arith, c .before .before .before .put-word .ensures .end)
+    omega (arith, c .before .before .before .put-word .ensures .0 .end)
 
 put-letter-requires : tie.Need-put-letter-requires
 put-letter-requires c κs =
     let k = c .before .before .before .before .before .before .before .before .before .before in
     let p = word-short 20 (k .args .place) space (lit< tt) (omega (arith, k .fits .place .fits)) in
     let z = word-short 5 (k .args .size) space (lit< tt) (omega arith) in
-    omega (arith, c .before .before .before .put-word2 .ensures .end, c .before .before .before .before .before .before .before .put-word .ensures .end)
+    omega (arith, c .before .before .before .put-word2 .ensures .0 .end, c .before .before .before .before .before .before .before .put-word .ensures .0 .end)
 
 put-word-requires-3 : tie.Need-put-word-requires-3
 put-word-requires-3 c κs =
@@ -34,7 +35,7 @@ put-word-requires-3 c κs =
     let p = word-short 20 (k .args .place) space (lit< tt) (omega (arith, k .fits .place .fits)) in
     let z = word-short 5 (k .args .size) space (lit< tt) (omega arith) in
     let n = word-short 10 (k .args .number) lineEnd (lit< tt) (omega (arith, k .fits .number .fits)) in
-    omega (arith, c .before .before .before .put-letter .ensures .end, c .before .before .before .before .before .before .before .put-word2 .ensures .end, c .before .before .before .before .before .before .before .before .before .before .before .put-word .ensures .end)
+    omega (arith, c .before .before .before .put-letter .ensures .end, c .before .before .before .before .before .before .before .put-word2 .ensures .0 .end, c .before .before .before .before .before .before .before .before .before .before .before .put-word .ensures .0 .end)
 
 same-length : tie.Need-same-length
 same-length c = search needs
@@ -46,10 +47,10 @@ returns c =
     let p = word-short 20 (k .args .place) space (lit< tt) (omega (arith, k .fits .place .fits)) in
     let z = word-short 5 (k .args .size) space (lit< tt) (omega arith) in
     let n = word-short 10 (k .args .number) lineEnd (lit< tt) (omega (arith, k .fits .number .fits)) in
-    let a = c .before .before .before .before .before .before .before .before .before .before .before .before .before .before .put-word .ensures in
-    let b = c .before .before .before .before .before .before .before .before .before .before .put-word2 .ensures in
+    let a = c .before .before .before .before .before .before .before .before .before .before .before .before .before .before .put-word .ensures .0 in
+    let b = c .before .before .before .before .before .before .before .before .before .before .put-word2 .ensures .0 in
     let l = c .before .before .before .before .before .before .put-letter .ensures in
-    let d = c .before .before .put-word3 .ensures in
+    let d = c .before .before .put-word3 .ensures .0 in
     (then (then (then a b (omega (arith, a .end, b .end))) l (omega (arith, a .end, b .end, l .end))) d (omega (arith, a .end, b .end, l .end, d .end)), omega (arith, a .end, b .end, l .end, d .end))
 
 pub put-line-spec : {M : Type 1} → statement M
