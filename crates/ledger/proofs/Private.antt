@@ -22,7 +22,7 @@ use Rattle.ledger_sheet.specs.Sheet.{sheetSize, workedAt, deskSize, deskCount, 
 use Rattle.ledger_changes.specs.Bytes.{headerBytes, openDesk}
 use Rattle.ledger_layout.specs.Layout.{placeBytes, deskBytes, countUsed, laid, layout}
 use Rattle.ledger_layout.specs.Demand3.{headerAndRows}
-use Rattle.ledger_layout.proofs.Parts.{part-seam}
+use Rattle.octets.proofs.Parts.{part-seam}
 use Rattle.ledger_layout.proofs.Rows.{length-place}
 use Rattle.ledger_layout.proofs.Places.{length-layout, front-part, desk-part, desk-in, shape}
 use Rattle.ledger.specs.Private.{Night, deskPart, openedPart, Private, Privacy}

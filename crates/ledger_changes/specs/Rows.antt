@@ -1,12 +1,13 @@
 -- One row of the sheet, or a desk's copy of one: its positions, its bytes, and its value (document 01, "The ledger sheet").
 -- Assumes nothing.
-use Prim.Native.Nat.{ℕ, zero, suc, _+_, _-_, _/_, _%_, _^_}
+use Prim.Native.Nat.{ℕ, _+_, _-_, _/_, _%_, _^_}
 use mathlib.Core.Bool.{Bool}
-use mathlib.Core.List.{List, [], _∷_, _++_}
+use mathlib.Core.List.{List, _++_}
 use lib.Dec.{eqb}
 use lib.ListN.{getD, set, replicate}
 use Rattle.ledger_model.specs.Positions.{rowLength, Positions}
 use Rattle.octets.specs.Octets.{bytesOf, part}
+unfoldable pub use Rattle.octets.specs.Lists.{table}
 use Rattle.ledger_sheet.specs.Sheet.{usedWordSize, usedWord, keySize, firstSize, ticksAt, ticksSize, byteBits, keyAt, firstNumberAt}
 use Rattle.ledger_sheet.specs.declared.Row.{Row}
 
@@ -26,11 +27,6 @@ setTick s a i = set s (tickByteAt a i) (getD s (tickByteAt a i) 0 + tickBit i)
 
 unfoldable pub clearTick : List ℕ → ℕ → ℕ → List ℕ
 clearTick s a i = set s (tickByteAt a i) (getD s (tickByteAt a i) 0 - tickBit i)
-
--- f 0, f 1, .. f (n - 1)
-unfoldable pub table : {A : Type 0} → ℕ → (ℕ → A) → List A
-table zero f = []
-table (suc n) f = f 0 ∷ table n (λ i. f (suc i))
 
 -- The set of the row's ticked positions.
 unfoldable pub ticksOf : List ℕ → ℕ → Positions

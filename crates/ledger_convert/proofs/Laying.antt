@@ -23,7 +23,7 @@ use Rattle.ledger_changes.proofs.Puts.{put-outside, part-put}
 use Rattle.ledger_changes.proofs.ReadBack.{length-row}
 use Rattle.ledger_changes.proofs.Written.{length-header}
 use Rattle.ledger_layout.specs.Layout.{placeBytes, deskBytes, countUsed, layout}
-use Rattle.ledger_layout.proofs.Chunks.{length-table, getD-table, laid-table}
+use Rattle.octets.proofs.Lists.{length-table, getD-table, laid-table}
 use Rattle.ledger_layout.proofs.Rows.{length-place}
 use Rattle.ledger_layout.proofs.Places.{header-put, length-desk}
 use Rattle.ledger_layout.proofs.Used.{count-law}

@@ -23,7 +23,7 @@ use Rattle.ledger_sheet.specs.declared.Row.{Row}
 use Rattle.ledger_changes.specs.Rows.{table, tickedAt, ticksOf, rowBytes, rowValueAt}
 use Rattle.ledger_layout.specs.Layout.{tickBytes, placeBytes}
 use Rattle.ledger_layout.proofs.Parts.{number-within}
-use Rattle.ledger_layout.proofs.Chunks.{length-table, getD-table, table-is}
+use Rattle.octets.proofs.Lists.{length-table, getD-table, table-is}
 use Rattle.ledger_layout.proofs.Ticks.{ticks-bytes}
 use Rattle.ledger_convert.specs.Old.{sheetSize, keySize, firstAt, firstSize, rowCount, deskSize, deskCount, openedAt, workedAt, rowAt, deskAt, used, keyAt, firstNumberAt, deskByte, deskRow, isClosed, carries, validKeys, differentKeys, firstNumbers, closedZero, deskMarked, openNames, deskRight, right}
 use Rattle.ledger_convert.specs.Old as Old

@@ -1,5 +1,4 @@
 pub mod Parts
-pub mod Chunks
 pub mod Ticks
 pub mod Rows
 pub mod Places

@@ -4,19 +4,10 @@ use native.Mathlib.Omega.{arith}
 use mathlib.Core.List.{List, [], _∷_, _++_, append-assoc}
 use mathlib.Core.Path.{_≡_, refl, sym, ap, _∙_}
 use lib.ListN.{length, take, drop, length-append, take-append-drop}
-use lib.Seq.{take-at, drop-at, drop-append-add, take-take, drop-drop, take-append-le, drop-append-le, length-take-le, take-nil}
+use lib.Seq.{take-take, drop-drop, take-append-le, drop-append-le, length-take-le, take-nil}
 use Rattle.octets.specs.Octets.{numberAt, part, put}
 use Rattle.octets.proofs.Laws.{length-part, part-at}
-
--- ---- what stands between two lists
-
-pub part-seam : (p c q : List ℕ) (a n : ℕ) → length p ≡ a → length c ≡ n → part (p ++ (c ++ q)) a n ≡ c
-unfolding part
-part-seam p c q a n l e = rw (drop-at p (c ++ q) a l, take-at c q n e)
-
-pub put-seam : (p c q v : List ℕ) (a : ℕ) → length p ≡ a → length c ≡ length v → put (p ++ (c ++ q)) a v ≡ p ++ (v ++ q)
-unfolding put
-put-seam p c q v a l e = rw (← l, take-at p (c ++ q) (length p) refl, drop-append-add, drop-at c q (length v) e, append-assoc)
+use Rattle.octets.proofs.Puts.{put-seam}
 
 -- ---- in a part
 

@@ -14,13 +14,14 @@ use Rattle.ledger_model.specs.Book.{Place, free, Desk, closed, working, Book, p
 use Rattle.ledger_model.specs.WellFormed.{WellFormed}
 use Rattle.octets.specs.Octets.{numberAt, bytesOf, part, put}
 use Rattle.octets.proofs.Laws.{length-bytesOf, part-at}
-use Rattle.octets.proofs.Parts.{number-first, number-bytes, part-first, part-whole}
+use Rattle.octets.proofs.Parts.{number-first, number-bytes, part-first, part-whole, part-seam}
 use Rattle.ledger_sheet.specs.Sheet.{sheetSize, rowSize, rowCount, rowsStart, deskZerosAt, deskZerosSize, openedAt, workedAt, deskSize, deskCount, desksStart, headerNumberSize, usedAt, rowAt, deskAt, headerNumber, isClosed}
 use Rattle.ledger_changes.specs.Bytes.{headerBytes, openDesk}
 use Rattle.ledger_changes.proofs.Written.{length-header}
 use Rattle.ledger_layout.specs.Layout.{placeBytes, deskBytes, countUsed, laid, layout}
-use Rattle.ledger_layout.proofs.Parts.{part-seam, put-seam, number-within, part-within, put-within, put-first}
-use Rattle.ledger_layout.proofs.Chunks.{length-laid, part-laid, put-laid, laid-same}
+use Rattle.octets.proofs.Puts.{put-seam}
+use Rattle.ledger_layout.proofs.Parts.{number-within, part-within, put-within, put-first}
+use Rattle.octets.proofs.Lists.{length-laid, part-laid, put-laid, laid-same}
 use Rattle.ledger_layout.proofs.Rows.{length-place}
 
 -- ---- the header

@@ -24,7 +24,7 @@ use Rattle.ledger_changes.specs.Bytes.{headerBytes, openDesk}
 use Rattle.ledger_sheet.proofs.Clauses.{Right, right-parts, row-parts}
 use Rattle.ledger_layout.specs.Layout.{placeBytes, deskBytes, countUsed, layout, placeIn, deskIn, bookOf}
 use Rattle.ledger_layout.proofs.Parts.{number-within}
-use Rattle.ledger_layout.proofs.Chunks.{length-table, getD-table, laid-table}
+use Rattle.octets.proofs.Lists.{length-table, getD-table, laid-table}
 use Rattle.ledger_layout.proofs.Rows.{row-there}
 use Rattle.ledger_layout.proofs.Used.{count-law}
 

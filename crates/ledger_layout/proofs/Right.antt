@@ -22,7 +22,7 @@ use Rattle.ledger_changes.specs.Bytes.{openDesk}
 use Rattle.ledger_sheet.proofs.Clauses.{closed-desk, open-desk}
 use Rattle.ledger_layout.specs.Layout.{placeBytes, deskBytes, countUsed, layout, placeIn, deskIn, bookOf}
 use Rattle.ledger_layout.proofs.Parts.{number-within, part-within}
-use Rattle.ledger_layout.proofs.Chunks.{table-is}
+use Rattle.octets.proofs.Lists.{table-is}
 use Rattle.ledger_layout.proofs.Rows.{Says, row-says, row-carries}
 use Rattle.ledger_layout.proofs.Places.{headerNumbers, header-number, opened-in, worked-in, zeros-in, shape, length-layout, row-part, desk-part, desk-byte, desk-in, closed-law}
 use Rattle.ledger_layout.proofs.Used.{Words, count-law, count-in}

@@ -18,7 +18,7 @@ use Rattle.ledger_sheet.specs.Sheet.{sheetSize, rowSize, rowCount, deskSize, de
 use Rattle.ledger_changes.specs.Bytes.{Outcome, judged, headerBytes, freshSheet}
 use Rattle.ledger_verdicts.specs.Calls.{freshCall, enrolCall, findCall, openCall, dropCall, markCall, saveCall, reportCall, gapCall, strikeCall}
 use Rattle.ledger_layout.specs.Layout.{placeBytes, deskBytes, countUsed, laid, layout, bookOf, call, laidOut, onSheet, freshOn}
-use Rattle.ledger_layout.proofs.Chunks.{laid-zeros}
+use Rattle.octets.proofs.Lists.{laid-zeros}
 use Rattle.ledger_layout.proofs.Right.{reads-back, layout-right}
 use Rattle.ledger_layout.proofs.Read.{read-law, book-fine}
 use Rattle.ledger_layout.proofs.Calls.{not-right, enrol-call, find-call, open-call, mark-call, save-call, drop-call, report-call, gap-call, strike-call}

@@ -10,6 +10,7 @@ use Rattle.ledger_model.specs.Book.{Place, free, row, Desk, closed, working, Bo
 use Rattle.ledger_model.specs.Step.{Call, answerWords, step}
 use Rattle.ledger_sheet.specs.Sheet.{sheetSize, rowSize, rowCount, ticksSize, byteBits, openedAt, workedAt, deskSize, deskCount, rowAt, deskAt, isUsed, keyAt, firstNumberAt, deskRow, isClosed, right}
 use Rattle.ledger_changes.specs.Rows.{table, ticksOf, rowBytes}
+unfoldable pub use Rattle.octets.specs.Lists.{laid}
 use Rattle.ledger_changes.specs.Bytes.{Outcome, headerBytes, openDesk}
 
 -- ---- a book laid out
@@ -45,11 +46,6 @@ unfoldable pub countUsed : List Place → ℕ
 countUsed [] = 0
 countUsed (free ∷ ps) = countUsed ps
 countUsed (row key first ticks ∷ ps) = suc (countUsed ps)
-
--- The bytes of each, one after the other.
-unfoldable pub laid : {A : Type 0} → (A → List ℕ) → List A → List ℕ
-laid bytes [] = []
-laid bytes (x ∷ xs) = bytes x ++ laid bytes xs
 
 -- The header, the rows, the desks.
 unfoldable pub layout : Book → List ℕ

@@ -14,7 +14,7 @@ use Rattle.octets.proofs.Parts.{number-first, number-bytes}
 use Rattle.ledger_model.specs.Step.{FirstGap, Ask, done, Entry, _⇒_}
 use Rattle.ledger_layout.specs.Layout.{laid}
 use Rattle.ledger_layout.proofs.Parts.{number-within}
-use Rattle.ledger_layout.proofs.Chunks.{length-laid, part-laid}
+use Rattle.octets.proofs.Lists.{length-laid, part-laid}
 use Rattle.ledger_replay.specs.declared.Line.{Line}
 use Rattle.ledger_replay.specs.Trace.{numberSize, headerSize, mostEntries, keySize, entrySize, headerNumber, count, entryAt, lineAt, headerRight, lineRight, linesRight, isTrace, entryIn, entriesFrom, entriesOf}
 use Rattle.ledger_replay.specs.Record.{lineOf, lineBytes, traceHeader, traceOf}

@@ -24,7 +24,7 @@ use Rattle.ledger_sheet.specs.declared.Answer.the-variants as A
 use Rattle.ledger_layout.specs.Layout.{bookOf, layout}
 use Rattle.ledger_layout.proofs.Places.{shape, length-layout}
 use Rattle.ledger_layout.proofs.Right.{reads-back, layout-right}
-use Rattle.ledger_layout.proofs.Chunks.{table-is}
+use Rattle.octets.proofs.Lists.{table-is}
 use Rattle.ledger.specs.Demand3.{MadeFresh, Promised}
 use Rattle.ledger.proofs.Demand3.{demand-3}
 use Rattle.ledger_season.specs.Report.{mostSheets, tickedIn, inAll, report, keyInTwo}

@@ -15,7 +15,7 @@ use Rattle.ledger_model.specs.Book.{fresh}
 use Rattle.ledger_sheet.specs.Sheet.{sheetSize, right}
 use Rattle.ledger_layout.specs.Layout.{bookOf}
 use Rattle.ledger_layout.proofs.Read.{book-fine}
-use Rattle.ledger_layout.proofs.Chunks.{getD-table}
+use Rattle.octets.proofs.Lists.{getD-table}
 use Rattle.ledger_season.specs.Report.{mostSheets, keyInTwo, report}
 use Rattle.ledger_season.specs.Season.{sheetAt, sheetCount, booksTo, books, rightTo, seasonRules, season}
 use Rattle.ledger_season.specs.Gathered.{keysOf, keysOfAll, distinct}

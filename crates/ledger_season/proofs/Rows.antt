@@ -21,7 +21,7 @@ use Rattle.ledger_changes.specs.Rows.{table, ticksOf}
 use Rattle.ledger_changes.specs.Bytes.{lowestWords, reportWords}
 use Rattle.ledger_counts.proofs.Reports.{row-count, end-within}
 use Rattle.ledger_layout.specs.Layout.{placeIn, bookOf}
-use Rattle.ledger_layout.proofs.Chunks.{length-table, getD-table}
+use Rattle.octets.proofs.Lists.{length-table, getD-table}
 use Rattle.ledger_season.specs.Report.{missed}
 use Rattle.ledger_season.specs.Gathered.{orElse, Counts, Adds}
 use Rattle.ledger_season.specs.declared.RowGap.{RowGap}

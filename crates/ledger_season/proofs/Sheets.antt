@@ -14,7 +14,7 @@ use Rattle.ledger_model.specs.Book.{placeCount, Book, fresh}
 use Rattle.ledger_model.specs.Counts.{firstGapFrom}
 use Rattle.ledger_sheet.specs.Sheet.{sheetSize}
 use Rattle.ledger_layout.specs.Layout.{bookOf}
-use Rattle.ledger_layout.proofs.Chunks.{length-table, getD-table}
+use Rattle.octets.proofs.Lists.{length-table, getD-table}
 use Rattle.ledger_season.specs.Report.{mostSheets, perMillion, three, tickedIn, missingIn, eachSheet, inAll, gapIn, seasonGapFrom, report}
 use Rattle.ledger_season.specs.Season.{sheetAt, booksTo, countsWords, sheetsWords, orFurther}
 use Rattle.ledger_season.specs.Gathered.{orElse, Counts}

@@ -8,7 +8,7 @@ use mathlib.Core.List.{List, [], _∷_, _++_}
 use mathlib.Core.Path.{_≡_, refl, sym, ap, _∙_}
 use lib.Dec.{eqb, lit<}
 use lib.ListN.{length, getD, take, drop, replicate, length-replicate, getD-replicate, length-drop, List·getD-append}
-use lib.Seq.{take-add, drop-drop, take-suc, ext-getD, getD-drop, take-length, getD-append-add, getD-at, take-append-le, drop-append-le, drop-append-add}
+use lib.Seq.{take-add, drop-drop, take-suc, ext-getD, getD-drop, take-length, getD-append-add, getD-at, take-append-le, drop-append-le, drop-append-add, take-at, drop-at}
 use borrow.Author.Tests.{eqb-true, eq-eqb}
 use Rattle.octets.specs.Octets.{numberAt, bytesOf, part, zeroAt, sameAt}
 use Rattle.octets.proofs.Laws.{Bytes, length-bytesOf, length-part, part-at, all-at, all-each}
@@ -64,6 +64,11 @@ part-first s t a n h = rw (drop-append-le a s t (omega arith), take-append-le n 
 pub part-second : (s t : List ℕ) (a b n : ℕ) → length s + b ≡ a → part (s ++ t) a n ≡ part t b n
 unfolding part
 part-second s t a b n e = rw (← e, drop-append-add)
+
+-- what stands between two lists
+pub part-seam : (p c q : List ℕ) (a n : ℕ) → length p ≡ a → length c ≡ n → part (p ++ (c ++ q)) a n ≡ c
+unfolding part
+part-seam p c q a n l e = rw (drop-at p (c ++ q) a l, take-at c q n e)
 
 -- a part of bytes is bytes
 bytes-take : (n : ℕ) (s : List ℕ) → Bytes s → Bytes (take n s)

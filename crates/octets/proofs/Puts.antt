@@ -4,9 +4,9 @@ use native.Mathlib.Nat.{zero-add}
 use native.Mathlib.Numerals.{add-one}
 use native.Mathlib.Omega.{arith}
 use mathlib.Core.List.{List, [], _∷_, _++_, append-assoc, append-nil}
-use mathlib.Core.Path.{_≡_, sym, ap, _∙_}
+use mathlib.Core.Path.{_≡_, refl, sym, ap, _∙_}
 use lib.ListN.{length, take, drop, set, length-append, length-drop}
-use lib.Seq.{sets, sets-eq, take-at, take-all, take-length, drop-length, drop-drop, length-take-le, set-split, append-snoc, drop-append-add}
+use lib.Seq.{sets, sets-eq, take-at, drop-at, take-all, take-length, drop-length, drop-drop, length-take-le, set-split, append-snoc, drop-append-add}
 use Rattle.octets.specs.Octets.{put}
 
 -- what is put behind what was just put
@@ -20,6 +20,11 @@ put-put s a v b w e h =
     rw (← l, drop-append-add, l, drop-drop) in
     let n : a + length (v ++ w) ≡ b + length w = omega (arith, length-append v w) in
     rw (e, t, d, n, ← append-assoc (take a s) v w)
+
+-- what stands between two lists is replaced
+pub put-seam : (p c q v : List ℕ) (a : ℕ) → length p ≡ a → length c ≡ length v → put (p ++ (c ++ q)) a v ≡ p ++ (v ++ q)
+unfolding put
+put-seam p c q v a l e = rw (← l, take-at p (c ++ q) (length p) refl, drop-append-add, drop-at c q (length v) e, append-assoc)
 
 -- a byte stored is a part of one byte put
 pub set-put : (s : List ℕ) (i x : ℕ) → i < length s → set s i x ≡ put s i (x ∷ [])

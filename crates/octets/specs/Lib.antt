@@ -1,2 +1,3 @@
--- What the contracts of `octets` cite.
+-- What the contracts of `octets` cite, and lists laid out as bytes, which the crates above cite.
 pub mod Octets
+pub mod Lists

@@ -10,13 +10,14 @@ use borrow.Author.Tests.{eq-eqb, ne-eqb}
 use Rattle.refusals.specs.Judge.{judge}
 use Rattle.octets.specs.Octets.{put}
 use Rattle.octets.proofs.Laws.{Bytes}
-use Rattle.octets.proofs.Puts.{put-put, put-start}
+use Rattle.octets.proofs.Puts.{put-put, put-start, put-seam}
 use Rattle.settings.specs.declared.Setting.{Setting}
-use Rattle.settings.specs.Lists.{laid, fieldBytes}
+use Rattle.octets.specs.Lists.{laid}
+use Rattle.settings.specs.Fields.{fieldBytes}
 use Rattle.settings.specs.Model.{places, known, holds, latest, Outcome, addRules, add, foundWords, ask}
 use Rattle.settings.specs.Sheet.{entriesStart, entrySize, sheetSize, entryAt, count, settingsOf, right}
 use Rattle.settings.specs.Layout.{headerFields, entryBytes, layout, onSheet}
-use Rattle.settings.proofs.Lists.{put-seam, laid-more}
+use Rattle.octets.proofs.Lists.{laid-more}
 use Rattle.settings.proofs.Sheets.{length-header, length-entry, length-entries, read-law, count-is}
 
 -- ---- an empty sheet

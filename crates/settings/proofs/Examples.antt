@@ -7,7 +7,8 @@ use lib.ListN.{length, take}
 use Rattle.refusals.specs.Judge.{judge}
 use Rattle.octets.specs.Octets.{bytesOf}
 use Rattle.settings.specs.declared.Setting.{Setting}
-use Rattle.settings.specs.Lists.{laid, fieldBytes}
+use Rattle.octets.specs.Lists.{laid}
+use Rattle.settings.specs.Fields.{fieldBytes}
 use Rattle.settings.specs.Model.{holds, picked, latestFrom, add, ask}
 use Rattle.settings.specs.Layout.{entryBytes, layout}
 

@@ -1,4 +1,4 @@
-pub mod Lists
+pub mod Fields
 pub mod Model
 pub mod Clauses
 pub mod Sheets

@@ -1,17 +1,17 @@
--- Equal chunks laid one after another: reading the k-th, replacing it, and reading all of them from a list. Each law once, over
--- the chunk's width and index. Assumes nothing.
+-- Tables; equal chunks laid one after another: reading the k-th, replacing it, one more, and reading all of them from a list. Each
+-- law once, over the chunk's width and index. Assumes nothing.
 use Prim.Native.Nat.{ℕ, zero, suc, _+_, _*_, _<_, suc-le-suc}
 use native.Mathlib.Nat.{mul-zero, mul-suc, zero-lt-suc, not-suc-le-zero, le-of-suc-le-suc}
+use native.Mathlib.Numerals.{add-one}
 use native.Mathlib.Omega.{arith}
-use mathlib.Core.List.{List, [], _∷_, _++_, append-assoc}
+use mathlib.Core.List.{List, [], _∷_, _++_, append-assoc, append-nil}
 use mathlib.Core.Path.{_≡_, refl, sym, ap, _∙_}
 use lib.ListN.{length, getD, set, replicate, length-append, replicate-append-replicate}
 use lib.Seq.{ext-getD}
 use Rattle.octets.specs.Octets.{part, put}
-use Rattle.octets.proofs.Parts.{part-join}
-use Rattle.ledger_changes.specs.Rows.{table}
-use Rattle.ledger_layout.specs.Layout.{laid}
-use Rattle.ledger_layout.proofs.Parts.{part-seam, put-seam}
+use Rattle.octets.specs.Lists.{table, laid}
+use Rattle.octets.proofs.Parts.{part-join, part-seam}
+use Rattle.octets.proofs.Puts.{put-seam}
 
 -- ---- tables
 
@@ -32,6 +32,19 @@ module _ {A : Type 0} where
   table-is n f xs z e h =
       let lt = length-table n f in
       ext-getD z (table n f) xs (lt ∙ sym e) (λ i l. let q : i < n = omega arith in getD-table n f i z q ∙ h i q)
+
+  -- one more
+  table-suc : (n : ℕ) (f : ℕ → A) → table (suc n) f ≡ table n f ++ (f n ∷ [])
+  unfolding table
+  table-suc zero f = refl
+  table-suc (suc n) f = ap (λ (t : List A). f 0 ∷ t) (table-suc n (λ i. f (suc i)))
+
+  pub table-more : (n : ℕ) (f : ℕ → A) → table (n + 1) f ≡ table n f ++ (f n ∷ [])
+  table-more n f = rw add-one (table-suc n f)
+
+  pub table-none : (f : ℕ → A) → table 0 f ≡ []
+  unfolding table
+  table-none f = refl
 
 -- ---- chunks of width w, with p before them and q after
 
@@ -70,6 +83,12 @@ module _ {A : Type 0} (w : ℕ) (f : A → List ℕ) (sized : (x : A) → length
       ap (λ (t : List ℕ). put t a (f x)) (others p q y xs)
       ∙ put-laid (p ++ f y) q xs k a x (le-of-suc-le-suc l) (rw length-append (omega (arith, mul-suc w k, sized y)))
       ∙ sym (others p q y (set xs k x))
+
+-- one chunk more
+pub laid-more : {A : Type 0} (f : A → List ℕ) (xs : List A) (x : A) → laid f (xs ++ (x ∷ [])) ≡ laid f xs ++ f x
+unfolding laid
+laid-more f [] x = append-nil (f x)
+laid-more f (y ∷ xs) x = rw (laid-more f xs x, append-assoc)
 
 -- chunks that are the parts of a list from a on
 pub laid-table : {A : Type 0} (s : List ℕ) (w : ℕ) (f : A → List ℕ) (n a : ℕ) (g : ℕ → A)
