@@ -7,14 +7,15 @@ use mathlib.Core.Bool.{Bool, true, false, not, cond}
 use mathlib.Core.List.{List, _∷_}
 use mathlib.Core.Path.{_≡_, refl, sym, ap, _∙_, fun-ext}
 use borrow.Author.Tests.{ltb-true, ltb-false}
-use lib.Count.{ones, ones-step, leadingZeros, leading-of-zero, leading-top, trailingZeros, trailing-of-zero, trailing-le, under}
+use lib.Bits.{bitAnd, and-le-l, and-le-r}
+use lib.Count.{ones, ones-step, ones-ones, ones-le, leadingZeros, leading-of-zero, leading-top, trailingZeros, trailing-of-zero, trailing-le, under}
 use lib.Dec.{eqb, ltb}
 use lib.Pow.{pow-pos, pow-mono}
 use Rattle.ledger_model.specs.Positions.{size}
 use Rattle.ledger_changes.specs.Rows.{tickedAt, table}
 use Rattle.ledger_changes.specs.Bytes.{lowest, pastHighest}
 use Rattle.ledger_changes.proofs.Scans.{Fails, top-of, past-here, past-skip, past-none, lowest-fails, lowest-holds}
-use Rattle.ledger_counts.specs.Words.{wordBits, bitOf, IsWord}
+use Rattle.ledger_counts.specs.Words.{wordBits, blockWords, bitOf, IsWord}
 use Rattle.ledger_counts.proofs.Missing.{size-cons, size-none, size-more}
 
 -- ---- the ones of a number
@@ -35,6 +36,30 @@ bits-ones (suc k) x l =
     let rest = bits-ones k (x / 2) (omega (arith, pow-succ' 2 k)) in
     let halved = fun-ext (bit-half x) in
     size-cons (bitOf x 0) (table k (λ j. bitOf x (suc j))) ∙ rw (halved, rest, div-one, digit (x % 2) (mod-lt x (zero-lt-suc 1))) (sym (ones-step x))
+
+full-ones : (k x : ℕ) → x < 2 ^ k → 2 ^ k - 1 ≤ x → ones x ≡ k
+full-ones k x l h = let e : x ≡ 2 ^ k - 1 = omega arith in rw e (ones-ones k)
+
+-- those of a block of four words of k bits
+abbrev pub AllFit : (k x y z w : ℕ) → Type 0
+AllFit k x y z w = (x < 2 ^ k) × (y < 2 ^ k) × (z < 2 ^ k) × (w < 2 ^ k)
+
+module _ (k x y z w : ℕ) (fits : AllFit k x y z w) where
+  pub block-few : ones x + ones y + ones z + ones w ≤ blockWords * k
+  block-few = omega (arith, ones-le k x (fits .0), ones-le k y (fits .1), ones-le k z (fits .2), ones-le k w (fits .3))
+
+  -- words that have every one in common are full
+  pub block-full : bitAnd (bitAnd (bitAnd x y) z) w ≡ 2 ^ k - 1 → ones x + ones y + ones z + ones w ≡ blockWords * k
+  block-full e =
+      let two = bitAnd x y in
+      let three = bitAnd two z in
+      let in-three = and-le-l three w in
+      let in-two = and-le-l two z in
+      let x-full = full-ones k x (fits .0) (omega (arith, in-three, in-two, and-le-l x y)) in
+      let y-full = full-ones k y (fits .1) (omega (arith, in-three, in-two, and-le-r x y)) in
+      let z-full = full-ones k z (fits .2) (omega (arith, in-three, and-le-r two z)) in
+      let w-full = full-ones k w (fits .3) (omega (arith, and-le-r three w)) in
+      omega arith
 
 -- ---- the zeros above its highest one
 
@@ -203,3 +228,16 @@ module _ (s : List ℕ) (a k w : ℕ) (word : IsWord s a k w) (fits : w < 2 ^ wo
           let above = ltb-false low wordBits q in
           let none = trailing-all wordBits (2 ^ wordBits - 1 - w) (omega arith) (omega arith) in
           absurd (omega arith)
+
+-- ---- a block of words
+
+module _ (s : List ℕ) (a k x y z w : ℕ) (fits : AllFit wordBits x y z w) where
+  pub block-count : IsWord s a k x → IsWord s a (k + 1) y → IsWord s a (k + 2) z → IsWord s a (k + 3) w
+      → size (table (wordBits * (k + blockWords)) (tickedAt s a)) ≡ size (table (wordBits * k) (tickedAt s a)) + (ones x + ones y + ones z + ones w)
+  block-count in-x in-y in-z in-w =
+      let up : (j : ℕ) → k + j + 1 ≡ k + (j + 1) = λ j. omega arith in
+      let first = word-count s a k x in-x (fits .0) in
+      let second = rw (up 1) at (word-count s a (k + 1) y in-y (fits .1)) in
+      let third = rw (up 2) at (word-count s a (k + 2) z in-z (fits .2)) in
+      let fourth = rw (up 3) at (word-count s a (k + 3) w in-w (fits .3)) in
+      omega arith

@@ -7,12 +7,18 @@ use lib.Dec.{eqb}
 use lib.ListN.{getD}
 use Rattle.ledger_changes.specs.Rows.{tickedAt}
 
--- A word has 64 bits, and a row 16 words.
+-- A word has 64 bits, and a row 16 words, which are counted in blocks of four.
 abbrev pub wordBits : ℕ
 wordBits = 64
 
 abbrev pub wordCount : ℕ
 wordCount = 16
+
+abbrev pub blockWords : ℕ
+blockWords = 4
+
+abbrev pub blockCount : ℕ
+blockCount = 4
 
 -- Bit k of x, counted from the lowest.
 abbrev pub bitOf : ℕ → ℕ → Bool

@@ -1,6 +1,5 @@
 -- `ledger_counts::first_gap` meets its contract. The invariants: the first gap is that of the rows from `row` on; of that row the
 -- first i positions are ticked. Assumes nothing.
-use native.Mathlib.Nat.{sub-zero}
 use Rattle.ledger_changes.proofs.Scans.{Each, each-none, each-more}
 use Prim.Native.Nat.{_-_, _≤_, _<_}
 use mathlib.Core.Bool.{true}
@@ -29,7 +28,7 @@ abbrev μ-rows : tie.MeasureT-rows
 μ-rows s gap₀ row₀ gap row = rowCount - row
 
 rows-holds : tie.Need-rows-holds Inv-loop μ-loop Inv-rows μ-rows
-rows-holds c = (omega arith, refl, rw sub-zero)
+rows-holds c = (omega arith, refl, refl)
 
 mul-a : tie.Need-mul-a Inv-loop μ-loop Inv-rows μ-rows
 mul-a c = omega arith

@@ -15,13 +15,10 @@ abbrev Inv-loop : tie.InvT-loop
 Inv-loop s a end k₀ k = (k ≤ wordCount) × Fails (λ i. not (tickedAt s a i)) (wordBits * k)
 
 abbrev μ-loop : tie.MeasureT-loop
-μ-loop s a end k₀ k = end - wordBits * k
+μ-loop s a end k₀ k = wordCount - k
 
 loop-holds : tie.Need-loop-holds Inv-loop μ-loop
 loop-holds c = (omega arith, each-none _ _)
-
-mul-loop : tie.Need-mul-loop Inv-loop μ-loop
-mul-loop c = omega arith
 
 tick-word-requires : tie.Need-tick-word-requires Inv-loop μ-loop
 tick-word-requires c κs = omega arith
@@ -82,7 +79,6 @@ lowest-unticked-spec =
     Inv-loop
     μ-loop
     loop-holds
-    mul-loop
     tick-word-requires
     mul-at
     cast-at

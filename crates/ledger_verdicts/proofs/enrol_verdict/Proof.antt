@@ -1,8 +1,13 @@
 -- `ledger_verdicts::enrol_verdict` meets its contract. Assumes nothing.
+use mathlib.Core.Bool.{true, false}
+use mathlib.Core.Path.{_≡_}
+use lib.Dec.{eqb}
 use borrow.Author.Tests.{eq-eqb, ne-eqb}
 use Rattle.octets.proofs.Laws.{failed, passed}
 use Rattle.refusals.specs.Judge.{verdict, judge}
 use Rattle.ledger_sheet.proofs.Clauses.{right-parts}
+use Rattle.ledger_sheet.specs.Sheet.{rowCount}
+use Rattle.ledger_changes.specs.Bytes.{freeRow}
 use Rattle.ledger_verdicts.specs.Verdicts.{verdictWords}
 use borrow.Author.Needs.{needs}
 use Rattle.ledger_verdicts.proofs.enrol_verdict.Statement.{statement}
@@ -66,14 +71,15 @@ returns-5 c =
     let number = new .before .before in
     let valid = number .before .before in
     let right = valid .before .before in
+    let s = right .before .before .args .s .now in
+    let full : eqb (freeRow s) rowCount ≡ true = rw (← c .before .free-row .ensures) (eq-eqb _ _ (c .if5 .taken)) in
     rw (
       passed (right .before .before .pre) (right .if1 .left),
       passed (valid .before .valid .ensures) (valid .if2 .left),
       passed (number .before .is-number .ensures) (number .if3 .left),
       ← new .before .has-key .ensures,
       new .if4 .left,
-      ← c .before .free-row .ensures,
-      eq-eqb _ _ (c .if5 .taken),
+      full,
     )
 
 returns-6 : tie.Need-returns-6
@@ -83,14 +89,15 @@ returns-6 c =
     let number = new .before .before in
     let valid = number .before .before in
     let right = valid .before .before in
+    let s = right .before .before .args .s .now in
+    let room : eqb (freeRow s) rowCount ≡ false = rw (← c .before .free-row .ensures) (ne-eqb _ _ (c .if5 .left)) in
     rw (
       passed (right .before .before .pre) (right .if1 .left),
       passed (valid .before .valid .ensures) (valid .if2 .left),
       passed (number .before .is-number .ensures) (number .if3 .left),
       ← new .before .has-key .ensures,
       new .if4 .left,
-      ← c .before .free-row .ensures,
-      ne-eqb _ _ (c .if5 .left),
+      room,
     )
 
 pub enrol-verdict-spec : {M : Type 1} → statement M

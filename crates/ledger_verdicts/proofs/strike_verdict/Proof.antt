@@ -1,7 +1,10 @@
 -- `ledger_verdicts::strike_verdict` meets its contract. Assumes nothing.
+use mathlib.Core.Bool.{true, false}
+use mathlib.Core.Path.{_≡_}
 use Rattle.octets.proofs.Laws.{failed, passed}
 use Rattle.refusals.specs.Judge.{verdict, judge}
 use Rattle.ledger_sheet.proofs.Clauses.{right-parts}
+use Rattle.ledger_changes.specs.Bytes.{noneHasOpen}
 use Rattle.ledger_verdicts.specs.Verdicts.{verdictWords}
 use Rattle.ledger_verdicts.proofs.strike_verdict.Statement.{statement}
 use Rattle.ledger_verdicts.proofs.strike_verdict.Tie as tie
@@ -29,22 +32,18 @@ unfolding verdictWords judge
 returns-3 c =
     let there = c .before .before in
     let right = there .before .before in
-    rw (
-      passed (right .before .before .pre) (right .if1 .left),
-      passed (there .before .is-row .ensures) (there .if2 .left),
-      failed (c .before .is-idle .ensures) (c .if3 .taken),
-    )
+    let g = right .before .before .args in
+    let busy : noneHasOpen (g .s .now) (g .row) ≡ false = failed (c .before .is-idle .ensures) (c .if3 .taken) in
+    rw (passed (right .before .before .pre) (right .if1 .left), passed (there .before .is-row .ensures) (there .if2 .left), busy)
 
 returns-4 : tie.Need-returns-4
 unfolding verdictWords judge
 returns-4 c =
     let there = c .before .before in
     let right = there .before .before in
-    rw (
-      passed (right .before .before .pre) (right .if1 .left),
-      passed (there .before .is-row .ensures) (there .if2 .left),
-      passed (c .before .is-idle .ensures) (c .if3 .left),
-    )
+    let g = right .before .before .args in
+    let idle : noneHasOpen (g .s .now) (g .row) ≡ true = passed (c .before .is-idle .ensures) (c .if3 .left) in
+    rw (passed (right .before .before .pre) (right .if1 .left), passed (there .before .is-row .ensures) (there .if2 .left), idle)
 
 pub strike-verdict-spec : {M : Type 1} → statement M
 strike-verdict-spec = tie.close (tie.spec returns is-row-requires returns-2 is-idle-requires returns-3 returns-4)
