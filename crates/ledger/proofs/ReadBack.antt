@@ -11,7 +11,9 @@ use Rattle.ledger_model.specs.Step.{Enrol}
 use Rattle.octets.proofs.Laws.{Bytes}
 use Rattle.ledger_sheet.specs.Sheet.{keySize, firstSize, rowAt}
 use Rattle.ledger_changes.specs.Rows.{rowValueAt, blankRow}
-use Rattle.ledger_changes.specs.Bytes.{Outcome, judged, freeRow, enrolAt}
+use Rattle.ledger_sheet.specs.Outcome.{Outcome, judged}
+use Rattle.ledger_rows.specs.Scans.{freeRow}
+use Rattle.ledger_changes.specs.Bytes.{enrolAt}
 use Rattle.ledger_sheet.specs.Words.{rowWords}
 use Rattle.ledger_sheet.specs.declared.Answer.the-variants as A
 use Rattle.ledger_sheet.specs.declared.RowAnswer.the-variants as R

@@ -4,7 +4,7 @@
 pub mod judged;
 
 use ledger_changes::desks::make_fresh;
-use ledger_changes::rows::find_row;
+use ledger_rows::find_row;
 use ledger_sheet::Answer;
 use ledger_sheet::GapAnswer;
 use ledger_sheet::ReportAnswer;

@@ -20,7 +20,8 @@ use Rattle.octets.proofs.Parts.{same-part}
 use Rattle.ledger_sheet.specs.Sheet.{usedWordSize, rowSize, ticksAt, ticksSize}
 use Rattle.ledger_sheet.specs.Sheet as New
 use Rattle.ledger_sheet.specs.declared.Row.{Row}
-use Rattle.ledger_changes.specs.Rows.{table, tickedAt, ticksOf, rowBytes, rowValueAt}
+use Rattle.ledger_rows.specs.Ticks.{table, tickedAt, ticksOf}
+use Rattle.ledger_changes.specs.Rows.{rowBytes, rowValueAt}
 use Rattle.ledger_layout.specs.Layout.{tickBytes, placeBytes}
 use Rattle.ledger_layout.proofs.Parts.{number-within}
 use Rattle.ledger_layout.proofs.Chunks.{length-table, getD-table, table-is}

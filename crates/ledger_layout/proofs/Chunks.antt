@@ -9,7 +9,7 @@ use lib.ListN.{length, getD, set, replicate, length-append, replicate-append-rep
 use lib.Seq.{ext-getD}
 use Rattle.octets.specs.Octets.{part, put}
 use Rattle.octets.proofs.Parts.{part-join}
-use Rattle.ledger_changes.specs.Rows.{table}
+use Rattle.ledger_rows.specs.Ticks.{table}
 use Rattle.ledger_layout.specs.Layout.{laid}
 use Rattle.ledger_layout.proofs.Parts.{part-seam, put-seam}
 

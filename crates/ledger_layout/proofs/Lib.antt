@@ -1,3 +1,4 @@
+pub mod Judged
 pub mod Parts
 pub mod Chunks
 pub mod Ticks

@@ -13,8 +13,9 @@ use Rattle.refusals.specs.Judge.{Rule, verdict, judge}
 use Rattle.refusals.proofs.Laws.{number-positive}
 use Rattle.refusals.proofs.Judged.{NoneHolds, Numbered, verdict-none}
 use Rattle.ledger_sheet.specs.Sheet.{sheetSize, rowCount, deskCount, used, isUsed, deskRow, right}
-use Rattle.ledger_changes.specs.Bytes.{Outcome, judged, rowWith, freeRow}
-use Rattle.ledger_changes.proofs.Scans.{lowest-within}
+use Rattle.ledger_sheet.specs.Outcome.{Outcome, judged}
+use Rattle.ledger_rows.specs.Scans.{rowWith, freeRow}
+use Rattle.ledger_rows.proofs.Scans.{lowest-within}
 use Rattle.ledger_sheet.specs.Words.{answerWords}
 use Rattle.ledger_sheet.specs.declared.Answer.{Answer}
 use Rattle.ledger_sheet.specs.declared.Answer.the-variants as A

@@ -8,7 +8,7 @@ use Rattle.refusals.specs.Judge.{Rule, _when_, verdict}
 use Rattle.keys.specs.Key.{validKey}
 use Rattle.keys.specs.Numbers.{isNumber}
 use Rattle.ledger_sheet.specs.Sheet.{rowCount, deskCount, isRow, isClosed, right}
-use Rattle.ledger_changes.specs.Bytes.{hasKey, freeRow, noneHasOpen}
+use Rattle.ledger_rows.specs.Scans.{hasKey, freeRow, noneHasOpen}
 
 abbrev pub enrolRows : (key first : ℕ) → List ℕ → List (Rule ℕ)
 enrolRows key first s =

@@ -1,9 +1,9 @@
 // Whether a call of the ledger is refused, judged in the order of the refusal table. Nothing is changed. A call that may be made again and
 // again is handed whether the sheet is right: one that such a call left is.
-use ledger_changes::desks::is_closed;
-use ledger_changes::desks::is_idle;
-use ledger_changes::rows::free_row;
-use ledger_changes::rows::has_key;
+use ledger_rows::free_row;
+use ledger_rows::has_key;
+use ledger_rows::is_closed;
+use ledger_rows::is_idle;
 use ledger_sheet::Answer;
 use ledger_sheet::DESKS;
 use ledger_sheet::ROWS;

@@ -14,8 +14,7 @@ use Rattle.sfdu_headers.specs.Ranges.{isRsrBand, isBand, inRange, judgedBytes, 
 use Rattle.sfdu_headers.specs.Headers.{readHeaders}
 use Rattle.keys.specs.Key.{validKey, telemetryKeyCall}
 use Rattle.keys.specs.Numbers.{modulus}
-use Rattle.ledger_model.specs.Positions.{position, noTicks, same, size, anyTicked, missing, least}
-use Rattle.ledger_model.specs.Positions.{numberAt as numberAtPosition}
+use Rattle.ledger_model.specs.Positions.{position, noTicks, same, size, anyTicked, missing, least, numberAt as numberAtPosition}
 use Rattle.ledger_model.specs.Book.{fresh, hasKey, placeWith, allUsed, lowestFree}
 use Rattle.ledger_model.specs.Step.{RowReport, Call, Ask, refusals, asked, effect, afterRefusal, step, run}
 use Rattle.ledger_model.proofs.WellFormed.{run-well-formed}
