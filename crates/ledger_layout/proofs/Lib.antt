@@ -7,6 +7,8 @@ pub mod Places
 pub mod Used
 pub mod Right
 pub mod Read
+pub mod BothWays
+pub mod Sizes
 pub mod Calls
 pub mod Sheets
 pub mod Demand3
