@@ -9,9 +9,12 @@ use Rattle.refusals.specs.Judge.{Rule, _when_}
 use Rattle.ledger_model.specs.Step.{Find, RowReport, FirstGap, Call, Enrol, Ask, Open, Mark, Save, Drop, Strike}
 use Rattle.octets.proofs.Laws.{Bytes}
 use Rattle.ledger_sheet.specs.Sheet.{rowCount, rowAt, right}
-use Rattle.ledger_changes.specs.Bytes.{Outcome, done, rowWith, freeRow, enrolAt, strikeAt, openAt, clearDesk, markDesk, saveAt, reportWords, gapFrom}
-use Rattle.ledger_verdicts.specs.Calls.{enrolCall, findCall, openCall, markCall, saveCall, dropCall, reportCall, gapCall, strikeCall}
-use Rattle.ledger_changes.proofs.Calls.{refuses, passes, accepts}
+use Rattle.ledger_sheet.specs.Outcome.{Outcome, done}
+use Rattle.ledger_rows.specs.Scans.{rowWith, freeRow}
+use Rattle.ledger_changes.specs.Bytes.{enrolAt, strikeAt, openAt, clearDesk, markDesk, saveAt}
+use Rattle.ledger_counts.specs.Counts.{reportWords, gapFrom}
+use Rattle.ledger_layout.specs.Calls.{enrolCall, findCall, openCall, markCall, saveCall, dropCall, reportCall, gapCall, strikeCall}
+use Rattle.ledger_layout.proofs.Judged.{refuses, passes, accepts}
 use Rattle.ledger_layout.specs.Layout.{call, onSheet}
 use Rattle.ledger_layout.proofs.Sheets.{call-law}
 use Rattle.ledger_verdicts.proofs.Judged.{Law}

@@ -20,7 +20,8 @@ use Rattle.ledger_model.proofs.WellFormed.{run-well-formed}
 use Rattle.ledger_model.proofs.Private.{model-private}
 use Rattle.ledger_sheet.specs.Sheet.{sheetSize, workedAt, deskSize, deskCount, deskAt}
 use Rattle.ledger_changes.specs.Bytes.{headerBytes, openDesk}
-use Rattle.ledger_layout.specs.Layout.{placeBytes, deskBytes, countUsed, laid, layout}
+use Rattle.ledger_layout.specs.Layout.{placeBytes, deskBytes, countUsed, layout}
+use Rattle.octets.specs.Lists.{laid}
 use Rattle.ledger_layout.specs.Demand3.{headerAndRows}
 use Rattle.octets.proofs.Parts.{part-seam}
 use Rattle.ledger_layout.proofs.Rows.{length-place}

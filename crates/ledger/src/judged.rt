@@ -8,6 +8,7 @@ use ledger_changes::rows::strike_row;
 use ledger_changes::ticks::mark_desk;
 use ledger_sheet::Answer;
 use ledger_sheet::RowAnswer;
+use ledger_verdicts::Verdict;
 use ledger_verdicts::desk_verdict;
 use ledger_verdicts::enrol_verdict;
 use ledger_verdicts::open_verdict;
@@ -23,7 +24,7 @@ pub fn enrol(s: &mut [u8], fine: bool, key: u64, first: u32) -> RowAnswer
     ensures { λ r. ⌜ (rowWords r, now (s .exit)) ≡ onSheet (call (Enrol key first)) (now (s .entry)) ⌝ }
 {
     let verdict = enrol_verdict(s, fine, key, first);
-    if let Answer::Refused(why) = verdict {
+    if let Verdict::Refused(why) = verdict {
         return RowAnswer::Refused(why);
     }
     RowAnswer::Row(enrol_row(s, key, first))
@@ -34,7 +35,7 @@ pub fn open(s: &mut [u8], fine: bool, desk: u32, row: u32) -> Answer
     ensures { λ r. ⌜ (answerWords r, now (s .exit)) ≡ onSheet (call (Open desk row)) (now (s .entry)) ⌝ }
 {
     let verdict = open_verdict(s, fine, desk, row);
-    if let Answer::Refused(why) = verdict {
+    if let Verdict::Refused(why) = verdict {
         return Answer::Refused(why);
     }
     open_desk(s, desk as usize, row as usize);
@@ -46,7 +47,7 @@ pub fn mark(s: &mut [u8], fine: bool, desk: u32, number: u32, on: bool) -> Answe
     ensures { λ r. ⌜ (answerWords r, now (s .exit)) ≡ onSheet (call (Mark on desk number)) (now (s .entry)) ⌝ }
 {
     let verdict = desk_verdict(s, fine, desk);
-    if let Answer::Refused(why) = verdict {
+    if let Verdict::Refused(why) = verdict {
         return Answer::Refused(why);
     }
     mark_desk(s, desk as usize, number, on)
@@ -57,7 +58,7 @@ pub fn drop(s: &mut [u8], fine: bool, desk: u32) -> Answer
     ensures { λ r. ⌜ (answerWords r, now (s .exit)) ≡ onSheet (call (Drop desk)) (now (s .entry)) ⌝ }
 {
     let verdict = desk_verdict(s, fine, desk);
-    if let Answer::Refused(why) = verdict {
+    if let Verdict::Refused(why) = verdict {
         return Answer::Refused(why);
     }
     clear_desk(s, desk as usize);
@@ -69,7 +70,7 @@ pub fn save(s: &mut [u8], fine: bool, desk: u32) -> Answer
     ensures { λ r. ⌜ (answerWords r, now (s .exit)) ≡ onSheet (call (Save desk)) (now (s .entry)) ⌝ }
 {
     let verdict = desk_verdict(s, fine, desk);
-    if let Answer::Refused(why) = verdict {
+    if let Verdict::Refused(why) = verdict {
         return Answer::Refused(why);
     }
     save_desk(s, desk as usize)
@@ -80,7 +81,7 @@ pub fn strike(s: &mut [u8], fine: bool, row: u32) -> Answer
     ensures { λ r. ⌜ (answerWords r, now (s .exit)) ≡ onSheet (call (Strike row)) (now (s .entry)) ⌝ }
 {
     let verdict = strike_verdict(s, fine, row);
-    if let Answer::Refused(why) = verdict {
+    if let Verdict::Refused(why) = verdict {
         return Answer::Refused(why);
     }
     strike_row(s, row as usize);

@@ -4,13 +4,14 @@
 pub mod judged;
 
 use ledger_changes::desks::make_fresh;
-use ledger_changes::rows::find_row;
+use ledger_rows::find_row;
 use ledger_sheet::Answer;
 use ledger_sheet::GapAnswer;
 use ledger_sheet::ReportAnswer;
 use ledger_sheet::RowAnswer;
 use ledger_sheet::SHEET;
 use ledger_sheet::right::is_sheet;
+use ledger_verdicts::Verdict;
 use ledger_verdicts::find_verdict;
 use ledger_verdicts::report_verdict;
 use refusals::Refusal;
@@ -44,7 +45,7 @@ pub fn find(s: &[u8], key: u64) -> RowAnswer
     ensures { λ r. ⌜ (rowWords r, now (s .entry)) ≡ onSheet (call (Ask (Find key))) (now (s .entry)) ⌝ }
 {
     let verdict = find_verdict(s, key);
-    if let Answer::Refused(why) = verdict {
+    if let Verdict::Refused(why) = verdict {
         return RowAnswer::Refused(why);
     }
     RowAnswer::Row(find_row(s, key) as u32)
@@ -109,7 +110,7 @@ pub fn row_report(s: &[u8], row: u32) -> ReportAnswer
     ensures { λ r. ⌜ (reportAnswerWords r, now (s .entry)) ≡ onSheet (call (Ask (RowReport row))) (now (s .entry)) ⌝ }
 {
     let verdict = report_verdict(s, row);
-    if let Answer::Refused(why) = verdict {
+    if let Verdict::Refused(why) = verdict {
         return ReportAnswer::Refused(why);
     }
     ledger_counts::row_report(s, row as usize)

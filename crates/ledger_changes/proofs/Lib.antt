@@ -1,6 +1,4 @@
 pub mod Puts
 pub mod Written
-pub mod Scans
-pub mod Bits
+pub mod Marks
 pub mod ReadBack
-pub mod Calls

@@ -1,11 +1,12 @@
 -- An enrolled row reads back as the value it was written from: the row with no ticks. Assumes nothing.
 use Prim.Native.Nat.{ℕ, zero, suc, _+_, _^_, _≤_, _<_}
+use native.Mathlib.Nat.{eq-or-lt-of-le}
 use native.Mathlib.Omega.{arith}
 use mathlib.Core.List.{List, _++_}
-use mathlib.Core.Logic.{inr}
+use mathlib.Core.Logic.{inr, ⊎-elim}
 use mathlib.Core.Path.{_≡_, refl, sym, _∙_}
-use lib.ListN.{length, getD, length-append, length-replicate}
-use lib.Seq.{ext-getD}
+use lib.ListN.{length, getD, set, length-append, length-replicate}
+use lib.Seq.{ext-getD, getD-set-same, getD-set-other}
 use Rattle.octets.specs.Octets.{numberAt, bytesOf, part, put}
 use Rattle.octets.proofs.Laws.{length-bytesOf, length-put, length-part, part-at}
 use Rattle.octets.proofs.Parts.{number-first, number-second, number-bytes, part-second, part-whole}
@@ -105,3 +106,13 @@ enrolled-blank s i key first l b k f =
     let lq = length-put (put s (rowAt i) row) usedAt count (omega arith) in
     value-is (put (put s (rowAt i) row) usedAt count) (rowAt i) key first blankTicks (omega arith) k f length-blank (λ j q.
     put-outside (put s (rowAt i) row) usedAt count (rowAt i + j) (omega arith) (inr (omega arith)) ∙ put-inside s (rowAt i) row j (omega arith) (omega arith))
+
+-- ---- numbers read into an array, one a turn
+
+pub read-more : (f : ℕ → ℕ) (xs : List ℕ) (i x : ℕ) → ((j : ℕ) → j < i → getD xs j 0 ≡ f j) → x ≡ f i → i < length xs
+    → (j : ℕ) → j < i + 1 → getD (set xs i x) j 0 ≡ f j
+read-more f xs i x known last l j b =
+    ⊎-elim
+    (λ (e : j ≡ i). rw e (getD-set-same xs i x 0 l ∙ last))
+    (λ (q : j < i). getD-set-other xs i j x 0 (λ e. omega arith) ∙ known j q)
+    (eq-or-lt-of-le (omega arith))

@@ -1,25 +1,12 @@
--- One row of the sheet, or a desk's copy of one: its positions, its bytes, and its value (document 01, "The ledger sheet").
+-- One row of the sheet, or a desk's copy of one: a position ticked and unticked, its bytes, and its value (document 01, "The ledger sheet").
 -- Assumes nothing.
-use Prim.Native.Nat.{ℕ, _+_, _-_, _/_, _%_, _^_}
-use mathlib.Core.Bool.{Bool}
+use Prim.Native.Nat.{ℕ, _+_, _-_}
 use mathlib.Core.List.{List, _++_}
-use lib.Dec.{eqb}
 use lib.ListN.{getD, set, replicate}
-use Rattle.ledger_model.specs.Positions.{rowLength, Positions}
 use Rattle.octets.specs.Octets.{bytesOf, part}
-unfoldable pub use Rattle.octets.specs.Lists.{table}
-use Rattle.ledger_sheet.specs.Sheet.{usedWordSize, usedWord, keySize, firstSize, ticksAt, ticksSize, byteBits, keyAt, firstNumberAt}
+use Rattle.ledger_sheet.specs.Sheet.{usedWordSize, usedWord, keySize, firstSize, ticksAt, ticksSize, keyAt, firstNumberAt}
+use Rattle.ledger_rows.specs.Ticks.{tickByteAt, tickBit}
 use Rattle.ledger_sheet.specs.declared.Row.{Row}
-
--- Position i of the row or copy at offset a: tick byte i / 8, and in it the bit that counts 2 ^ (i % 8).
-abbrev pub tickByteAt : ℕ → ℕ → ℕ
-tickByteAt a i = a + ticksAt + i / byteBits
-
-abbrev pub tickBit : ℕ → ℕ
-tickBit i = 2 ^ (i % byteBits)
-
-unfoldable pub tickedAt : List ℕ → ℕ → ℕ → Bool
-tickedAt s a i = eqb (getD s (tickByteAt a i) 0 / tickBit i % 2) 1
 
 -- Position i's bit set, or cleared.
 unfoldable pub setTick : List ℕ → ℕ → ℕ → List ℕ
@@ -27,10 +14,6 @@ setTick s a i = set s (tickByteAt a i) (getD s (tickByteAt a i) 0 + tickBit i)
 
 unfoldable pub clearTick : List ℕ → ℕ → ℕ → List ℕ
 clearTick s a i = set s (tickByteAt a i) (getD s (tickByteAt a i) 0 - tickBit i)
-
--- The set of the row's ticked positions.
-unfoldable pub ticksOf : List ℕ → ℕ → Positions
-ticksOf s a = table rowLength (tickedAt s a)
 
 -- A row is 144 bytes: the used word, 1 (4), key (8), first number (4), ticks (128).
 unfoldable pub rowBytes : (key first : ℕ) → List ℕ → List ℕ

@@ -1,6 +1,6 @@
 // Desks, and the sheet as a whole: made fresh, opened, saved, cleared.
+use ledger_rows::desk_row;
 use ledger_sheet::Answer;
-use ledger_sheet::CLOSED;
 use ledger_sheet::DESK;
 use ledger_sheet::DESK_COUNT_AT;
 use ledger_sheet::DESK_ROW_AT;
@@ -30,8 +30,8 @@ ghost use mathlib.Core.Path.{_≡_};
 ghost use Prim.Native.Nat.{_+_, _≤_, _<_};
 ghost use lib.ListN.{length};
 ghost use Rattle.octets.specs.Octets.{put};
-ghost use Rattle.ledger_sheet.specs.Sheet.{sheetSize, rowsStart, rowCount, deskCount, deskRow, isClosed};
-ghost use Rattle.ledger_changes.specs.Bytes.{headerBytes, freshSheet, noneHasOpen, openAt, clearDesk, isCurrent, stored, saveAt};
+ghost use Rattle.ledger_sheet.specs.Sheet.{sheetSize, rowsStart, rowCount, deskCount, deskRow};
+ghost use Rattle.ledger_changes.specs.Bytes.{headerBytes, freshSheet, openAt, clearDesk, isCurrent, stored, saveAt};
 ghost use Rattle.ledger_sheet.specs.Words.{answerWords};
 
 // Makes a slice of a sheet's length a fresh sheet.
@@ -54,34 +54,6 @@ fn write_header(s: &mut [u8], used: u64)
     write_be(s, ROWS_START_AT, NUMBER, ROWS_AT as u64);
     write_be(s, DESK_COUNT_AT, NUMBER, DESKS as u64);
     write_be(s, DESKS_START_AT, NUMBER, DESKS_AT as u64);
-}
-
-// Whether desk d is closed.
-pub fn is_closed(s: &[u8], d: usize) -> bool
-    requires { ⌜ (length (now s) ≡ sheetSize) × (d < deskCount) ⌝ }
-    ensures { λ r. ⌜ r ≡ isClosed (now (s .entry)) d ⌝ }
-{
-    s[DESKS_AT + DESK * d] == CLOSED
-}
-
-// Whether no desk has the row open.
-pub fn is_idle(s: &[u8], row: usize) -> bool
-    requires { ⌜ length (now s) ≡ sheetSize ⌝ }
-    ensures { λ r. ⌜ r ≡ noneHasOpen (now (s .entry)) row ⌝ }
-{
-    let mut idle = true;
-    for d in 0..DESKS {
-        idle &= is_closed(s, d) | (desk_row(s, d) != row);
-    }
-    idle
-}
-
-// The row that desk d names.
-fn desk_row(s: &[u8], d: usize) -> usize
-    requires { ⌜ (length (now s) ≡ sheetSize) × (d < deskCount) ⌝ }
-    ensures { λ r. ⌜ r ≡ deskRow (now (s .entry)) d ⌝ }
-{
-    s[DESKS_AT + DESK * d + DESK_ROW_AT] as usize
 }
 
 // Opens a row at desk d: both copies become the row.

@@ -1,11 +1,11 @@
 // Rows: as values, by their key, enrolled and struck.
+use ledger_rows::free_row;
 use ledger_sheet::FIRST;
 use ledger_sheet::FIRST_AT;
 use ledger_sheet::KEY;
 use ledger_sheet::KEY_AT;
 use ledger_sheet::NUMBER;
 use ledger_sheet::ROW;
-use ledger_sheet::ROWS;
 use ledger_sheet::ROWS_AT;
 use ledger_sheet::Row;
 use ledger_sheet::TICKS;
@@ -14,7 +14,6 @@ use ledger_sheet::USED;
 use ledger_sheet::USED_AT;
 use ledger_sheet::USED_WORD;
 use ledger_sheet::right::first_at;
-use ledger_sheet::right::is_used;
 use ledger_sheet::right::key_at;
 use ledger_sheet::right::rows_used;
 use octets::clear;
@@ -25,7 +24,8 @@ ghost use lib.ListN.{length};
 ghost use Rattle.octets.specs.Octets.{part, put};
 ghost use Rattle.ledger_sheet.specs.Sheet.{sheetSize, rowSize, rowCount, ticksSize, used};
 ghost use Rattle.ledger_changes.specs.Rows.{rowBytes, rowValueAt, blankRow};
-ghost use Rattle.ledger_changes.specs.Bytes.{isRowOf, rowWith, hasKey, freeRow, enrolAt, strikeAt};
+ghost use Rattle.ledger_rows.specs.Scans.{freeRow};
+ghost use Rattle.ledger_changes.specs.Bytes.{enrolAt, strikeAt};
 
 // A row with no ticks: the blank map is an array of zeros.
 pub fn blank_row(key: u64, first: u32) -> Row
@@ -79,51 +79,6 @@ fn write_ticks(s: &mut [u8], a: usize, ticks: &[u8])
     for i in 0..TICKS {
         s[a + i] = ticks[i];
     }
-}
-
-// The used row with the key, or 32 where there is none.
-pub fn find_row(s: &[u8], key: u64) -> usize
-    requires { ⌜ length (now s) ≡ sheetSize ⌝ }
-    ensures { λ r. ⌜ r ≡ rowWith (now (s .entry)) key ⌝ }
-{
-    for i in 0..ROWS {
-        if is_row_of(s, key, i) {
-            return i;
-        }
-    }
-    ROWS
-}
-
-// Whether row i is used and has the key.
-fn is_row_of(s: &[u8], key: u64, i: usize) -> bool
-    requires { ⌜ (length (now s) ≡ sheetSize) × (i < rowCount) ⌝ }
-    ensures { λ r. ⌜ r ≡ isRowOf (now (s .entry)) key i ⌝ }
-{
-    if !is_used(s, i) {
-        return false;
-    }
-    key_at(s, ROWS_AT + ROW * i) == key
-}
-
-// Whether a used row has the key.
-pub fn has_key(s: &[u8], key: u64) -> bool
-    requires { ⌜ length (now s) ≡ sheetSize ⌝ }
-    ensures { λ r. ⌜ r ≡ hasKey (now (s .entry)) key ⌝ }
-{
-    find_row(s, key) < ROWS
-}
-
-// The lowest free row, or 32 where there is none.
-pub fn free_row(s: &[u8]) -> usize
-    requires { ⌜ length (now s) ≡ sheetSize ⌝ }
-    ensures { λ r. ⌜ r ≡ freeRow (now (s .entry)) ⌝ }
-{
-    for i in 0..ROWS {
-        if !is_used(s, i) {
-            return i;
-        }
-    }
-    ROWS
 }
 
 // Enrols a stream in the lowest free row, and answers the row.

@@ -1,4 +1,6 @@
 // Ticks in a row or a desk's copy of one.
+use ledger_rows::is_ticked;
+use ledger_rows::tick_bit;
 use ledger_sheet::Answer;
 use ledger_sheet::BYTE_BITS;
 use ledger_sheet::DESK;
@@ -11,11 +13,9 @@ use ledger_sheet::right::first_at;
 use ledger_sheet::right::key_at;
 use refusals::Refusal;
 ghost use mathlib.Core.Path.{_≡_};
-ghost use Prim.Native.Nat.{_+_, _≤_, _<_, _^_};
+ghost use Prim.Native.Nat.{_+_, _<_};
 ghost use lib.ListN.{length};
-ghost use Rattle.ledger_model.specs.Positions.{rowLength};
-ghost use Rattle.ledger_sheet.specs.Sheet.{sheetSize, rowSize, byteBits, deskCount};
-ghost use Rattle.ledger_changes.specs.Rows.{tickedAt};
+ghost use Rattle.ledger_sheet.specs.Sheet.{sheetSize, rowSize, deskCount};
 ghost use Rattle.ledger_changes.specs.Bytes.{markRow, markPosition, markDesk};
 ghost use Rattle.ledger_sheet.specs.Words.{answerWords};
 
@@ -65,19 +65,4 @@ fn mark_position(row: &mut [u8], i: usize, on: bool) -> Answer
     }
     row[at] -= bit;
     Answer::Done
-}
-
-// Whether position i of the row or the copy at offset a is ticked.
-pub fn is_ticked(s: &[u8], a: usize, i: usize) -> bool
-    requires { ⌜ (a + rowSize ≤ length (now s)) × (i < rowLength) ⌝ }
-    ensures { λ r. ⌜ r ≡ tickedAt (now (s .entry)) a i ⌝ }
-{
-    s[a + TICKS_AT + i / BYTE_BITS] / tick_bit(i % BYTE_BITS) % 2 == 1
-}
-
-fn tick_bit(k: usize) -> u8
-    requires { ⌜ k < byteBits ⌝ }
-    ensures { λ r. ⌜ r ≡ 2 ^ k ⌝ }
-{
-    1u8 << k
 }

@@ -10,7 +10,7 @@ use borrow.Author.Tests.{ne-eqb}
 use Rattle.ledger_model.specs.Book.{Book}
 use Rattle.octets.proofs.Laws.{and-split}
 use Rattle.ledger_sheet.specs.Sheet.{sheetSize, right}
-use Rattle.ledger_changes.specs.Bytes.{Outcome}
+use Rattle.ledger_sheet.specs.Outcome.{Outcome}
 use Rattle.ledger_layout.specs.Layout.{layout, bookOf, call, onSheet}
 use Rattle.ledger_layout.proofs.Right.{reads-back}
 use Rattle.ledger_layout.proofs.Sheets.{on-layout}

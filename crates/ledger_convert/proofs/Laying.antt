@@ -17,7 +17,8 @@ use Rattle.octets.proofs.Parts.{part-join, part-whole, part-first, part-second}
 use Rattle.octets.proofs.Puts.{put-next, set-put}
 use Rattle.ledger_sheet.specs.Sheet.{sheetSize, usedWordSize, rowSize, rowCount, rowsStart, ticksSize, deskSize, deskCount, deskRowAt, deskZerosAt, deskZerosSize, openedAt, workedAt, desksStart, headerNumberSize, usedAt, rowAt, deskAt, count}
 use Rattle.ledger_sheet.specs.declared.Row.{Row}
-use Rattle.ledger_changes.specs.Rows.{table, rowBytes, rowValueAt}
+use Rattle.octets.specs.Lists.{table}
+use Rattle.ledger_changes.specs.Rows.{rowBytes, rowValueAt}
 use Rattle.ledger_changes.specs.Bytes.{headerBytes, freshSheet, openDesk}
 use Rattle.ledger_changes.proofs.Puts.{put-outside, part-put}
 use Rattle.ledger_changes.proofs.ReadBack.{length-row}

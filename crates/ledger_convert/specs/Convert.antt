@@ -8,8 +8,8 @@ use lib.ListN.{length, getD}
 use Rattle.ledger_model.specs.Positions.{rowLength, Positions}
 use Rattle.ledger_model.specs.Book.{Place, free, row, Desk, closed, working, Book}
 use Rattle.ledger_sheet.specs.Sheet.{sheetSize}
-use Rattle.ledger_changes.specs.Rows.{table}
-use Rattle.ledger_changes.specs.Bytes.{Outcome}
+use Rattle.octets.specs.Lists.{table}
+use Rattle.ledger_sheet.specs.Outcome.{Outcome}
 use Rattle.ledger_layout.specs.Layout.{layout}
 use Rattle.ledger_convert.specs.Old.{ticksAt, byteBits, rowCount, openedAt, workedAt, deskCount, rowAt, deskAt, used, keyAt, firstNumberAt, deskRow, isClosed, right}
 

@@ -1,3 +1,4 @@
+pub mod Highest
 pub mod Missing
 pub mod WordBits
 pub mod WordCounts

@@ -9,8 +9,9 @@ use mathlib.Core.List.{List, [], _∷_}
 use mathlib.Core.Option.{none, some, Option·map}
 use mathlib.Core.Path.{_≡_, refl, sym, ap, _∙_}
 use Rattle.ledger_model.specs.Positions.{size, anyTicked, missing, least}
-use Rattle.ledger_changes.specs.Rows.{table}
-use Rattle.ledger_changes.proofs.Scans.{Each, Fails, Top}
+use Rattle.octets.specs.Lists.{table}
+use Rattle.ledger_rows.proofs.Scans.{Each, Fails}
+use Rattle.ledger_counts.proofs.Highest.{Top}
 
 -- ---- one position more
 

@@ -10,9 +10,11 @@ use borrow.Author.Tests.{not-true, not-false}
 use Rattle.ledger_model.specs.Positions.{rowLength, size, missing, least}
 use Rattle.ledger_model.proofs.Counts.{least-none}
 use Rattle.ledger_sheet.specs.Sheet.{rowAt, isUsed}
-use Rattle.ledger_changes.specs.Rows.{tickedAt, ticksOf}
-use Rattle.ledger_changes.specs.Bytes.{lowest, pastHighest, numberAtPosition, reportWords, gapFrom}
-use Rattle.ledger_changes.proofs.Scans.{Each, lowest-holds, lowest-fails, top-of}
+use Rattle.ledger_rows.specs.Ticks.{tickedAt, ticksOf}
+use Rattle.ledger_rows.specs.Scans.{lowest}
+use Rattle.ledger_counts.specs.Counts.{pastHighest, numberAtPosition, reportWords, gapFrom}
+use Rattle.ledger_rows.proofs.Scans.{Each, lowest-holds, lowest-fails}
+use Rattle.ledger_counts.proofs.Highest.{top-of}
 use Rattle.ledger_counts.proofs.Missing.{missing-count, missing-lowest, missing-none}
 
 module _ (s : List ℕ) (a : ℕ) where

@@ -11,8 +11,8 @@ use lib.ListN.{getD}
 use lib.Pow.{pow-add}
 use Rattle.octets.proofs.Laws.{Bytes}
 use Rattle.ledger_sheet.specs.Sheet.{ticksAt, byteBits}
-use Rattle.ledger_changes.specs.Rows.{tickedAt}
-use Rattle.ledger_changes.proofs.Bits.{below-eight}
+use Rattle.ledger_rows.specs.Ticks.{tickedAt}
+use Rattle.ledger_rows.proofs.Bits.{below-eight}
 use Rattle.ledger_counts.specs.Words.{wordBits, bitOf, littleAt, IsWord}
 
 -- ---- numbers of bytes, the lowest first

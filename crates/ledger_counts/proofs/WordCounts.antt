@@ -12,9 +12,12 @@ use lib.Count.{ones, ones-step, ones-ones, ones-le, leadingZeros, leading-of-zer
 use lib.Dec.{eqb, ltb}
 use lib.Pow.{pow-pos, pow-mono}
 use Rattle.ledger_model.specs.Positions.{size}
-use Rattle.ledger_changes.specs.Rows.{tickedAt, table}
-use Rattle.ledger_changes.specs.Bytes.{lowest, pastHighest}
-use Rattle.ledger_changes.proofs.Scans.{Fails, top-of, past-here, past-skip, past-none, lowest-fails, lowest-holds}
+use Rattle.ledger_rows.specs.Ticks.{tickedAt}
+use Rattle.octets.specs.Lists.{table}
+use Rattle.ledger_rows.specs.Scans.{lowest}
+use Rattle.ledger_counts.specs.Counts.{pastHighest}
+use Rattle.ledger_rows.proofs.Scans.{Fails, lowest-fails, lowest-holds}
+use Rattle.ledger_counts.proofs.Highest.{top-of, past-here, past-skip, past-none}
 use Rattle.ledger_counts.specs.Words.{wordBits, blockWords, bitOf, IsWord}
 use Rattle.ledger_counts.proofs.Missing.{size-cons, size-none, size-more}
 

@@ -1,5 +1,5 @@
 // Row report and first gap, on the bytes of a sheet.
-use ledger_changes::ticks::is_ticked;
+use ledger_rows::is_ticked;
 use ledger_sheet::BYTE_BITS;
 use ledger_sheet::GapAnswer;
 use ledger_sheet::ROW;
@@ -18,8 +18,9 @@ ghost use lib.Count.{ones};
 ghost use lib.ListN.{length};
 ghost use Rattle.ledger_model.specs.Positions.{rowLength, size};
 ghost use Rattle.ledger_sheet.specs.Sheet.{sheetSize, rowSize, rowCount, rowAt, isUsed};
-ghost use Rattle.ledger_changes.specs.Rows.{tickedAt, ticksOf};
-ghost use Rattle.ledger_changes.specs.Bytes.{lowest, pastHighest, numberAtPosition, reportWords, gapFrom};
+ghost use Rattle.ledger_rows.specs.Ticks.{tickedAt, ticksOf};
+ghost use Rattle.ledger_rows.specs.Scans.{lowest};
+ghost use Rattle.ledger_counts.specs.Counts.{pastHighest, numberAtPosition, reportWords, gapFrom};
 ghost use Rattle.ledger_sheet.specs.Words.{reportAnswerWords, gapWords};
 ghost use Rattle.ledger_counts.specs.Words.{wordCount, littleAt, IsWord};
 

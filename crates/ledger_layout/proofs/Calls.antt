@@ -26,11 +26,13 @@ use Rattle.octets.proofs.Laws.{and-true, and-assoc}
 use Rattle.octets.proofs.Parts.{same-part, part-same}
 use Rattle.ledger_sheet.specs.Sheet.{sheetSize, rowSize, rowCount, openedAt, workedAt, deskCount, rowAt, deskAt, used, isUsed, deskRow, isClosed, right}
 use Rattle.ledger_changes.specs.Rows.{rowBytes, blankTicks}
-use Rattle.ledger_changes.specs.Bytes.{Outcome, judged, isRowOf, rowWith, freeRow, counting, enrolAt, noneHasOpen, strikeAt, openDesk, openAt, clearDesk, markDesk, isCurrent, stored, saveAt}
-use Rattle.ledger_verdicts.specs.Calls.{enrolCall, findCall, openCall, dropCall, markCall, saveCall, reportCall, gapCall, strikeCall}
-use Rattle.ledger_changes.specs.Bytes as Bytes
+use Rattle.ledger_sheet.specs.Outcome.{Outcome, judged}
+use Rattle.ledger_rows.specs.Scans.{isRowOf, rowWith, freeRow, noneHasOpen}
+use Rattle.ledger_changes.specs.Bytes.{counting, enrolAt, strikeAt, openDesk, openAt, clearDesk, markDesk, isCurrent, stored, saveAt}
+use Rattle.ledger_layout.specs.Calls.{enrolCall, findCall, openCall, dropCall, markCall, saveCall, reportCall, gapCall, strikeCall}
+use Rattle.ledger_rows.specs.Scans as Scans
 use Rattle.ledger_changes.proofs.Puts.{put-same}
-use Rattle.ledger_changes.proofs.Calls.{refuses}
+use Rattle.ledger_layout.proofs.Judged.{refuses}
 use Rattle.ledger_layout.specs.Layout.{bitsValue, tickBytes, placeBytes, deskBytes, countUsed, layout, call, laidOut}
 use Rattle.ledger_layout.proofs.Rows.{length-place, row-same, mark-law}
 use Rattle.ledger_layout.proofs.Places.{header-put, worked-put, Shape, shape, length-layout, row-part, desk-put, row-put, desk-put-in, closed-law}
@@ -141,7 +143,7 @@ module _ (b : Book) (ok : WellFormed b) where
         of-free = λ i l e. rw (row-used b ok i (omega arith), e);
       }
 
-  has-key : (key : ℕ) → Bytes.hasKey s key ≡ hasKey key (b .places)
+  has-key : (key : ℕ) → Scans.hasKey s key ≡ hasKey key (b .places)
   unfolding rowWith
   has-key key = rw (ok .places-count) at (has-law (b .places) key (isRowOf s key) (of-key key))
 

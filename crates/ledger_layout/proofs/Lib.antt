@@ -1,3 +1,4 @@
+pub mod Judged
 pub mod Parts
 pub mod Ticks
 pub mod Rows
@@ -5,6 +6,8 @@ pub mod Places
 pub mod Used
 pub mod Right
 pub mod Read
+pub mod BothWays
+pub mod Sizes
 pub mod Calls
 pub mod Sheets
 pub mod Demand3

@@ -18,7 +18,8 @@ use Rattle.octets.proofs.Parts.{number-first, number-bytes, part-first, part-wh
 use Rattle.ledger_sheet.specs.Sheet.{sheetSize, rowSize, rowCount, rowsStart, deskZerosAt, deskZerosSize, openedAt, workedAt, deskSize, deskCount, desksStart, headerNumberSize, usedAt, rowAt, deskAt, headerNumber, isClosed}
 use Rattle.ledger_changes.specs.Bytes.{headerBytes, openDesk}
 use Rattle.ledger_changes.proofs.Written.{length-header}
-use Rattle.ledger_layout.specs.Layout.{placeBytes, deskBytes, countUsed, laid, layout}
+use Rattle.ledger_layout.specs.Layout.{placeBytes, deskBytes, countUsed, layout}
+use Rattle.octets.specs.Lists.{laid}
 use Rattle.octets.proofs.Puts.{put-seam}
 use Rattle.ledger_layout.proofs.Parts.{number-within, part-within, put-within, put-first}
 use Rattle.octets.proofs.Lists.{length-laid, part-laid, put-laid, laid-same}

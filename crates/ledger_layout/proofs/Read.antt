@@ -19,7 +19,8 @@ use Rattle.octets.specs.Octets.{numberAt, bytesOf, part, all, zeroAt}
 use Rattle.octets.proofs.Laws.{Bytes, and-split, all-at}
 use Rattle.octets.proofs.Parts.{bytes-number, part-join, part-whole, zero-part, same-part}
 use Rattle.ledger_sheet.specs.Sheet.{sheetSize, usedWordSize, keyStart, keySize, firstAt, firstSize, ticksAt, rowSize, rowCount, rowsStart, deskRowAt, deskZerosAt, deskZerosSize, openedAt, workedAt, deskSize, deskCount, desksStart, headerNumberSize, lengthAt, usedAt, rowCountAt, rowsStartAt, deskCountAt, desksStartAt, rowAt, deskAt, headerNumber, used, isUsed, isRow, keyAt, firstNumberAt, deskByte, deskRow, isClosed, carries, headerRight, validKeys, isNew, differentKeys, firstNumbers, freeZero, closedZero, deskMarked, openNames, deskRight, right}
-use Rattle.ledger_changes.specs.Rows.{table, ticksOf}
+use Rattle.ledger_rows.specs.Ticks.{ticksOf}
+use Rattle.octets.specs.Lists.{table}
 use Rattle.ledger_changes.specs.Bytes.{headerBytes, openDesk}
 use Rattle.ledger_sheet.proofs.Clauses.{Right, right-parts, row-parts}
 use Rattle.ledger_layout.specs.Layout.{placeBytes, deskBytes, countUsed, layout, placeIn, deskIn, bookOf}

@@ -15,9 +15,11 @@ use Rattle.ledger_model.proofs.Outcome as Model
 use Rattle.ledger_model.proofs.WellFormed.{well-formed}
 use Rattle.octets.proofs.Laws.{Bytes}
 use Rattle.ledger_sheet.specs.Sheet.{sheetSize, rowSize, rowCount, deskSize, deskCount, right}
-use Rattle.ledger_changes.specs.Bytes.{Outcome, judged, headerBytes, freshSheet}
-use Rattle.ledger_verdicts.specs.Calls.{freshCall, enrolCall, findCall, openCall, dropCall, markCall, saveCall, reportCall, gapCall, strikeCall}
-use Rattle.ledger_layout.specs.Layout.{placeBytes, deskBytes, countUsed, laid, layout, bookOf, call, laidOut, onSheet, freshOn}
+use Rattle.ledger_sheet.specs.Outcome.{Outcome, judged}
+use Rattle.ledger_changes.specs.Bytes.{headerBytes, freshSheet}
+use Rattle.ledger_layout.specs.Calls.{enrolCall, findCall, openCall, dropCall, markCall, saveCall, reportCall, gapCall, strikeCall}
+use Rattle.ledger_layout.specs.Layout.{placeBytes, deskBytes, countUsed, layout, bookOf, call, laidOut, onSheet, freshOn}
+use Rattle.octets.specs.Lists.{laid}
 use Rattle.octets.proofs.Lists.{laid-zeros}
 use Rattle.ledger_layout.proofs.Right.{reads-back, layout-right}
 use Rattle.ledger_layout.proofs.Read.{read-law, book-fine}
@@ -105,14 +107,6 @@ fresh-desks = laid-zeros deskSize (deskBytes (fresh .places)) closed refl deskCo
 pub fresh-layout : freshSheet ≡ layout fresh
 unfolding freshSheet layout countUsed
 fresh-layout = sym (two-zeros (headerBytes 0) (rowSize * rowCount) (deskSize * deskCount) fresh-places fresh-desks)
-
-pub fresh-law : (s : List ℕ) → freshCall s ≡ freshOn s
-unfolding freshCall freshOn judged judge
-fresh-law s = by (eqb (length s) sheetSize) refl
-  where
-    by : (t : Bool) → eqb (length s) sheetSize ≡ t → freshCall s ≡ freshOn s
-    by true e = rw (e, fresh-layout)
-    by false e = rw e
 
 -- ---- a layout, and a right sheet
 

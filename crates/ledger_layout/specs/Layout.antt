@@ -9,9 +9,11 @@ use Rattle.ledger_model.specs.Positions.{Positions}
 use Rattle.ledger_model.specs.Book.{Place, free, row, Desk, closed, working, Book, fresh, withTicks}
 use Rattle.ledger_model.specs.Step.{Call, answerWords, step}
 use Rattle.ledger_sheet.specs.Sheet.{sheetSize, rowSize, rowCount, ticksSize, byteBits, openedAt, workedAt, deskSize, deskCount, rowAt, deskAt, isUsed, keyAt, firstNumberAt, deskRow, isClosed, right}
-use Rattle.ledger_changes.specs.Rows.{table, ticksOf, rowBytes}
-unfoldable pub use Rattle.octets.specs.Lists.{laid}
-use Rattle.ledger_changes.specs.Bytes.{Outcome, headerBytes, openDesk}
+use Rattle.ledger_rows.specs.Ticks.{ticksOf}
+use Rattle.octets.specs.Lists.{table, laid}
+use Rattle.ledger_changes.specs.Rows.{rowBytes}
+use Rattle.ledger_sheet.specs.Outcome.{Outcome}
+use Rattle.ledger_changes.specs.Bytes.{headerBytes, openDesk}
 
 -- ---- a book laid out
 

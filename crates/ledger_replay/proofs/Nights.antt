@@ -16,7 +16,7 @@ use Rattle.ledger_model.specs.WellFormed.{WellFormed}
 use Rattle.ledger_model.proofs.Outcome.{outcome}
 use Rattle.ledger_model.proofs.WellFormed.{well-formed, fresh-well-formed}
 use Rattle.ledger_sheet.specs.Sheet.{sheetSize}
-use Rattle.ledger_changes.specs.Bytes.{Outcome, judged}
+use Rattle.ledger_sheet.specs.Outcome.{Outcome, judged}
 use Rattle.ledger_layout.specs.Layout.{layout, call, freshOn}
 use Rattle.ledger_layout.proofs.Sheets.{on-layout}
 use Rattle.ledger.specs.Private.{Night}

@@ -13,7 +13,7 @@ use Rattle.ledger_model.specs.Step.{Call, done, atRow, refused, answerWords, st
 use Rattle.ledger_model.proofs.Outcome.{outcome}
 use Rattle.ledger_model.proofs.WellFormed.{well-formed, fresh-well-formed}
 use Rattle.ledger_sheet.specs.Sheet.{sheetSize, right}
-use Rattle.ledger_changes.specs.Bytes.{Outcome}
+use Rattle.ledger_sheet.specs.Outcome.{Outcome}
 use Rattle.ledger_layout.specs.Layout.{layout, call, onSheet, freshOn}
 use Rattle.ledger_layout.proofs.Right.{layout-right}
 use Rattle.ledger_layout.proofs.Sheets.{on-layout}

@@ -12,7 +12,7 @@ use Rattle.octets.specs.Octets.{numberAt, bytesOf, part, all}
 use Rattle.octets.proofs.Laws.{and-split, length-bytesOf, all-each}
 use Rattle.octets.proofs.Parts.{number-first, number-bytes}
 use Rattle.ledger_model.specs.Step.{FirstGap, Ask, done, Entry, _⇒_}
-use Rattle.ledger_layout.specs.Layout.{laid}
+use Rattle.octets.specs.Lists.{laid}
 use Rattle.ledger_layout.proofs.Parts.{number-within}
 use Rattle.octets.proofs.Lists.{length-laid, part-laid}
 use Rattle.ledger_replay.specs.declared.Line.{Line}

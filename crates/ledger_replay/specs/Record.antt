@@ -7,7 +7,7 @@ use lib.ListN.{length, getD}
 use Rattle.octets.specs.Octets.{bytesOf}
 use Rattle.ledger_model.specs.Lists.{only}
 use Rattle.ledger_model.specs.Step.{Call, Enrol, Ask, Open, Mark, Save, Drop, Strike, Answer, gave, refused, Entry, _⇒_, callOf}
-use Rattle.ledger_layout.specs.Layout.{laid}
+use Rattle.octets.specs.Lists.{laid}
 use Rattle.ledger_replay.specs.declared.Line.{Line}
 use Rattle.ledger_replay.specs.Trace.{numberSize, headerSize, keySize, entryAt, enrolCall, openCall, tickCall, untickCall, saveCall, dropCall, strikeCall}
 

@@ -8,7 +8,7 @@ use Rattle.refusals.specs.Table.{numberOf}
 use Rattle.refusals.specs.Judge.{_when_}
 use Rattle.ledger_model.specs.Step.{Call, answerWords, Entry, _⇒_}
 use Rattle.ledger_sheet.specs.Sheet.{sheetSize}
-use Rattle.ledger_changes.specs.Bytes.{Outcome, judged}
+use Rattle.ledger_sheet.specs.Outcome.{Outcome, judged}
 use Rattle.ledger_layout.specs.Layout.{call, onSheet, freshOn}
 use Rattle.ledger_replay.specs.declared.Told.{Told}
 use Rattle.ledger_replay.specs.declared.Replayed.{Replayed}

@@ -23,7 +23,7 @@ use Rattle.ledger_sheet.specs.Sheet.{sheetSize, rowCount, right}
 use Rattle.ledger_sheet.specs.declared.Answer.the-variants as A
 use Rattle.ledger_layout.specs.Layout.{bookOf, placeIn, call, onSheet}
 use Rattle.octets.proofs.Lists.{length-table}
-use Rattle.ledger_changes.specs.Rows.{table}
+use Rattle.octets.specs.Lists.{table}
 use Rattle.ledger_season.specs.Report.{mostSheets, missed, three, tickedIn, missingIn, eachSheet, inAll, gapIn, seasonGapFrom}
 use Rattle.ledger_season.specs.Season.{sheetAt, sheetCount, booksTo, books, rightTo, season, countsWords, sheetsWords, orFurther, Answers}
 use Rattle.ledger_season.specs.Laws.{overSheets, overRows, Laws}

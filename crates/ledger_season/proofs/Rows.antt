@@ -17,8 +17,9 @@ use Rattle.ledger_model.specs.Tally.{ticked}
 use Rattle.ledger_sheet.specs.Sheet.{rowCount, rowAt, isUsed, keyAt, firstNumberAt}
 use Rattle.ledger_sheet.specs.Words.{reportAnswerWords}
 use Rattle.ledger_sheet.specs.declared.ReportAnswer.the-variants as Report
-use Rattle.ledger_changes.specs.Rows.{table, ticksOf}
-use Rattle.ledger_changes.specs.Bytes.{lowestWords, reportWords}
+use Rattle.ledger_rows.specs.Ticks.{ticksOf}
+use Rattle.octets.specs.Lists.{table}
+use Rattle.ledger_counts.specs.Counts.{lowestWords, reportWords}
 use Rattle.ledger_counts.proofs.Reports.{row-count, end-within}
 use Rattle.ledger_layout.specs.Layout.{placeIn, bookOf}
 use Rattle.octets.proofs.Lists.{length-table, getD-table}

@@ -12,7 +12,7 @@ use Rattle.ledger_model.specs.Book.{Book}
 use Rattle.ledger_sheet.specs.Sheet.{sheetSize, right}
 use Rattle.ledger_sheet.specs.declared.Answer.{Answer}
 use Rattle.ledger_sheet.specs.declared.Answer.the-variants as A
-use Rattle.ledger_changes.specs.Rows.{table}
+use Rattle.octets.specs.Lists.{table}
 use Rattle.ledger_layout.specs.Layout.{bookOf}
 use Rattle.ledger_season.specs.Report.{mostSheets, report, keyInTwo}
 use Rattle.ledger_season.specs.declared.SheetCounts.{SheetCounts}

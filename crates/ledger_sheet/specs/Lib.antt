@@ -2,3 +2,4 @@
 pub mod Sheet
 pub mod Judging
 pub mod Words
+pub mod Outcome

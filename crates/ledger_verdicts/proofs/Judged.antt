@@ -13,25 +13,23 @@ use Rattle.refusals.specs.Judge.{Rule, verdict, judge}
 use Rattle.refusals.proofs.Laws.{number-positive}
 use Rattle.refusals.proofs.Judged.{NoneHolds, Numbered, verdict-none}
 use Rattle.ledger_sheet.specs.Sheet.{sheetSize, rowCount, deskCount, used, isUsed, deskRow, right}
-use Rattle.ledger_changes.specs.Bytes.{Outcome, judged, rowWith, freeRow}
-use Rattle.ledger_changes.proofs.Scans.{lowest-within}
-use Rattle.ledger_sheet.specs.Words.{answerWords}
-use Rattle.ledger_sheet.specs.declared.Answer.{Answer}
-use Rattle.ledger_sheet.specs.declared.Answer.the-variants as A
+use Rattle.ledger_sheet.specs.Outcome.{Outcome, judged}
+use Rattle.ledger_rows.specs.Scans.{rowWith, freeRow}
+use Rattle.ledger_rows.proofs.Scans.{lowest-within}
+use Rattle.ledger_verdicts.specs.declared.Verdict.{Verdict}
+use Rattle.ledger_verdicts.specs.declared.Verdict.the-variants as Case
 use Rattle.ledger_sheet.proofs.Clauses.{right-parts, row-parts, count-some, open-row}
-use Rattle.ledger_verdicts.specs.Verdicts.{enrolRows, findRows, openRows, deskRows, reportRows, strikeRows, verdictWords}
+use Rattle.ledger_verdicts.specs.Verdicts.{enrolRows, findRows, openRows, deskRows, reportRows, strikeRows, verdictNumber}
 
 -- the number that a verdict gives, or 0
-module _ (rows : List (Rule ℕ)) {v : Answer} (e : answerWords v ≡ verdictWords rows) where
-  number-is : (q : Refusal) → v ≡ A.Refused q → numberOf q ≡ verdict rows
-  unfolding verdictWords
-  number-is q g = let w : numberOf q ∷ [] ≡ verdict rows ∷ [] = sym (ap answerWords g) ∙ e in cc
+module _ (rows : List (Rule ℕ)) {v : Verdict} (e : verdictNumber v ≡ verdict rows) where
+  number-is : (q : Refusal) → v ≡ Case.Refused q → numberOf q ≡ verdict rows
+  number-is q g = sym (ap verdictNumber g) ∙ e
 
-  none-is : v ≡ A.Done → verdict rows ≡ 0
-  unfolding verdictWords
-  none-is g = let w : 0 ∷ [] ≡ verdict rows ∷ [] = sym (ap answerWords g) ∙ e in cc
+  none-is : v ≡ Case.Fine → verdict rows ≡ 0
+  none-is g = sym (sym (ap verdictNumber g) ∙ e)
 
-  none-holds : Numbered rows → v ≡ A.Done → NoneHolds rows
+  none-holds : Numbered rows → v ≡ Case.Fine → NoneHolds rows
   none-holds n g = verdict-none rows n (none-is g)
 
 -- ---- the call that these rows judge
@@ -40,14 +38,14 @@ module _ (rows : List (Rule ℕ)) {v : Answer} (e : answerWords v ≡ verdictWor
 pub record Law (rows : List (Rule ℕ)) (o : Outcome) (s : List ℕ) (t : Outcome) : Type 0 where
   pub same : judged rows o s ≡ t
 
-module _ {rows : List (Rule ℕ)} {o t : Outcome} {s : List ℕ} (law : Law rows o s t) {v : Answer} (e : answerWords v ≡ verdictWords rows) where
-  pub refused-is : (q : Refusal) → v ≡ A.Refused q → (numberOf q ∷ [], s) ≡ t
+module _ {rows : List (Rule ℕ)} {o t : Outcome} {s : List ℕ} (law : Law rows o s t) {v : Verdict} (e : verdictNumber v ≡ verdict rows) where
+  pub refused-is : (q : Refusal) → v ≡ Case.Refused q → (numberOf q ∷ [], s) ≡ t
   unfolding judged
   refused-is q g =
       let first : (numberOf q ∷ [], s) ≡ judged rows o s = rw (← number-is rows e q g, ne-eqb (numberOf q) 0 (number-positive q)) in
       first ∙ law .same
 
-  pub accepted-is : v ≡ A.Done → o ≡ t
+  pub accepted-is : v ≡ Case.Fine → o ≡ t
   unfolding judged
   accepted-is g =
       let first : o ≡ judged rows o s = rw (none-is rows e g) in
@@ -58,25 +56,25 @@ module _ {rows : List (Rule ℕ)} {o t : Outcome} {s : List ℕ} (law : Law rows
 long : (s : List ℕ) → right s ≡ true → length s ≡ sheetSize
 long s r = right-parts s r .long
 
-module _ (s : List ℕ) {v : Answer} where
-  pub enrol-fine : (key first : ℕ) → answerWords v ≡ verdictWords (enrolRows key first s) → v ≡ A.Done → (length s ≡ sheetSize) × (freeRow s < rowCount)
+module _ (s : List ℕ) {v : Verdict} where
+  pub enrol-fine : (key first : ℕ) → verdictNumber v ≡ verdict (enrolRows key first s) → v ≡ Case.Fine → (length s ≡ sheetSize) × (freeRow s < rowCount)
   unfolding freeRow
   enrol-fine key first e g =
       let h = none-holds (enrolRows key first s) e (omega arith, (omega arith, (omega arith, (omega arith, (omega arith, tt))))) g in
       (long s (not-false (right s) (h .0)), omega (arith, lowest-within rowCount (λ i. not (isUsed s i)), eqb-false (freeRow s) rowCount (h .1 .1 .1 .1 .0)))
 
-  pub find-fine : (key : ℕ) → answerWords v ≡ verdictWords (findRows key s) → v ≡ A.Done → (length s ≡ sheetSize) × (rowWith s key < rowCount)
+  pub find-fine : (key : ℕ) → verdictNumber v ≡ verdict (findRows key s) → v ≡ Case.Fine → (length s ≡ sheetSize) × (rowWith s key < rowCount)
   find-fine key e g =
       let h = none-holds (findRows key s) e (omega arith, (omega arith, (omega arith, tt))) g in
       (long s (not-false (right s) (h .0)), ltb-true (rowWith s key) rowCount (not-false _ (h .1 .1 .0)))
 
-  pub open-fine : (desk row : ℕ) → answerWords v ≡ verdictWords (openRows desk row s) → v ≡ A.Done
+  pub open-fine : (desk row : ℕ) → verdictNumber v ≡ verdict (openRows desk row s) → v ≡ Case.Fine
       → (length s ≡ sheetSize) × (desk < deskCount) × (row < rowCount)
   open-fine desk row e g =
       let h = none-holds (openRows desk row s) e (omega arith, (omega arith, (omega arith, (omega arith, tt)))) g in
       (long s (not-false (right s) (h .0)), ltb-true _ _ (not-false _ (h .1 .0)), row-parts s row (not-false _ (h .1 .1 .0)) .0)
 
-  pub desk-fine : (desk : ℕ) → answerWords v ≡ verdictWords (deskRows desk s) → v ≡ A.Done
+  pub desk-fine : (desk : ℕ) → verdictNumber v ≡ verdict (deskRows desk s) → v ≡ Case.Fine
       → (length s ≡ sheetSize) × (desk < deskCount) × (deskRow s desk < rowCount)
   desk-fine desk e g =
       let h = none-holds (deskRows desk s) e (omega arith, (omega arith, (omega arith, tt))) g in
@@ -84,13 +82,13 @@ module _ (s : List ℕ) {v : Answer} where
       let d = ltb-true _ _ (not-false _ (h .1 .0)) in
       (long s r, d, row-parts s (deskRow s desk) (open-row s desk r d (h .1 .1 .0)) .0)
 
-  pub report-fine : (row : ℕ) → answerWords v ≡ verdictWords (reportRows row s) → v ≡ A.Done → (length s ≡ sheetSize) × (row < rowCount)
+  pub report-fine : (row : ℕ) → verdictNumber v ≡ verdict (reportRows row s) → v ≡ Case.Fine → (length s ≡ sheetSize) × (row < rowCount)
   report-fine row e g =
       let h = none-holds (reportRows row s) e (omega arith, (omega arith, tt)) g in
       (long s (not-false (right s) (h .0)), row-parts s row (not-false _ (h .1 .0)) .0)
 
   -- a row that there is makes the header's count positive
-  pub strike-fine : (row : ℕ) → answerWords v ≡ verdictWords (strikeRows row s) → v ≡ A.Done
+  pub strike-fine : (row : ℕ) → verdictNumber v ≡ verdict (strikeRows row s) → v ≡ Case.Fine
       → (length s ≡ sheetSize) × (row < rowCount) × (0 < used s)
   strike-fine row e g =
       let h = none-holds (strikeRows row s) e (omega arith, (omega arith, (omega arith, tt))) g in

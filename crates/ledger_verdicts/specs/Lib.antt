@@ -1,3 +1,2 @@
--- What the contracts of `verdicts` cite, and each call on the bytes of a sheet, which the laws between bytes and model speak of.
+-- What the contracts of `ledger_verdicts` cite.
 pub mod Verdicts
-pub mod Calls

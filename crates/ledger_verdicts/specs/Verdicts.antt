@@ -4,11 +4,14 @@ use Prim.Native.Nat.{ℕ}
 use mathlib.Core.Bool.{not}
 use mathlib.Core.List.{List, [], _∷_}
 use lib.Dec.{eqb, ltb}
-use Rattle.refusals.specs.Judge.{Rule, _when_, verdict}
+use Rattle.refusals.specs.Table.{numberOf}
+use Rattle.refusals.specs.Judge.{Rule, _when_}
 use Rattle.keys.specs.Key.{validKey}
 use Rattle.keys.specs.Numbers.{isNumber}
 use Rattle.ledger_sheet.specs.Sheet.{rowCount, deskCount, isRow, isClosed, right}
-use Rattle.ledger_changes.specs.Bytes.{hasKey, freeRow, noneHasOpen}
+use Rattle.ledger_rows.specs.Scans.{hasKey, freeRow, noneHasOpen}
+use Rattle.ledger_verdicts.specs.declared.Verdict.{Verdict}
+use Rattle.ledger_verdicts.specs.declared.Verdict.the-variants as Case
 
 abbrev pub enrolRows : (key first : ℕ) → List ℕ → List (Rule ℕ)
 enrolRows key first s =
@@ -40,6 +43,7 @@ reportRows row s = (20 when not (right s)) ∷ (25 when not (isRow s row)) ∷ [
 abbrev pub strikeRows : (row : ℕ) → List ℕ → List (Rule ℕ)
 strikeRows row s = (20 when not (right s)) ∷ (25 when not (isRow s row)) ∷ (36 when not (noneHasOpen s row)) ∷ []
 
--- The words of a verdict: the first refusal that applies, or 0 where none does.
-unfoldable pub verdictWords : List (Rule ℕ) → List ℕ
-verdictWords rows = verdict rows ∷ []
+-- The number of a verdict: the refusal's, or 0 where the call may be made.
+abbrev pub verdictNumber : Verdict → ℕ
+verdictNumber Case.Fine = 0
+verdictNumber (Case.Refused r) = numberOf r

@@ -14,15 +14,15 @@ use Rattle.sfdu_headers.specs.Ranges.{isRsrBand, isBand, inRange, judgedBytes, 
 use Rattle.sfdu_headers.specs.Headers.{readHeaders}
 use Rattle.keys.specs.Key.{validKey, telemetryKeyCall}
 use Rattle.keys.specs.Numbers.{modulus}
-use Rattle.ledger_model.specs.Positions.{position, noTicks, same, size, anyTicked, missing, least}
-use Rattle.ledger_model.specs.Positions.{numberAt as numberAtPosition}
+use Rattle.ledger_model.specs.Positions.{position, noTicks, same, size, anyTicked, missing, least, numberAt as numberAtPosition}
 use Rattle.ledger_model.specs.Book.{fresh, hasKey, placeWith, allUsed, lowestFree}
 use Rattle.ledger_model.specs.Step.{RowReport, Call, Ask, refusals, asked, effect, afterRefusal, step, run}
 use Rattle.ledger_model.proofs.WellFormed.{run-well-formed}
 use Rattle.ledger_sheet.specs.Sheet.{rowAt, ticksAt}
 use Rattle.ledger_changes.specs.Rows.{rowBytes}
 use Rattle.ledger_changes.specs.Bytes.{headerBytes}
-use Rattle.ledger_layout.specs.Layout.{bitsValue, tickBytes, placeBytes, countUsed, laid, layout, call, onSheet}
+use Rattle.ledger_layout.specs.Layout.{bitsValue, tickBytes, placeBytes, countUsed, layout, call, onSheet}
+use Rattle.octets.specs.Lists.{laid}
 use Rattle.ledger_layout.proofs.Sheets.{on-layout}
 use Rattle.worked.specs.Worked.{Agree, table, p7, p8-empty, p8, p9-stale, p9, p10, verdicts, reportAfter, tickByteAfter}
 use Rattle.worked.proofs.Sheet.{wordsIn, answers-fresh, after-fresh}

@@ -1,6 +1,6 @@
 -- `ledger_counts::first_gap` meets its contract. The invariants: the first gap is that of the rows from `row` on; of that row the
 -- first i positions are ticked. Assumes nothing.
-use Rattle.ledger_changes.proofs.Scans.{Each, each-none, each-more}
+use Rattle.ledger_rows.proofs.Scans.{Each, each-none, each-more}
 use Prim.Native.Nat.{_-_, _≤_, _<_}
 use mathlib.Core.Bool.{true}
 use mathlib.Core.Path.{_≡_, refl, sym, ap, _∙_}
@@ -8,8 +8,8 @@ use native.Mathlib.Omega.{arith}
 use Rattle.octets.proofs.Laws.{failed, passed}
 use Rattle.ledger_sheet.specs.declared.GapAnswer.the-variants.{Nothing}
 use Rattle.ledger_sheet.specs.Sheet.{rowCount}
-use Rattle.ledger_changes.specs.Rows.{tickedAt}
-use Rattle.ledger_changes.specs.Bytes.{gapFrom}
+use Rattle.ledger_rows.specs.Ticks.{tickedAt}
+use Rattle.ledger_counts.specs.Counts.{gapFrom}
 use Rattle.ledger_sheet.specs.Words.{gapWords}
 use Rattle.ledger_counts.proofs.Reports.{rowEnd, row-end-within, gap-next, gap-here, gap-none}
 use Rattle.ledger_counts.proofs.first_gap.Statement.{statement}

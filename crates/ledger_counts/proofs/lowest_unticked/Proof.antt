@@ -4,8 +4,8 @@ use mathlib.Core.Bool.{not}
 use mathlib.Core.Path.{_≡_, sym}
 use native.Mathlib.Omega.{arith}
 use lib.Count.{trailing-le}
-use Rattle.ledger_changes.specs.Rows.{tickedAt}
-use Rattle.ledger_changes.proofs.Scans.{Fails, each-none, lowest-here, lowest-none}
+use Rattle.ledger_rows.specs.Ticks.{tickedAt}
+use Rattle.ledger_rows.proofs.Scans.{Fails, each-none, lowest-here, lowest-none}
 use Rattle.ledger_counts.specs.Words.{wordBits, wordCount}
 use Rattle.ledger_counts.proofs.WordCounts.{word-below, word-full, word-lowest}
 use Rattle.ledger_counts.proofs.lowest_unticked.Statement.{statement}

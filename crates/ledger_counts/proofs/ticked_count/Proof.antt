@@ -4,7 +4,8 @@ use Prim.Native.Nat.{_+_, _*_, _^_, _≤_, _<_, _-_}
 use mathlib.Core.Path.{_≡_, sym}
 use native.Mathlib.Omega.{arith}
 use Rattle.ledger_model.specs.Positions.{rowLength, size}
-use Rattle.ledger_changes.specs.Rows.{tickedAt, table, ticksOf}
+use Rattle.ledger_rows.specs.Ticks.{tickedAt, ticksOf}
+use Rattle.octets.specs.Lists.{table}
 use Rattle.ledger_counts.specs.Words.{wordBits, blockWords, blockCount}
 use Rattle.ledger_counts.proofs.Missing.{size-none}
 use Rattle.ledger_counts.proofs.WordCounts.{AllFit, block-few, block-count}

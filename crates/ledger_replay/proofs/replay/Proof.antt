@@ -5,7 +5,7 @@ use native.Mathlib.Omega.{arith}
 use borrow.Author.Tests.{eq-eqb, ne-eqb}
 use Rattle.refusals.specs.Judge.{judge}
 use Rattle.octets.proofs.Laws.{failed, passed}
-use Rattle.ledger_changes.specs.Bytes.{judged}
+use Rattle.ledger_sheet.specs.Outcome.{judged}
 use Rattle.ledger_replay.specs.Trace.{entriesOf}
 use Rattle.ledger_replay.specs.Replay.{replayFrom, replayOn}
 use Rattle.ledger_replay.proofs.Clauses.{trace-parts}

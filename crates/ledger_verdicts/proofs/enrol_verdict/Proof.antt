@@ -7,21 +7,20 @@ use Rattle.octets.proofs.Laws.{failed, passed}
 use Rattle.refusals.specs.Judge.{verdict, judge}
 use Rattle.ledger_sheet.proofs.Clauses.{right-parts}
 use Rattle.ledger_sheet.specs.Sheet.{rowCount}
-use Rattle.ledger_changes.specs.Bytes.{freeRow}
-use Rattle.ledger_verdicts.specs.Verdicts.{verdictWords}
+use Rattle.ledger_rows.specs.Scans.{freeRow}
 use borrow.Author.Needs.{needs}
 use Rattle.ledger_verdicts.proofs.enrol_verdict.Statement.{statement}
 use Rattle.ledger_verdicts.proofs.enrol_verdict.Tie as tie
 
 returns : tie.Need-returns
-unfolding verdictWords judge
+unfolding judge
 returns c = rw (failed (c .before .before .pre) (c .if1 .taken))
 
 valid-requires : tie.Need-valid-requires
 valid-requires c κs = search needs
 
 returns-2 : tie.Need-returns-2
-unfolding verdictWords judge
+unfolding judge
 returns-2 c =
     let right = c .before .before in
     rw (passed (right .before .before .pre) (right .if1 .left), failed (c .before .valid .ensures) (c .if2 .taken))
@@ -30,7 +29,7 @@ is-number-requires : tie.Need-is-number-requires
 is-number-requires c κs = search needs
 
 returns-3 : tie.Need-returns-3
-unfolding verdictWords judge
+unfolding judge
 returns-3 c =
     let valid = c .before .before in
     let right = valid .before .before in
@@ -46,7 +45,7 @@ has-key-requires c κs =
     right-parts _ (passed (right .before .before .pre) (right .if1 .left)) .long
 
 returns-4 : tie.Need-returns-4
-unfolding verdictWords judge
+unfolding judge
 returns-4 c =
     let number = c .before .before in
     let valid = number .before .before in
@@ -65,7 +64,7 @@ free-row-requires c κs =
     right-parts _ (passed (right .before .before .pre) (right .if1 .left)) .long
 
 returns-5 : tie.Need-returns-5
-unfolding verdictWords judge
+unfolding judge
 returns-5 c =
     let new = c .before .before in
     let number = new .before .before in
@@ -83,7 +82,7 @@ returns-5 c =
     )
 
 returns-6 : tie.Need-returns-6
-unfolding verdictWords judge
+unfolding judge
 returns-6 c =
     let new = c .before .before in
     let number = new .before .before in

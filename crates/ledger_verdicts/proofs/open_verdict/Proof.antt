@@ -4,23 +4,22 @@ use borrow.Author.Tests.{lt-ltb, le-ltb}
 use Rattle.octets.proofs.Laws.{failed, passed}
 use Rattle.refusals.specs.Judge.{verdict, judge}
 use Rattle.ledger_sheet.proofs.Clauses.{right-parts}
-use Rattle.ledger_verdicts.specs.Verdicts.{verdictWords}
 use Rattle.ledger_verdicts.proofs.open_verdict.Statement.{statement}
 use Rattle.ledger_verdicts.proofs.open_verdict.Tie as tie
 
 returns : tie.Need-returns
-unfolding verdictWords judge
+unfolding judge
 returns c = rw (failed (c .before .before .pre) (c .if1 .taken))
 
 returns-2 : tie.Need-returns-2
-unfolding verdictWords judge
+unfolding judge
 returns-2 c = rw (passed (c .before .before .before .pre) (c .before .if1 .left), le-ltb _ _ (c .if2 .taken))
 
 is-row-requires : tie.Need-is-row-requires
 is-row-requires c κs = right-parts _ (passed (c .before .before .before .pre) (c .before .if1 .left)) .long
 
 returns-3 : tie.Need-returns-3
-unfolding verdictWords judge
+unfolding judge
 returns-3 c =
     let desk = c .before .before in
     let right = desk .before in
@@ -37,7 +36,7 @@ is-closed-requires c κs =
     (right-parts _ (passed (right .before .before .pre) (right .if1 .left)) .long, omega (arith, desk .if2 .left))
 
 returns-4 : tie.Need-returns-4
-unfolding verdictWords judge
+unfolding judge
 returns-4 c =
     let there = c .before .before in
     let desk = there .before .before in
@@ -50,7 +49,7 @@ returns-4 c =
     )
 
 returns-5 : tie.Need-returns-5
-unfolding verdictWords judge
+unfolding judge
 returns-5 c =
     let there = c .before .before in
     let desk = there .before .before in

@@ -4,20 +4,19 @@ use mathlib.Core.Path.{_≡_}
 use Rattle.octets.proofs.Laws.{failed, passed}
 use Rattle.refusals.specs.Judge.{verdict, judge}
 use Rattle.ledger_sheet.proofs.Clauses.{right-parts}
-use Rattle.ledger_changes.specs.Bytes.{noneHasOpen}
-use Rattle.ledger_verdicts.specs.Verdicts.{verdictWords}
+use Rattle.ledger_rows.specs.Scans.{noneHasOpen}
 use Rattle.ledger_verdicts.proofs.strike_verdict.Statement.{statement}
 use Rattle.ledger_verdicts.proofs.strike_verdict.Tie as tie
 
 returns : tie.Need-returns
-unfolding verdictWords judge
+unfolding judge
 returns c = rw (failed (c .before .before .pre) (c .if1 .taken))
 
 is-row-requires : tie.Need-is-row-requires
 is-row-requires c κs = right-parts _ (passed (c .before .before .pre) (c .if1 .left)) .long
 
 returns-2 : tie.Need-returns-2
-unfolding verdictWords judge
+unfolding judge
 returns-2 c =
     let right = c .before .before in
     rw (passed (right .before .before .pre) (right .if1 .left), failed (c .before .is-row .ensures) (c .if2 .taken))
@@ -28,7 +27,7 @@ is-idle-requires c κs =
     right-parts _ (passed (right .before .before .pre) (right .if1 .left)) .long
 
 returns-3 : tie.Need-returns-3
-unfolding verdictWords judge
+unfolding judge
 returns-3 c =
     let there = c .before .before in
     let right = there .before .before in
@@ -37,7 +36,7 @@ returns-3 c =
     rw (passed (right .before .before .pre) (right .if1 .left), passed (there .before .is-row .ensures) (there .if2 .left), busy)
 
 returns-4 : tie.Need-returns-4
-unfolding verdictWords judge
+unfolding judge
 returns-4 c =
     let there = c .before .before in
     let right = there .before .before in

@@ -4,7 +4,7 @@ use mathlib.Core.Path.{_≡_, refl}
 use native.Mathlib.Omega.{arith}
 use lib.ListN.{length, getD, length-set}
 use Rattle.ledger_sheet.specs.Sheet.{ticksSize}
-use Rattle.ledger_changes.proofs.Scans.{read-more}
+use Rattle.ledger_changes.proofs.ReadBack.{read-more}
 use Rattle.ledger_changes.proofs.Puts.{part-is}
 use Rattle.ledger_changes.proofs.rows.read_ticks.Statement.{statement}
 use Rattle.ledger_changes.proofs.rows.read_ticks.Tie as tie

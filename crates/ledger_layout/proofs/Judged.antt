@@ -6,7 +6,7 @@ use mathlib.Core.List.{List, [], _∷_}
 use mathlib.Core.Path.{_≡_, refl}
 use borrow.Author.Tests.{ne-eqb}
 use Rattle.refusals.specs.Judge.{Rule, _when_, judge}
-use Rattle.ledger_changes.specs.Bytes.{Outcome, judged}
+use Rattle.ledger_sheet.specs.Outcome.{Outcome, judged}
 
 module _ (rows : List (Rule ℕ)) (o : Outcome) (s : List ℕ) where
   -- the first row holds: the call is refused, and the sheet stays

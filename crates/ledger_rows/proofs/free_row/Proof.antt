@@ -4,10 +4,10 @@ use mathlib.Core.Bool.{not}
 use mathlib.Core.Path.{_≡_, sym, ap, _∙_}
 use native.Mathlib.Omega.{arith}
 use Rattle.ledger_sheet.specs.Sheet.{rowCount, isUsed}
-use Rattle.ledger_changes.specs.Bytes.{freeRow}
-use Rattle.ledger_changes.proofs.Scans.{Fails, each-none, each-more, lowest-here, lowest-none}
-use Rattle.ledger_changes.proofs.rows.free_row.Statement.{statement}
-use Rattle.ledger_changes.proofs.rows.free_row.Tie as tie
+use Rattle.ledger_rows.specs.Scans.{freeRow}
+use Rattle.ledger_rows.proofs.Scans.{Fails, each-none, each-more, lowest-here, lowest-none}
+use Rattle.ledger_rows.proofs.free_row.Statement.{statement}
+use Rattle.ledger_rows.proofs.free_row.Tie as tie
 
 abbrev Inv-loop : tie.InvT-loop
 Inv-loop s i₀ i = (i ≤ rowCount) × Fails (λ j. not (isUsed s j)) i

@@ -7,9 +7,9 @@ use lib.Dec.{eqb}
 use Rattle.octets.specs.Octets.{all}
 use Rattle.octets.proofs.Laws.{all-none, all-next}
 use Rattle.ledger_sheet.specs.Sheet.{deskCount, deskRow, isClosed}
-use Rattle.ledger_changes.specs.Bytes.{noneHasOpen}
-use Rattle.ledger_changes.proofs.desks.is_idle.Statement.{statement}
-use Rattle.ledger_changes.proofs.desks.is_idle.Tie as tie
+use Rattle.ledger_rows.specs.Scans.{noneHasOpen}
+use Rattle.ledger_rows.proofs.is_idle.Statement.{statement}
+use Rattle.ledger_rows.proofs.is_idle.Tie as tie
 
 abbrev Inv-loop : tie.InvT-loop
 Inv-loop s row idle₀ d₀ idle d = (d ≤ deskCount) × (idle ≡ all d (λ k. isClosed s k || not (eqb (deskRow s k) row)))

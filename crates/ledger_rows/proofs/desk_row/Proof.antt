@@ -3,8 +3,8 @@ use Prim.Native.Nat.{_+_}
 use native.Mathlib.Omega.{arith}
 use Rattle.ledger_sheet.specs.Sheet.{deskAt, deskRowAt}
 use borrow.Author.Needs.{needs}
-use Rattle.ledger_changes.proofs.desks.desk_row.Statement.{statement}
-use Rattle.ledger_changes.proofs.desks.desk_row.Tie as tie
+use Rattle.ledger_rows.proofs.desk_row.Statement.{statement}
+use Rattle.ledger_rows.proofs.desk_row.Tie as tie
 
 mul-result : tie.Need-mul-result
 mul-result c = search needs

@@ -1,9 +1,9 @@
 -- `rows::is_row_of` meets its contract. Assumes nothing.
 use Rattle.octets.proofs.Laws.{failed, passed}
-use Rattle.ledger_changes.specs.Bytes.{isRowOf}
+use Rattle.ledger_rows.specs.Scans.{isRowOf}
 use borrow.Author.Needs.{needs}
-use Rattle.ledger_changes.proofs.rows.is_row_of.Statement.{statement}
-use Rattle.ledger_changes.proofs.rows.is_row_of.Tie as tie
+use Rattle.ledger_rows.proofs.is_row_of.Statement.{statement}
+use Rattle.ledger_rows.proofs.is_row_of.Tie as tie
 
 is-used-requires : tie.Need-is-used-requires
 is-used-requires c κs = search needs

@@ -1,7 +1,7 @@
 -- `rows::has_key` meets its contract. Assumes nothing.
 use borrow.Author.Needs.{needs}
-use Rattle.ledger_changes.proofs.rows.has_key.Statement.{statement}
-use Rattle.ledger_changes.proofs.rows.has_key.Tie as tie
+use Rattle.ledger_rows.proofs.has_key.Statement.{statement}
+use Rattle.ledger_rows.proofs.has_key.Tie as tie
 
 find-row-requires : tie.Need-find-row-requires
 find-row-requires c κs = search needs

@@ -7,12 +7,11 @@ use lib.Dec.{eqb}
 use lib.ListN.{length}
 use Rattle.refusals.specs.Judge.{_when_}
 use Rattle.ledger_sheet.specs.Sheet.{sheetSize, rowCount, rowAt, right}
-use Rattle.ledger_changes.specs.Bytes.{Outcome, judged, done, freshSheet, rowWith, freeRow, enrolAt, strikeAt, openAt, clearDesk, markDesk, saveAt, reportWords, gapFrom}
+use Rattle.ledger_sheet.specs.Outcome.{Outcome, judged, done}
+use Rattle.ledger_changes.specs.Bytes.{freshSheet, enrolAt, strikeAt, openAt, clearDesk, markDesk, saveAt}
+use Rattle.ledger_rows.specs.Scans.{rowWith, freeRow}
+use Rattle.ledger_counts.specs.Counts.{reportWords, gapFrom}
 use Rattle.ledger_verdicts.specs.Verdicts.{enrolRows, findRows, openRows, deskRows, reportRows, strikeRows}
-
--- Fresh: 20 for another length, and nothing else is judged.
-unfoldable pub freshCall : List ℕ → Outcome
-freshCall s = judged ((20 when not (eqb (length s) sheetSize)) ∷ []) (done, freshSheet) s
 
 -- Enrol: the stream at the lowest free row, with no ticks; the answer is the row.
 unfoldable pub enrolCall : (key first : ℕ) → List ℕ → Outcome

@@ -1,0 +1,109 @@
+// What is read of a sheet and changes nothing: the row with a key, a free row, a desk's row, a tick.
+use ledger_sheet::BYTE_BITS;
+use ledger_sheet::CLOSED;
+use ledger_sheet::DESK;
+use ledger_sheet::DESK_ROW_AT;
+use ledger_sheet::DESKS;
+use ledger_sheet::DESKS_AT;
+use ledger_sheet::ROW;
+use ledger_sheet::ROWS;
+use ledger_sheet::ROWS_AT;
+use ledger_sheet::TICKS_AT;
+use ledger_sheet::right::is_used;
+use ledger_sheet::right::key_at;
+ghost use mathlib.Core.Path.{_≡_};
+ghost use Prim.Native.Nat.{_+_, _≤_, _<_, _^_};
+ghost use lib.ListN.{length};
+ghost use Rattle.ledger_model.specs.Positions.{rowLength};
+ghost use Rattle.ledger_sheet.specs.Sheet.{sheetSize, rowSize, rowCount, byteBits, deskCount, deskRow, isClosed};
+ghost use Rattle.ledger_rows.specs.Ticks.{tickedAt};
+ghost use Rattle.ledger_rows.specs.Scans.{isRowOf, rowWith, hasKey, freeRow, noneHasOpen};
+
+// The used row with the key, or 32 where there is none.
+pub fn find_row(s: &[u8], key: u64) -> usize
+    requires { ⌜ length (now s) ≡ sheetSize ⌝ }
+    ensures { λ r. ⌜ r ≡ rowWith (now (s .entry)) key ⌝ }
+{
+    for i in 0..ROWS {
+        if is_row_of(s, key, i) {
+            return i;
+        }
+    }
+    ROWS
+}
+
+// Whether row i is used and has the key.
+fn is_row_of(s: &[u8], key: u64, i: usize) -> bool
+    requires { ⌜ (length (now s) ≡ sheetSize) × (i < rowCount) ⌝ }
+    ensures { λ r. ⌜ r ≡ isRowOf (now (s .entry)) key i ⌝ }
+{
+    if !is_used(s, i) {
+        return false;
+    }
+    key_at(s, ROWS_AT + ROW * i) == key
+}
+
+// Whether a used row has the key.
+pub fn has_key(s: &[u8], key: u64) -> bool
+    requires { ⌜ length (now s) ≡ sheetSize ⌝ }
+    ensures { λ r. ⌜ r ≡ hasKey (now (s .entry)) key ⌝ }
+{
+    find_row(s, key) < ROWS
+}
+
+// The lowest free row, or 32 where there is none.
+pub fn free_row(s: &[u8]) -> usize
+    requires { ⌜ length (now s) ≡ sheetSize ⌝ }
+    ensures { λ r. ⌜ r ≡ freeRow (now (s .entry)) ⌝ }
+{
+    for i in 0..ROWS {
+        if !is_used(s, i) {
+            return i;
+        }
+    }
+    ROWS
+}
+
+// Whether desk d is closed.
+pub fn is_closed(s: &[u8], d: usize) -> bool
+    requires { ⌜ (length (now s) ≡ sheetSize) × (d < deskCount) ⌝ }
+    ensures { λ r. ⌜ r ≡ isClosed (now (s .entry)) d ⌝ }
+{
+    s[DESKS_AT + DESK * d] == CLOSED
+}
+
+// Whether no desk has the row open.
+pub fn is_idle(s: &[u8], row: usize) -> bool
+    requires { ⌜ length (now s) ≡ sheetSize ⌝ }
+    ensures { λ r. ⌜ r ≡ noneHasOpen (now (s .entry)) row ⌝ }
+{
+    let mut idle = true;
+    for d in 0..DESKS {
+        idle &= is_closed(s, d) | (desk_row(s, d) != row);
+    }
+    idle
+}
+
+// The row that desk d names.
+pub fn desk_row(s: &[u8], d: usize) -> usize
+    requires { ⌜ (length (now s) ≡ sheetSize) × (d < deskCount) ⌝ }
+    ensures { λ r. ⌜ r ≡ deskRow (now (s .entry)) d ⌝ }
+{
+    s[DESKS_AT + DESK * d + DESK_ROW_AT] as usize
+}
+
+// Whether position i of the row or the copy at offset a is ticked.
+pub fn is_ticked(s: &[u8], a: usize, i: usize) -> bool
+    requires { ⌜ (a + rowSize ≤ length (now s)) × (i < rowLength) ⌝ }
+    ensures { λ r. ⌜ r ≡ tickedAt (now (s .entry)) a i ⌝ }
+{
+    s[a + TICKS_AT + i / BYTE_BITS] / tick_bit(i % BYTE_BITS) % 2 == 1
+}
+
+// The bit of position k of a tick byte.
+pub fn tick_bit(k: usize) -> u8
+    requires { ⌜ k < byteBits ⌝ }
+    ensures { λ r. ⌜ r ≡ 2 ^ k ⌝ }
+{
+    1u8 << k
+}
