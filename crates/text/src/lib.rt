@@ -20,7 +20,7 @@ pub fn put_text(out: &mut [u8], at: usize, source: &[u8]) -> usize
     requires { ⌜ at + length (now source) ≤ length (now out) ⌝ }
     ensures { λ r. ⌜ Puts (now (out .entry)) (now (out .exit)) at r (now (source .entry)) ⌝ }
 {
-    bytes::copy(source, &mut out[at..]);
+    octets::copy_in(source, out, at);
     at + source.len()
 }
 
