@@ -1,7 +1,7 @@
 -- What a turn ensures, from what its calls ensure. Assumes nothing.
 use Prim.Native.Nat.{ℕ, _+_, _*_, _≤_, _<_, _^_}
 use native.Mathlib.Omega.{arith}
-use mathlib.Core.Bool.{Bool, true, false, not, _&&_, _||_}
+use mathlib.Core.Bool.{Bool, true, false, not, _&&_}
 use mathlib.Core.List.{List, [], _++_, append-assoc, append-nil}
 use mathlib.Core.Path.{_≡_, refl, sym, ap, _∙_, subst}
 use borrow.Author.Tests.{ltb-false, ne-eqb, not-false}
@@ -16,22 +16,13 @@ use Rattle.idr_listing.specs.Text.{heading, mostLine}
 use Rattle.idr_listing.specs.Listing.{lineOf}
 use Rattle.idr_listing.specs.Run.{Run, begins, reads, lists}
 use Rattle.idr_listing.proofs.Streams.{whole}
-use Rattle.idr_list.specs.declared.State.{State}
-use Rattle.idr_list.specs.declared.Piece.{Piece}
-use Rattle.idr_list.specs.declared.Turn.{Turn}
-use Rattle.idr_list.specs.Turn.{bufferSize, emptied, Going, Behind, Holds, Stands, Turns, Ends}
-
--- a test does not come out both ways
-never : {A : Type 0} (b : Bool) → b ≡ true → b ≡ false → A
-never b p q = let z : _≡_ {A = ℕ} 0 1 = cc in absurd (omega arith)
-
-or-false : (a b : Bool) → (a || b) ≡ false → (a ≡ false) × (b ≡ false)
-or-false true b e = never true refl e
-or-false false b e = (refl, e)
-
-or-other : (a b : Bool) → (a || b) ≡ true → a ≡ false → b ≡ true
-or-other true b e f = never true refl f
-or-other false b e f = e
+use Rattle.text.specs.declared.State.{State}
+use Rattle.text.specs.State.{emptied}
+use Rattle.turns.specs.declared.Piece.{Piece}
+use Rattle.turns.specs.declared.Turn.{Turn}
+use Rattle.turns.specs.Turn.{textSize, Behind}
+use Rattle.turns.proofs.Rounds as turns
+use Rattle.idr_list.specs.Turn.{Going, Holds, Stands, Turns}
 
 -- ---- the run
 
@@ -117,12 +108,7 @@ writes-on w out s x = record {
 
 module _ (w w₁ out : List ℕ) (s : State) (p : Piece) (now : Going w out s) (behind : Behind w (s .have) w₁ p) (same : length w₁ ≡ length w) where
   pub turn-fails : Turns w out s w₁ out (record { state = s; failed = true })
-  turn-fails = record {
-    stands = same-run w w₁ out s (behind .held);
-    text = omega (arith, now .text, now .buffer);
-    next = λ (e : _≡_ {A = Bool} true false). never true refl e;
-    far = omega arith;
-  }
+  turn-fails = turns.turn-fails w w₁ out s now (same-run w w₁ out s (behind .held))
 
   pub turn-waits : eqb (p .got) 0 ≡ false → s .have + p .got < recordSize
       → Turns w out s w₁ out (record { state = holding s (s .have + p .got); failed = false })
@@ -154,7 +140,7 @@ module _ (w w₁ out : List ℕ) (s : State) (p : Piece) (now : Going w out s) (
     pub text-within : r .text ≤ length out′
     text-within = omega (arith, listed .few, now .text, now .buffer)
 
-    pub turn-lists : (enough : ℕ) → r .text ≤ enough → enough + mostLine ≤ bufferSize → Turns w out s w₁ out′ (record { state = r; failed = false })
+    pub turn-lists : (enough : ℕ) → r .text ≤ enough → enough + mostLine ≤ textSize → Turns w out s w₁ out′ (record { state = r; failed = false })
     turn-lists enough few free = record {
       stands = stands-listed;
       text = text-within;
@@ -163,26 +149,16 @@ module _ (w w₁ out : List ℕ) (s : State) (p : Piece) (now : Going w out s) (
     }
 
     pub turn-writes : (t : Turn) → t .state ≡ emptied r → Turns w out s w₁ out′ t
-    turn-writes t e = record {
-      stands = λ x. subst (λ (q : State). Stands w₁ out′ q) (sym e) (writes-on w₁ out′ r (stands-listed x));
-      text = rw e (omega arith);
-      next = λ _. rw e (λ _. (omega (arith, listed .have), lit≤ tt));
-      far = rw e (omega (arith, listed .place));
-    }
+    turn-writes t e =
+        turns.turn-writes w out w₁ out′ s r t e (λ x. writes-on w₁ out′ r (stands-listed x)) (λ _. omega (arith, listed .have)) (lit≤ tt)
+        (omega (arith, listed .place))
 
 -- ---- the loop
 
--- with turns left: the listing goes on, and the place stays low
-pub record Round (w out : List ℕ) (s : State) (turns : ℕ) : Type 0 where
-  pub stands : Stands w out s
-  pub window : length w ≡ recordSize
-  pub buffer : length out ≡ bufferSize
-  pub room : s .have < recordSize
-  pub text : s .text + mostLine ≤ bufferSize
-  pub low : s .place + recordSize * turns ≤ 2 ^ 63
-  pub on : s .done ≡ false
+abbrev pub Round : (w out : List ℕ) → State → (turns : ℕ) → Type 0
+Round = turns.Round Stands recordSize mostLine
 
-pub round-begins : (w old out : List ℕ) (end turns : ℕ) → length w ≡ recordSize → length out ≡ bufferSize
+pub round-begins : (w old out : List ℕ) (end turns : ℕ) → length w ≡ recordSize → length out ≡ textSize
     → Puts old out 0 end heading → recordSize * turns ≤ 2 ^ 63 → Round w out (record { place = 0; have = 0; text = end; done = false }) turns
 unfolding heading
 round-begins w old out end turns wide long p few = record {
@@ -193,52 +169,6 @@ round-begins w old out end turns wide long p few = record {
     run = subst (λ (t : List ℕ). Run [] false false 0 [] t) (sym (grown p)) begins;
     goes = λ _. refl;
   };
-  window = wide;
-  buffer = long;
-  room = lit< tt;
-  text = omega (arith, p .end);
+  going = record { window = wide; buffer = long; room = lit< tt; text = omega (arith, p .end); place = lit< tt; on = refl };
   low = omega (arith, few);
-  on = refl;
 }
-
-module _ (w out : List ℕ) (s : State) (turns : ℕ) (r : Round w out s turns) where
-  pub round-going : 0 < turns → Going w out s
-  round-going h = record {
-    window = r .window;
-    buffer = r .buffer;
-    room = r .room;
-    text = r .text;
-    place = omega (arith, r .low);
-    on = r .on;
-  }
-
-  pub round-gives-up : Ends w out (record { state = s; failed = true })
-  round-gives-up = record {
-    stands = r .stands;
-    text = omega (arith, r .text, r .buffer);
-    over = λ (e : _≡_ {A = Bool} true false). never true refl e;
-  }
-
-  -- after a turn that did not fail and did not end the listing
-  pub round-goes : (w′ out′ : List ℕ) (t : Turn) → 0 < turns → length w′ ≡ length w → length out′ ≡ length out → Turns w out s w′ out′ t
-      → (t .failed || t .state .done) ≡ false → (n : ℕ) → n + 1 ≡ turns → Round w′ out′ (t .state) n
-  round-goes w′ out′ t h a b turned e n less =
-      let o = or-false (t .failed) (t .state .done) e in
-      let next = turned .next (o .0) (o .1) in
-      record {
-        stands = turned .stands (r .stands);
-        window = a ∙ r .window;
-        buffer = b ∙ r .buffer;
-        room = next .0;
-        text = next .1;
-        low = omega (arith, r .low, turned .far);
-        on = o .1;
-      }
-
-  -- after one that did
-  pub round-ends : (w′ out′ : List ℕ) (t : Turn) → Turns w out s w′ out′ t → (t .failed || t .state .done) ≡ true → Ends w′ out′ t
-  round-ends w′ out′ t turned e = record {
-    stands = turned .stands (r .stands);
-    text = turned .text;
-    over = λ f. or-other (t .failed) (t .state .done) e f;
-  }

@@ -43,7 +43,7 @@ fn write_whole(words: &[u16], samples: &[u8], out: &mut [u8])
     ensures { λ _. ⌜ now (out .exit) ≡ wordBytes (now (words .entry)) ++ now (samples .entry) ⌝ }
 {
     write_words(words, out);
-    copy_at(samples, out, SAMPLES_AT);
+    octets::copy_in(samples, out, SAMPLES_AT);
 }
 
 fn write_words(words: &[u16], out: &mut [u8])
@@ -59,11 +59,4 @@ fn wide(x: u16) -> u64
     ensures { λ r. ⌜ r ≡ x ⌝ }
 {
     x as u64
-}
-
-fn copy_at(source: &[u8], out: &mut [u8], at: usize)
-    requires { ⌜ at + length (now source) ≤ length (now out) ⌝ }
-    ensures { λ _. ⌜ now (out .exit) ≡ put (now (out .entry)) at (now (source .entry)) ⌝ }
-{
-    bytes::copy(source, &mut out[at..]);
 }

@@ -21,12 +21,6 @@ pub and-true : (x y : Bool) → (x && y) ≡ true → (x ≡ true) × (y ≡ tru
 and-true true y e = (refl, e)
 and-true false y e = (e, cc)
 
--- What is known of two numbers that were found to fit.
-pub fit-both : (a m b n : ℕ) (fit : Bool) → fit ≡ (ltb a m && ltb b n) → not fit ≡ false → (a < m) × (b < n)
-fit-both a m b n fit e t =
-    let both = and-true (ltb a m) (ltb b n) (sym e ∙ not-false fit t) in
-    (ltb-true a m (both .0), ltb-true b n (both .1))
-
 -- Four numbers below their limits.
 pub record Below (a m b n c o d p : ℕ) : Type 0 where
   pub one : a < m
@@ -40,6 +34,19 @@ below a m b n c o d p e =
     let y = and-true (ltb a m && ltb b n) (ltb c o) (z .0) in
     let x = and-true (ltb a m) (ltb b n) (y .0) in
     record { one = ltb-true a m (x .0); two = ltb-true b n (x .1); three = ltb-true c o (y .1); four = ltb-true d p (z .1) }
+
+-- What is known of four numbers that were found to fit.
+pub fit-all : (a m b n c o d p : ℕ) (fit : Bool) → fit ≡ (ltb a m && ltb b n && ltb c o && ltb d p) → not fit ≡ false → Below a m b n c o d p
+fit-all a m b n c o d p fit e t = below a m b n c o d p (sym e ∙ not-false fit t)
+
+-- What a key call answers, by whether they do.
+pub refuses : (fits fit : Bool) (key : ℕ) → fit ≡ fits → not fit ≡ true → 22 ∷ [] ≡ made ((22 when not fits) ∷ []) key
+unfolding judge
+refuses fits fit key e t = rw (← e, t)
+
+pub makes : (fits fit : Bool) (key formula : ℕ) → fit ≡ fits → not fit ≡ false → key ≡ formula → 0 ∷ key ∷ [] ≡ made ((22 when not fits) ∷ []) formula
+unfolding judge
+makes fits fit key formula e t same = rw (← e, t, same)
 
 pub fitting : (a m b n c o d p : ℕ) → Below a m b n c o d p → (ltb a m && ltb b n && ltb c o && ltb d p) ≡ true
 fitting a m b n c o d p w = rw (lt-ltb a m (w .one), lt-ltb b n (w .two), lt-ltb c o (w .three), lt-ltb d p (w .four))

@@ -2,6 +2,7 @@
 use refusals::Refusal;
 ghost use mathlib.Core.Path.{_≡_};
 ghost use mathlib.Core.Bool.{_&&_};
+ghost use Prim.Native.Nat.{_<_, _^_};
 ghost use lib.Dec.{ltb};
 ghost use Rattle.keys.specs.Key.{validKey, telemetryKey, rsrKey, telemetryKeyCall, rsrKeyCall};
 ghost use Rattle.keys.specs.Numbers.{isNumber};
@@ -46,14 +47,40 @@ fn both_fit(a: u32, alimit: u32, b: u32, blimit: u32) -> bool
     b < blimit
 }
 
+// Whether four do.
+fn all_fit(
+    a: u32,
+    alimit: u32,
+    b: u32,
+    blimit: u32,
+    c: u32,
+    climit: u32,
+    d: u32,
+    dlimit: u32,
+) -> bool
+    ensures { λ r. ⌜ r ≡ (ltb a alimit && ltb b blimit && ltb c climit && ltb d dlimit) ⌝ }
+{
+    if !both_fit(a, alimit, b, blimit) {
+        return false;
+    }
+    both_fit(c, climit, d, dlimit)
+}
+
 // The key of a telemetry stream; refused where a number is wider than its field.
 pub fn telemetry_key(spacecraft: u32, source: u32, equipment: u32, stream: u32) -> KeyAnswer
     ensures { λ r. ⌜ wordsOf r ≡ telemetryKeyCall spacecraft source equipment stream ⌝ }
 {
-    if !both_fit(spacecraft, LIMIT_10, source, LIMIT_8) {
-        return KeyAnswer::Refused(Refusal::BadKey);
-    }
-    if !both_fit(equipment, LIMIT_16, stream, LIMIT_8) {
+    let fit = all_fit(
+        spacecraft,
+        LIMIT_10,
+        source,
+        LIMIT_8,
+        equipment,
+        LIMIT_16,
+        stream,
+        LIMIT_8,
+    );
+    if !fit {
         return KeyAnswer::Refused(Refusal::BadKey);
     }
     KeyAnswer::Key(telemetry_key_of(
@@ -64,8 +91,10 @@ pub fn telemetry_key(spacecraft: u32, source: u32, equipment: u32, stream: u32) 
     ))
 }
 
-// The key's formula alone, of numbers as wide as a record's.
+// The key's formula alone, for a caller that has the numbers from a record: it owes that the spacecraft has ten bits, and so makes
+// no key but a telemetry stream's.
 pub fn telemetry_key_of(spacecraft: u16, source: u8, equipment: u16, stream: u8) -> u64
+    requires { ⌜ spacecraft < 2 ^ 10 ⌝ }
     ensures { λ r. ⌜ r ≡ telemetryKey spacecraft source equipment stream ⌝ }
 {
     spacecraft as u64 * AT_32 + source as u64 * AT_24 + equipment as u64 * AT_8 + stream as u64
@@ -75,10 +104,17 @@ pub fn telemetry_key_of(spacecraft: u16, source: u8, equipment: u16, stream: u8)
 pub fn rsr_key(spacecraft: u32, station: u32, receiver: u32, subchannel: u32) -> KeyAnswer
     ensures { λ r. ⌜ wordsOf r ≡ rsrKeyCall spacecraft station receiver subchannel ⌝ }
 {
-    if !both_fit(spacecraft, LIMIT_8, station, LIMIT_8) {
-        return KeyAnswer::Refused(Refusal::BadKey);
-    }
-    if !both_fit(receiver, LIMIT_8, subchannel, LIMIT_8) {
+    let fit = all_fit(
+        spacecraft,
+        LIMIT_8,
+        station,
+        LIMIT_8,
+        receiver,
+        LIMIT_8,
+        subchannel,
+        LIMIT_8,
+    );
+    if !fit {
         return KeyAnswer::Refused(Refusal::BadKey);
     }
     KeyAnswer::Key(rsr_key_of(
@@ -89,7 +125,7 @@ pub fn rsr_key(spacecraft: u32, station: u32, receiver: u32, subchannel: u32) ->
     ))
 }
 
-// The key's formula alone, of numbers as wide as a record's.
+// The same of an RSR stream: its numbers are bytes, and any four bytes are a stream's.
 pub fn rsr_key_of(spacecraft: u8, station: u8, receiver: u8, subchannel: u8) -> u64
     ensures { λ r. ⌜ r ≡ rsrKey spacecraft station receiver subchannel ⌝ }
 {

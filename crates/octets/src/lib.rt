@@ -156,3 +156,11 @@ pub fn copy(s: &mut [u8], a: usize, b: usize, n: usize)
         s[b + i] = s[a + i];
     }
 }
+
+// Copies all of `source` to index a of `out`.
+pub fn copy_in(source: &[u8], out: &mut [u8], a: usize)
+    requires { ⌜ a + length (now source) ≤ length (now out) ⌝ }
+    ensures { λ _. ⌜ now (out .exit) ≡ put (now (out .entry)) a (now (source .entry)) ⌝ }
+{
+    bytes::copy(source, &mut out[a..]);
+}

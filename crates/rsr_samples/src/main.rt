@@ -2,8 +2,12 @@
 // is none. A pair a line, I and Q; with --raw as 32-bit little-endian integers.
 mod input;
 mod output;
-mod words;
 
+use arguments::Asked;
+use arguments::first_option_but;
+use arguments::how_many;
+use arguments::is_at;
+use arguments::open_at;
 use input::WINDOW;
 use input::next_record;
 use libc::STDERR_FILENO;
@@ -13,9 +17,9 @@ use output::write_samples;
 use refusals::Refusal;
 use sfdu::Fault;
 use sfdu_samples::Answer;
-use words::Asked;
-use words::asked_at;
-use words::tell_usage;
+
+// The program's own option.
+const RAW: [u8; 5] = *b"--raw";
 
 // The most numbers of a record: 32 for each word of its data, of which there are fewer than 2^14.
 const NUMBERS: usize = 524288;
@@ -119,55 +123,59 @@ fn stream(fd: i32, name: &[u8], raw: bool) {
     write_stream(fd, name, raw, &mut window, &mut numbers);
 }
 
-// The samples of the file that argument i names; nothing where it is an option.
-fn argument(i: usize, raw: bool) {
-    let option = asked_at(i);
-    match option {
-        Asked::Samples => file(i, raw),
-        Asked::Raw => {}
-        Asked::Help => {}
-        Asked::Unknown => {}
-    }
-}
-
+// The samples of the file that argument i names.
 fn file(i: usize, raw: bool) {
     let mut path = io::buffer();
-    let n = os::arg(i, &mut path);
-    if os::errno() != 0 {
-        os::fail(b"argument");
-        return;
-    }
-    let fd = os::open_read(&path[..n]);
+    let opened = open_at(i, &mut path);
+    let fd = opened.fd;
     if fd < 0 {
-        os::fail(&path[..n]);
         return;
     }
+    let n = opened.size;
     stream(fd, &path[..n], raw);
     libc::close(fd);
 }
 
-fn arguments(count: usize, raw: bool) {
+fn files(count: usize, raw: bool) {
     let mut i = 1;
     while i < count {
-        argument(i, raw);
+        if !is_at(i, &RAW) {
+            file(i, raw);
+        }
         i += 1;
     }
 }
 
+// All arguments but --raw name files.
+fn samples(count: usize) {
+    let raws = how_many(count, &RAW);
+    let raw = 0 < raws;
+    let named = std::num::wrapping_sub_usize(count, raws);
+    if named < 2 {
+        stream(STDIN_FILENO, b"standard input", raw);
+        return;
+    }
+    files(count, raw);
+}
+
+fn tell_usage(fd: i32) {
+    io::write_all(fd, b"usage: rsr_samples [--raw] [FILE ..]\n");
+    io::write_all(
+        fd,
+        b"Writes the samples of streams of RSR records, I and Q of each pair a line, in time order;\n",
+    );
+    io::write_all(
+        fd,
+        b"with --raw as 32-bit little-endian integers. With no FILE it reads standard input.\n",
+    );
+}
+
 fn main() {
     let count = os::arg_count();
-    let asked = words::options(count);
-    if asked.unknown {
-        tell_usage(STDERR_FILENO);
-        return;
+    let wanted = first_option_but(count, &RAW);
+    match wanted {
+        Asked::Files => samples(count),
+        Asked::Help => tell_usage(STDOUT_FILENO),
+        Asked::Unknown => tell_usage(STDERR_FILENO),
     }
-    if asked.help {
-        tell_usage(STDOUT_FILENO);
-        return;
-    }
-    if asked.files == 0 {
-        stream(STDIN_FILENO, b"standard input", asked.raw);
-        return;
-    }
-    arguments(count, asked.raw);
 }

@@ -26,16 +26,12 @@ fn no_sheet() -> File {
 // Reads the file that argument i names into the slot, and says what is wrong with one that is no sheet.
 pub fn load(i: usize, slot: &mut [u8]) -> File {
     let mut path = io::buffer();
-    let n = os::arg(i, &mut path);
-    if os::errno() != 0 {
-        os::fail(b"argument");
-        return no_sheet();
-    }
-    let fd = os::open_read(&path[..n]);
+    let opened = arguments::open_at(i, &mut path);
+    let fd = opened.fd;
     if fd < 0 {
-        os::fail(&path[..n]);
         return no_sheet();
     }
+    let n = opened.size;
     let file = load_open(fd, &path[..n], slot);
     libc::close(fd);
     file

@@ -3,6 +3,8 @@
 mod files;
 mod page;
 
+use arguments::Asked;
+use arguments::first_option;
 use files::first;
 use files::load;
 use ledger_season::MOST_SHEETS;
@@ -19,61 +21,11 @@ ghost use Rattle.ledger_season.specs.Report.{mostSheets};
 
 const MOST_BYTES: usize = MOST_SHEETS * SHEET;
 
-// What the arguments ask for.
-enum Asked {
-    Report,
-    Help,
-    Unknown,
-}
-
 // The sheets that are loaded: how many, which of them were converted, and whether all files were sheets.
 struct Loaded {
     count: usize,
     converted: [bool; MOST_SHEETS],
     ok: bool,
-}
-
-// A word that begins with '-' and has more behind it is an option.
-fn asked_by(word: &[u8]) -> Asked {
-    if word.len() < 2 {
-        return Asked::Report;
-    }
-    if word[0] != b'-' {
-        return Asked::Report;
-    }
-    let help = b"--help";
-    if word.len() != help.len() {
-        return Asked::Unknown;
-    }
-    if octets::is_same(word, 0, help, 0, help.len()) {
-        return Asked::Help;
-    }
-    Asked::Unknown
-}
-
-fn asked_at(i: usize) -> Asked {
-    let mut word = io::buffer();
-    let n = os::arg(i, &mut word);
-    asked_by(&word[..n])
-}
-
-// The first option among the arguments.
-fn first_option(count: usize) -> Asked {
-    let mut i = 1;
-    while i < count {
-        let found = asked_at(i);
-        match found {
-            Asked::Report => {}
-            Asked::Help => {
-                return Asked::Help;
-            }
-            Asked::Unknown => {
-                return Asked::Unknown;
-            }
-        }
-        i += 1;
-    }
-    Asked::Report
 }
 
 fn tell_usage(fd: i32) {
@@ -166,7 +118,7 @@ fn main() {
     match wanted {
         Asked::Help => tell_usage(STDOUT_FILENO),
         Asked::Unknown => tell_usage(STDERR_FILENO),
-        Asked::Report => {
+        Asked::Files => {
             if MOST_SHEETS < count - 1 {
                 io::write_all(STDERR_FILENO, b"more than 16 sheets (42)\n");
                 return;

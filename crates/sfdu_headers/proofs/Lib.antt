@@ -3,3 +3,4 @@ pub mod Accept
 pub mod Reading
 pub mod Words
 pub mod Dates
+pub mod Keys

@@ -2,5 +2,6 @@ pub mod Words
 pub mod Fields
 pub mod Ranges
 pub mod Headers
+pub mod Keys
 pub mod Dated
 pub mod Parts

@@ -1,49 +1,23 @@
 // Lists streams of records: the files that its arguments name, one after the other, or standard input where there is none. The
 // work is in `listing`, on slices; here are the calls of the system.
 ghost use mathlib.Core.Path.{_≡_};
-ghost use Prim.Native.Nat.{_≤_, _<_};
 ghost use lib.ListN.{length};
 ghost use Rattle.sfdu_listing.specs.Listing.{bufferSize};
-ghost use Rattle.sfdu_listing.specs.Run.{emptied};
-ghost use Rattle.sfdu_list.specs.Turn.{Going, Behind, Turns, Ends};
+ghost use Rattle.turns.specs.Turn.{textSize};
+ghost use Rattle.sfdu_list.specs.Turn.{Going, Turns, Ends};
 use arguments::Asked;
 use arguments::first_option;
+use arguments::open_at;
 use libc::STDERR_FILENO;
 use libc::STDIN_FILENO;
 use libc::STDOUT_FILENO;
-use sfdu_listing::State;
-
-// Text is written once there is more of it than this: then its buffer has room for that of another window.
-const ENOUGH: usize = 32768;
-
-// A proved loop has to end, and nothing says that a stream does: so the loop counts its turns down, from 2^47, which no run uses
-// up. A turn reads at most 65,536 bytes, so the place in the stream stays below 2^63.
-const TURNS: u64 = 140737488355328;
-
-// A piece of the stream: how many bytes came, none at its end; or the read failed.
-struct Piece {
-    got: usize,
-    failed: bool,
-}
-
-// What a turn left: where the listing stands, and whether a read or a write failed.
-struct Turn {
-    state: State,
-    failed: bool,
-}
-
-// Reads into the window from `have` on. There is room for a byte at least, so none means the end of the input.
-fn read_piece(fd: i32, w: &mut [u8], have: usize) -> Piece
-    requires { ⌜ have < length (now w) ⌝ }
-    ensures { λ r. ⌜ Behind (now (w .entry)) have (now (w .exit)) r ⌝ }
-{
-    let part = &mut w[have..];
-    let count = libc::read(fd, part);
-    Piece {
-        got: io::count(count, part),
-        failed: count < 0,
-    }
-}
+use text::State;
+use turns::ENOUGH;
+use turns::TURNS;
+use turns::Turn;
+use turns::flush;
+use turns::give_up;
+use turns::read_piece;
 
 // One turn: a piece is read and listed, and the text is written where there is enough of it.
 fn take_turn(fd: i32, name: &[u8], w: &mut [u8], out: &mut [u8], s: State) -> Turn
@@ -69,30 +43,9 @@ fn take_turn(fd: i32, name: &[u8], w: &mut [u8], out: &mut [u8], s: State) -> Tu
     flush(out, listed)
 }
 
-// Writes the text that is laid out.
-fn flush(out: &[u8], s: State) -> Turn
-    requires { ⌜ s .text ≤ length (now out) ⌝ }
-    ensures { λ r. ⌜ r .state ≡ emptied s ⌝ }
-{
-    let n = s.text;
-    let is_written = io::write_all(STDOUT_FILENO, &out[..n]);
-    if !is_written {
-        os::fail(b"standard output");
-    }
-    Turn {
-        state: State {
-            place: s.place,
-            have: s.have,
-            text: 0,
-            done: s.done,
-        },
-        failed: !is_written,
-    }
-}
-
 // Lists the stream of a descriptor, but for the last of the text.
 fn list_stream(fd: i32, name: &[u8], w: &mut [u8], out: &mut [u8]) -> Turn
-    requires { ⌜ (length (now w) ≡ bufferSize) × (length (now out) ≡ bufferSize) ⌝ }
+    requires { ⌜ (length (now w) ≡ bufferSize) × (length (now out) ≡ textSize) ⌝ }
     ensures { λ r. ⌜ Ends (now (w .exit)) (now (out .exit)) r ⌝ }
 {
     let mut s = sfdu_listing::begin(out);
@@ -112,11 +65,6 @@ fn list_stream(fd: i32, name: &[u8], w: &mut [u8], out: &mut [u8]) -> Turn
     }
 }
 
-fn give_up(name: &[u8]) {
-    io::write_all(STDERR_FILENO, name);
-    io::write_all(STDERR_FILENO, b": too long to list\n");
-}
-
 fn list(fd: i32, name: &[u8]) {
     let mut window = io::large_buffer();
     let w: &mut [u8] = &mut window;
@@ -129,16 +77,12 @@ fn list(fd: i32, name: &[u8]) {
 // Lists the file that argument i names, under a line with its name where there are several.
 fn list_argument(i: usize, several: bool) {
     let mut path = io::buffer();
-    let n = os::arg(i, &mut path);
-    if os::errno() != 0 {
-        os::fail(b"argument");
-        return;
-    }
-    let fd = os::open_read(&path[..n]);
+    let file = open_at(i, &mut path);
+    let fd = file.fd;
     if fd < 0 {
-        os::fail(&path[..n]);
         return;
     }
+    let n = file.size;
     if several {
         io::write_all(STDOUT_FILENO, &path[..n]);
         io::write_all(STDOUT_FILENO, b"\n");

@@ -11,7 +11,7 @@ use Rattle.octets.specs.Octets.{part, put}
 use Rattle.octets.proofs.Laws.{length-part}
 use Rattle.octets.proofs.Puts.{put-start}
 use Rattle.sfdu_listing.specs.declared.Drained.{Drained}
-use Rattle.sfdu_listing.specs.declared.State.{State}
+use Rattle.text.specs.declared.State.{State}
 use Rattle.sfdu_listing.specs.Window.{Drains, Ready, Lists}
 use Rattle.sfdu_listing.proofs.Judging.{cut-room}
 

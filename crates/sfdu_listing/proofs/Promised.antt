@@ -7,7 +7,7 @@ use mathlib.Core.Path.{_≡_, refl, sym, ap, _∙_}
 use borrow.Author.Tests.{ne-eqb}
 use lib.ListN.{length, take}
 use Rattle.text.proofs.Laid.{grown}
-use Rattle.sfdu_listing.specs.declared.State.{State}
+use Rattle.text.specs.declared.State.{State}
 use Rattle.sfdu_listing.specs.Listing.{linesFrom, listing}
 use Rattle.sfdu_listing.specs.Window.{unless, GoesOn}
 use Rattle.sfdu_listing.specs.Run.{Run, begins, lists, writes, Promise}

@@ -6,7 +6,8 @@ use mathlib.Core.List.{List, [], _++_}
 use mathlib.Core.Path.{_≡_}
 use lib.ListN.{length, take}
 use lib.Dec.{eqb}
-use Rattle.sfdu_listing.specs.declared.State.{State}
+use Rattle.text.specs.declared.State.{State}
+use Rattle.text.specs.State.{emptied}
 use Rattle.sfdu_listing.specs.Text.{heading}
 use Rattle.sfdu_listing.specs.Listing.{listing}
 use Rattle.sfdu_listing.specs.Window.{GoesOn, Lists}
@@ -14,10 +15,6 @@ use Rattle.sfdu_listing.specs.Window.{GoesOn, Lists}
 -- Nothing read, and the first line laid out.
 abbrev pub begun : State
 begun = record { place = 0; have = 0; text = length heading; done = false }
-
--- The text written, and its buffer free again.
-abbrev pub emptied : State → State
-emptied s = record { place = s .place; have = s .have; text = 0; done = s .done }
 
 -- Where a run can stand: what was read and whether that was all, what was written, the state, the bytes that the window holds and
 -- the text that is laid out.

@@ -15,7 +15,7 @@ use Rattle.sfdu_headers.specs.Fields.{recordNumber}
 use Rattle.sfdu_listing.specs.declared.Found.{Found}
 use Rattle.sfdu_listing.specs.declared.Found.the-variants.{Record, More, Stop}
 use Rattle.sfdu_listing.specs.declared.Drained.{Drained}
-use Rattle.sfdu_listing.specs.declared.State.{State}
+use Rattle.text.specs.declared.State.{State}
 use Rattle.sfdu_listing.specs.Text.{mostLast}
 use Rattle.sfdu_listing.specs.Listing.{bufferSize, listRules, whole, stopWords, linesFrom}
 

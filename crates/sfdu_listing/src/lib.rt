@@ -25,12 +25,3 @@ pub struct Drained {
     pub end: usize,
     pub done: bool,
 }
-
-// Where a listing stands: the place in the stream of the window's first byte, how many bytes the window holds, how many bytes of
-// text are laid out, and whether the last line is among them.
-pub struct State {
-    pub place: u64,
-    pub have: usize,
-    pub text: usize,
-    pub done: bool,
-}

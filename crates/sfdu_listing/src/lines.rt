@@ -8,10 +8,10 @@ ghost use Rattle.sfdu_listing.specs.Listing.{bufferSize};
 ghost use Rattle.sfdu_listing.specs.Text.{letter, heading, line, lastLine, mostLine, lineRoom, mostLast};
 ghost use Rattle.text.specs.Text.{space, Puts};
 ghost use Rattle.sfdu_listing.specs.Run.{begun};
-use crate::State;
 use sfdu::Kind;
 use text::LINE_END;
 use text::SPACE;
+use text::State;
 use text::put_text;
 use text::put_word;
 

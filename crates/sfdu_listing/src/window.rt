@@ -10,7 +10,6 @@ ghost use Rattle.sfdu_listing.specs.Listing.{bufferSize};
 ghost use Rattle.sfdu_listing.specs.Window.{wordsOf, foundIn, mostText, Drains, Ready, Lists};
 use crate::Drained;
 use crate::Found;
-use crate::State;
 use crate::lines::put_last;
 use crate::lines::put_line;
 use octets::read_be;
@@ -20,6 +19,7 @@ use sfdu::LENGTH_AT;
 use sfdu::Read;
 use sfdu::read_one;
 use sfdu_headers::record_number;
+use text::State;
 
 // The window's size: the longest record that the program takes.
 const WINDOW: usize = 65536;

@@ -7,35 +7,8 @@ ghost use Rattle.sfdu.specs.Nesting.{kindNumber, labelSize, primaryAt, secondar
 ghost use Rattle.sfdu_write.specs.Write.{wordsOf, writeOne, isInput, recordBytes, headBytes, labelBytes, primaryBlock, block};
 use octets::write_be;
 use refusals::Refusal;
-use sfdu::AGGREGATION_AT;
-use sfdu::AGGREGATION_TYPE;
-use sfdu::AUTHORITY;
-use sfdu::AUTHORITY_AT;
-use sfdu::CONTROL;
-use sfdu::CONTROL_AT;
-use sfdu::DATA_TYPE;
-use sfdu::KIND_AT;
 use sfdu::Kind;
-use sfdu::LABEL;
-use sfdu::LENGTH;
-use sfdu::LENGTH_AT;
-use sfdu::MOST_DATA;
-use sfdu::PRIMARY_AT;
-use sfdu::PRIMARY_LENGTH;
-use sfdu::PRIMARY_TYPE;
-use sfdu::PRIMARY_VALUE_AT;
 use sfdu::Primary;
-use sfdu::RSR_NUMBER;
-use sfdu::SECONDARY_AT;
-use sfdu::SECONDARY_VALUE_AT;
-use sfdu::TELEMETRY_NUMBER;
-use sfdu::WORD;
-use sfdu::aggregation_length;
-use sfdu::data_at;
-use sfdu::data_value_at;
-use sfdu::kind_tag;
-use sfdu::secondary_length;
-use sfdu::secondary_type;
 
 // What writing one record answers: its length in bytes.
 pub enum Write {
@@ -53,10 +26,10 @@ pub fn write_one(
 ) -> Write
     ensures { λ r. ⌜ (wordsOf r, now (out .exit)) ≡ writeOne kind primary (now (secondary .entry)) (now (value .entry)) (now (out .entry)) ⌝ }
 {
-    if kind == TELEMETRY_NUMBER {
+    if kind == sfdu::TELEMETRY_NUMBER {
         return write_kind(Kind::Telemetry, primary, secondary, value, out);
     }
-    if kind == RSR_NUMBER {
+    if kind == sfdu::RSR_NUMBER {
         return write_kind(Kind::Rsr, primary, secondary, value, out);
     }
     Write::Refused(Refusal::WriterInput)
@@ -69,7 +42,7 @@ fn write_kind(kind: Kind, primary: Primary, secondary: &[u8], value: &[u8], out:
     if !is_input(kind, secondary, value) {
         return Write::Refused(Refusal::WriterInput);
     }
-    let size = data_value_at(kind) + value.len();
+    let size = sfdu::data_value_at(kind) + value.len();
     if out.len() < size {
         return Write::Refused(Refusal::WriterSpace);
     }
@@ -81,18 +54,23 @@ fn write_kind(kind: Kind, primary: Primary, secondary: &[u8], value: &[u8], out:
 fn is_input(kind: Kind, secondary: &[u8], value: &[u8]) -> bool
     ensures { λ r. ⌜ r ≡ isInput kind (now (secondary .entry)) (now (value .entry)) ⌝ }
 {
-    (secondary.len() == secondary_length(kind)) & (value.len() <= MOST_DATA)
+    (secondary.len() == sfdu::secondary_length(kind)) & (value.len() <= sfdu::MOST_DATA)
 }
 
 fn write_record(kind: Kind, primary: Primary, secondary: &[u8], value: &[u8], out: &mut [u8])
     requires { ⌜ (length (now secondary) ≡ secondaryLength kind) × (length (now value) ≤ mostData) × (dataValueAt kind + length (now value) ≤ length (now out)) ⌝ }
     ensures { λ _. ⌜ now (out .exit) ≡ put (now (out .entry)) 0 (recordBytes kind primary (now (secondary .entry)) (now (value .entry))) ⌝ }
 {
-    let at = data_value_at(kind);
+    let at = sfdu::data_value_at(kind);
     write_head(kind, primary, at + value.len(), out);
-    copy_at(secondary, out, SECONDARY_VALUE_AT);
-    write_block(out, data_at(kind), DATA_TYPE, value.len() as u64);
-    copy_at(value, out, at);
+    octets::copy_in(secondary, out, sfdu::SECONDARY_VALUE_AT);
+    write_block(
+        out,
+        sfdu::data_at(kind),
+        sfdu::DATA_TYPE,
+        value.len() as u64,
+    );
+    octets::copy_in(value, out, at);
 }
 
 // All that stands before the secondary value, of a record that is `size` bytes long.
@@ -103,16 +81,16 @@ fn write_head(kind: Kind, primary: Primary, size: usize, out: &mut [u8])
     write_label(kind, size, out);
     write_block(
         out,
-        AGGREGATION_AT,
-        AGGREGATION_TYPE,
-        aggregation_length(kind),
+        sfdu::AGGREGATION_AT,
+        sfdu::AGGREGATION_TYPE,
+        sfdu::aggregation_length(kind),
     );
     write_primary(primary, out);
     write_block(
         out,
-        SECONDARY_AT,
-        secondary_type(kind),
-        secondary_length(kind) as u64,
+        sfdu::SECONDARY_AT,
+        sfdu::secondary_type(kind),
+        sfdu::secondary_length(kind) as u64,
     );
 }
 
@@ -120,10 +98,15 @@ fn write_label(kind: Kind, size: usize, out: &mut [u8])
     requires { ⌜ (labelSize ≤ size) × (labelSize ≤ length (now out)) ⌝ }
     ensures { λ _. ⌜ now (out .exit) ≡ put (now (out .entry)) 0 (labelBytes kind size) ⌝ }
 {
-    copy_at(&AUTHORITY, out, AUTHORITY_AT);
-    copy_at(&CONTROL, out, CONTROL_AT);
-    copy_at(&kind_tag(kind), out, KIND_AT);
-    write_be(out, LENGTH_AT, LENGTH, (size - LABEL) as u64);
+    octets::copy_in(&sfdu::AUTHORITY, out, sfdu::AUTHORITY_AT);
+    octets::copy_in(&sfdu::CONTROL, out, sfdu::CONTROL_AT);
+    octets::copy_in(&sfdu::kind_tag(kind), out, sfdu::KIND_AT);
+    write_be(
+        out,
+        sfdu::LENGTH_AT,
+        sfdu::LENGTH,
+        (size - sfdu::LABEL) as u64,
+    );
 }
 
 // The primary block, label and value.
@@ -131,11 +114,16 @@ fn write_primary(p: Primary, out: &mut [u8])
     requires { ⌜ secondaryValueAt ≤ length (now out) ⌝ }
     ensures { λ _. ⌜ now (out .exit) ≡ put (now (out .entry)) primaryAt (primaryBlock p) ⌝ }
 {
-    write_block(out, PRIMARY_AT, PRIMARY_TYPE, PRIMARY_LENGTH);
-    out[PRIMARY_VALUE_AT] = p.major;
-    out[PRIMARY_VALUE_AT + 1] = p.minor;
-    out[PRIMARY_VALUE_AT + 2] = p.mission;
-    out[PRIMARY_VALUE_AT + 3] = p.format;
+    write_block(
+        out,
+        sfdu::PRIMARY_AT,
+        sfdu::PRIMARY_TYPE,
+        sfdu::PRIMARY_LENGTH,
+    );
+    out[sfdu::PRIMARY_VALUE_AT] = p.major;
+    out[sfdu::PRIMARY_VALUE_AT + 1] = p.minor;
+    out[sfdu::PRIMARY_VALUE_AT + 2] = p.mission;
+    out[sfdu::PRIMARY_VALUE_AT + 3] = p.format;
 }
 
 // The label of a block: its type and its length.
@@ -143,13 +131,6 @@ fn write_block(out: &mut [u8], at: usize, class: u64, size: u64)
     requires { ⌜ at + blockLabelSize ≤ length (now out) ⌝ }
     ensures { λ _. ⌜ now (out .exit) ≡ put (now (out .entry)) at (block class size) ⌝ }
 {
-    write_be(out, at, WORD, class);
-    write_be(out, at + WORD, WORD, size);
-}
-
-fn copy_at(source: &[u8], out: &mut [u8], at: usize)
-    requires { ⌜ at + length (now source) ≤ length (now out) ⌝ }
-    ensures { λ _. ⌜ now (out .exit) ≡ put (now (out .entry)) at (now (source .entry)) ⌝ }
-{
-    bytes::copy(source, &mut out[at..]);
+    write_be(out, at, sfdu::WORD, class);
+    write_be(out, at + sfdu::WORD, sfdu::WORD, size);
 }

@@ -7,11 +7,20 @@ pub const SPACE: u8 = b' ';
 
 pub const LINE_END: u8 = b'\n';
 
+// Where a listing stands: the place in its input of the first byte that is held, how many bytes are held, how many bytes of text are laid
+// out, and whether the last line is among them.
+pub struct State {
+    pub place: u64,
+    pub have: usize,
+    pub text: usize,
+    pub done: bool,
+}
+
 pub fn put_text(out: &mut [u8], at: usize, source: &[u8]) -> usize
     requires { ⌜ at + length (now source) ≤ length (now out) ⌝ }
     ensures { λ r. ⌜ Puts (now (out .entry)) (now (out .exit)) at r (now (source .entry)) ⌝ }
 {
-    bytes::copy(source, &mut out[at..]);
+    octets::copy_in(source, out, at);
     at + source.len()
 }
 

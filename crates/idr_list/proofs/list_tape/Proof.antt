@@ -3,7 +3,8 @@
 use borrow.Author.Needs.{needs}
 use lib.Dec.{lit≤}
 use Rattle.idr_listing.specs.Text.{heading}
-use Rattle.idr_list.proofs.Onward.{Round, round-begins, round-going, round-goes, round-ends, round-gives-up}
+use Rattle.turns.proofs.Rounds.{round-goes, round-ends, round-gives-up}
+use Rattle.idr_list.proofs.Onward.{Round, round-begins}
 use Rattle.idr_list.proofs.list_tape.Statement.{statement}
 use Rattle.idr_list.proofs.list_tape.Tie as tie
 
@@ -20,13 +21,10 @@ begin-requires c κs = search needs
 loop-holds : tie.Need-loop-holds Inv-loop μ-loop
 loop-holds c =
     let began = c .before .before in
-    let start = began .before .before .before .before .before in
     round-begins _ _ _ _ _ (search needs) (search needs) (began .begin .ensures) (lit≤ tt)
 
 take-turn-requires : tie.Need-take-turn-requires Inv-loop μ-loop
-take-turn-requires c κs =
-    let k = c .before .before .before .loop in
-    round-going (k .w) (k .out) (k .s) (k .turns) (k .inv) (c .before .before .loop-test .taken)
+take-turn-requires c κs = c .before .before .before .loop .inv .going
 
 same-length : tie.Need-same-length Inv-loop μ-loop
 same-length c = search needs
@@ -50,8 +48,8 @@ loop-again : tie.Need-loop-again Inv-loop μ-loop
 loop-again c =
     let turned = c .before .before .before .before .before .before .before .before in
     let k = turned .before .before .before .before .loop in
-    let more = turned .before .before .before .loop-test .taken in
-    round-goes (k .w) (k .out) (k .s) (k .turns) (k .inv) _ _ _ more (search needs) (search needs) (turned .take-turn .ensures) (c .if1 .left) _ (search needs)
+    round-goes (k .w) (k .out) (k .s) (k .turns) (k .inv) _ _ _ (search needs) (search needs) (turned .take-turn .ensures) (c .if1 .left) _
+    (search needs) (lit≤ tt)
 
 give-up-requires : tie.Need-give-up-requires Inv-loop μ-loop
 give-up-requires c κs = search needs

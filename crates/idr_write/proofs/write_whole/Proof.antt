@@ -15,8 +15,8 @@ use Rattle.idr_write.proofs.write_whole.Tie as tie
 write-words-requires : tie.Need-write-words-requires
 write-words-requires c κs = search needs
 
-copy-at-requires : tie.Need-copy-at-requires
-copy-at-requires c κs = search needs
+copy-in-requires : tie.Need-copy-in-requires
+copy-in-requires c κs = search needs
 
 same-length : tie.Need-same-length
 same-length c = search needs
@@ -28,9 +28,9 @@ returns c =
     let g = written .before .before .before .before .before .args in
     let w = g .words .now in
     let t = g .samples .now in
-    put-next (g .out .now) 0 (wordBytes w) samplesAt t (written .write-words .ensures) (copied .copy-at .ensures) (omega (arith, length-wordBytes w))
+    put-next (g .out .now) 0 (wordBytes w) samplesAt t (written .write-words .ensures) (copied .copy-in .ensures) (omega (arith, length-wordBytes w))
     (omega arith)
     ∙ put-whole (g .out .now) (wordBytes w ++ t) (omega (arith, length-append (wordBytes w) t, length-wordBytes w))
 
 pub write-whole-spec : {M : Type 1} → statement M
-write-whole-spec = tie.close (tie.spec write-words-requires copy-at-requires same-length returns)
+write-whole-spec = tie.close (tie.spec write-words-requires copy-in-requires same-length returns)

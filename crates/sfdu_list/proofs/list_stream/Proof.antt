@@ -3,7 +3,8 @@
 use borrow.Author.Needs.{needs}
 use lib.Dec.{lit≤}
 use Rattle.sfdu_listing.specs.Text.{heading}
-use Rattle.sfdu_list.proofs.Onward.{Round, round-begins, round-going, round-goes, round-ends, round-gives-up}
+use Rattle.turns.proofs.Rounds.{round-goes, round-ends, round-gives-up}
+use Rattle.sfdu_list.proofs.Onward.{Round, round-begins}
 use Rattle.sfdu_list.proofs.list_stream.Statement.{statement}
 use Rattle.sfdu_list.proofs.list_stream.Tie as tie
 
@@ -18,10 +19,12 @@ unfolding heading
 begin-requires c κs = search needs
 
 loop-holds : tie.Need-loop-holds Inv-loop μ-loop
-loop-holds c = round-begins _ _ _ _ _ (search needs) (search needs) (c .before .before .begin .ensures .0) (c .before .before .begin .ensures .1) (lit≤ tt)
+loop-holds c =
+    let began = c .before .before .begin .ensures in
+    round-begins _ _ _ _ _ (search needs) (search needs) (began .0) (began .1) (lit≤ tt)
 
 take-turn-requires : tie.Need-take-turn-requires Inv-loop μ-loop
-take-turn-requires c κs = let k = c .before .before .before .loop in round-going (k .w) (k .out) (k .s) (k .turns) (k .inv) (c .before .before .loop-test .taken)
+take-turn-requires c κs = c .before .before .before .loop .inv .going
 
 same-length : tie.Need-same-length Inv-loop μ-loop
 same-length c = search needs
@@ -30,7 +33,10 @@ same-length-2 : tie.Need-same-length-2 Inv-loop μ-loop
 same-length-2 c = search needs
 
 returns : tie.Need-returns Inv-loop μ-loop
-returns c = let k = c .before .before .before .before .before .before .before .before .before .before .before .before .loop in round-ends (k .w) (k .out) (k .s) (k .turns) (k .inv) _ _ _ (c .before .before .before .before .before .before .before .before .take-turn .ensures) (c .if1 .taken)
+returns c =
+    let turned = c .before .before .before .before .before .before .before .before in
+    let k = turned .before .before .before .before .loop in
+    round-ends (k .w) (k .out) (k .s) (k .turns) (k .inv) _ _ _ (turned .take-turn .ensures) (c .if1 .taken)
 
 sub-turns : tie.Need-sub-turns Inv-loop μ-loop
 sub-turns c = search needs
@@ -39,7 +45,11 @@ loop-less : tie.Need-loop-less Inv-loop μ-loop
 loop-less c = search needs
 
 loop-again : tie.Need-loop-again Inv-loop μ-loop
-loop-again c = let k = c .before .before .before .before .before .before .before .before .before .before .before .before .loop in round-goes (k .w) (k .out) (k .s) (k .turns) (k .inv) _ _ _ (c .before .before .before .before .before .before .before .before .before .before .before .loop-test .taken) (search needs) (search needs) (c .before .before .before .before .before .before .before .before .take-turn .ensures) (c .if1 .left) _ (search needs)
+loop-again c =
+    let turned = c .before .before .before .before .before .before .before .before in
+    let k = turned .before .before .before .before .loop in
+    round-goes (k .w) (k .out) (k .s) (k .turns) (k .inv) _ _ _ (search needs) (search needs) (turned .take-turn .ensures) (c .if1 .left) _
+    (search needs) (lit≤ tt)
 
 give-up-requires : tie.Need-give-up-requires Inv-loop μ-loop
 give-up-requires c κs = search needs

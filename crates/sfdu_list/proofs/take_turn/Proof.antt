@@ -15,7 +15,9 @@ same-length : tie.Need-same-length
 same-length c = search needs
 
 returns : tie.Need-returns
-returns c = turn-fails _ _ _ _ _ (c .before .before .before .before .before .before .before .before .before .pre) (c .before .before .before .before .read-piece .ensures) (search needs)
+returns c =
+    let read = c .before .before .before .before in
+    turn-fails _ _ _ _ _ (read .before .before .before .before .before .pre) (read .read-piece .ensures) (search needs)
 
 list-piece-requires : tie.Need-list-piece-requires
 list-piece-requires c κs = search needs
@@ -27,7 +29,11 @@ same-length-3 : tie.Need-same-length-3
 same-length-3 c = search needs
 
 returns-2 : tie.Need-returns-2
-returns-2 c = turn-lists _ _ _ _ _ (c .before .before .before .before .before .before .before .before .before .before .before .before .before .before .before .before .before .pre) (c .before .before .before .before .before .before .before .before .before .before .before .before .read-piece .ensures) (search needs) _ _ _ (c .before .before .before .before .before .before .list-piece .ensures) _ (c .if2 .taken) (lit≤ tt)
+returns-2 c =
+    let listed = c .before .before .before .before .before .before in
+    let read = listed .before .before .before .before .before .before in
+    let start = read .before .before .before .before .before in
+    turn-lists _ _ _ _ _ (start .pre) (read .read-piece .ensures) (search needs) _ _ _ (listed .list-piece .ensures) _ (c .if2 .taken) (lit≤ tt)
 
 flush-requires : tie.Need-flush-requires
 flush-requires c κs = search needs
@@ -39,7 +45,11 @@ same-length-5 : tie.Need-same-length-5
 same-length-5 c = search needs
 
 returns-3 : tie.Need-returns-3
-returns-3 c = turn-writes _ _ _ _ _ (c .before .before .before .before .before .before .before .before .before .before .before .before .before .before .before .before .before .before .before .pre) (c .before .before .before .before .before .before .before .before .before .before .before .before .before .before .read-piece .ensures) (search needs) _ _ _ (c .before .before .before .before .before .before .before .before .list-piece .ensures) _ (c .flush .ensures)
+returns-3 c =
+    let listed = c .before .before .before .before .before .before .before .before in
+    let read = listed .before .before .before .before .before .before in
+    let start = read .before .before .before .before .before in
+    turn-writes _ _ _ _ _ (start .pre) (read .read-piece .ensures) (search needs) _ _ _ (listed .list-piece .ensures) _ (c .flush .ensures)
 
 pub take-turn-spec : {M : Type 1} → statement M
 take-turn-spec =

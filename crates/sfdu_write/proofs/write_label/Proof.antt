@@ -14,26 +14,26 @@ use borrow.Author.Needs.{needs}
 use Rattle.sfdu_write.proofs.write_label.Statement.{statement}
 use Rattle.sfdu_write.proofs.write_label.Tie as tie
 
-slice-aggregate-copy-at : tie.Need-slice-aggregate-copy-at
-slice-aggregate-copy-at c = search needs
+slice-aggregate-copy-in : tie.Need-slice-aggregate-copy-in
+slice-aggregate-copy-in c = search needs
 
-copy-at-requires : tie.Need-copy-at-requires
-copy-at-requires c κs = search needs
+copy-in-requires : tie.Need-copy-in-requires
+copy-in-requires c κs = search needs
 
-slice-aggregate-copy-at-2 : tie.Need-slice-aggregate-copy-at-2
-slice-aggregate-copy-at-2 c = search needs
+slice-aggregate-copy-in-2 : tie.Need-slice-aggregate-copy-in-2
+slice-aggregate-copy-in-2 c = search needs
 
-copy-at-requires-2 : tie.Need-copy-at-requires-2
-copy-at-requires-2 c κs = search needs
+copy-in-requires-2 : tie.Need-copy-in-requires-2
+copy-in-requires-2 c κs = search needs
 
 kind-tag-requires : tie.Need-kind-tag-requires
 kind-tag-requires c κs = search needs
 
-slice-aggregate-copy-at-3 : tie.Need-slice-aggregate-copy-at-3
-slice-aggregate-copy-at-3 c = search needs
+slice-aggregate-copy-in-3 : tie.Need-slice-aggregate-copy-in-3
+slice-aggregate-copy-in-3 c = search needs
 
-copy-at-requires-3 : tie.Need-copy-at-requires-3
-copy-at-requires-3 c κs = search needs
+copy-in-requires-3 : tie.Need-copy-in-requires-3
+copy-in-requires-3 c κs = search needs
 
 sub-write-be : tie.Need-sub-write-be
 sub-write-be c = search needs
@@ -50,8 +50,8 @@ returns c =
     let g = c .before .before .before .before .before .before .before .before .before .before .before .before .before .before .before .before .before .before .before .before .before .args in
     let k = length-kind (g .kind) in
     let l = length-bytesOf lengthSize (g .size - labelSize) in
-    let spelt = rw (c .before .before .before .before .before .before .before .before .before .kind-tag .ensures) at (c .before .before .before .before .before .before .copy-at3 .ensures) in
-    let one = put-next (g .out .now) 0 authority _ control (c .before .before .before .before .before .before .before .before .before .before .before .before .before .before .before .before .before .copy-at .ensures) (c .before .before .before .before .before .before .before .before .before .before .before .before .copy-at2 .ensures) refl (omega arith) in
+    let spelt = rw (c .before .before .before .before .before .before .before .before .before .kind-tag .ensures) at (c .before .before .before .before .before .before .copy-in3 .ensures) in
+    let one = put-next (g .out .now) 0 authority _ control (c .before .before .before .before .before .before .before .before .before .before .before .before .before .before .before .before .before .copy-in .ensures) (c .before .before .before .before .before .before .before .before .before .before .before .before .copy-in2 .ensures) refl (omega arith) in
     let two = put-next (g .out .now) 0 (authority ++ control) _ (kindBytes (g .kind)) one spelt refl (omega arith) in
     put-next (g .out .now) 0 (authority ++ control ++ kindBytes (g .kind)) _ (bytesOf lengthSize (g .size - labelSize)) two (c .before .before .write-be .ensures) (simp (length-append, length-kind) refl) (omega arith)
 
@@ -59,13 +59,13 @@ pub write-label-spec : {M : Type 1} → statement M
 write-label-spec =
     tie.close
     (tie.spec
-    slice-aggregate-copy-at
-    copy-at-requires
-    slice-aggregate-copy-at-2
-    copy-at-requires-2
+    slice-aggregate-copy-in
+    copy-in-requires
+    slice-aggregate-copy-in-2
+    copy-in-requires-2
     kind-tag-requires
-    slice-aggregate-copy-at-3
-    copy-at-requires-3
+    slice-aggregate-copy-in-3
+    copy-in-requires-3
     sub-write-be
     write-be-requires
     same-length

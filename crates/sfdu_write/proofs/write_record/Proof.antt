@@ -21,8 +21,8 @@ add-write-head c = search needs
 write-head-requires : tie.Need-write-head-requires
 write-head-requires c κs = let k = placed (c .before .before .before .before .before .args .kind) in (omega (arith, c .before .data-value-at .ensures), omega arith)
 
-copy-at-requires : tie.Need-copy-at-requires
-copy-at-requires c κs = let k = placed (c .before .before .before .before .before .before .before .before .before .args .kind) in omega arith
+copy-in-requires : tie.Need-copy-in-requires
+copy-in-requires c κs = let k = placed (c .before .before .before .before .before .before .before .before .before .args .kind) in omega arith
 
 data-at-requires : tie.Need-data-at-requires
 data-at-requires c κs = search needs
@@ -30,8 +30,8 @@ data-at-requires c κs = search needs
 write-block-requires : tie.Need-write-block-requires
 write-block-requires c κs = let k = placed (c .before .before .before .before .before .before .before .before .before .before .before .before .before .before .args .kind) in omega (arith, c .data-at .ensures)
 
-copy-at-requires-2 : tie.Need-copy-at-requires-2
-copy-at-requires-2 c κs = search needs
+copy-in-requires-2 : tie.Need-copy-in-requires-2
+copy-in-requires-2 c κs = search needs
 
 same-length : tie.Need-same-length
 same-length c = search needs
@@ -51,8 +51,8 @@ returns c =
     let m = length-block dataType (length value) in
     let first = rw (c .before .before .before .before .before .before .before .before .before .before .before .before .before .before .before .before .before .data-value-at .ensures) at (c .before .before .before .before .before .before .before .before .before .before .before .before .before .before .before .write-head .ensures) in
     let third = rw (c .before .before .before .before .before .before .before .data-at .ensures) at (c .before .before .before .before .before .before .write-block .ensures) in
-    let last = rw (c .before .before .before .before .before .before .before .before .before .before .before .before .before .before .before .before .before .data-value-at .ensures) at (c .before .before .copy-at2 .ensures) in
-    let one = put-next out 0 head secondaryValueAt secondary first (c .before .before .before .before .before .before .before .before .before .before .before .copy-at .ensures) (omega arith) (omega arith) in
+    let last = rw (c .before .before .before .before .before .before .before .before .before .before .before .before .before .before .before .before .before .data-value-at .ensures) at (c .before .before .copy-in2 .ensures) in
+    let one = put-next out 0 head secondaryValueAt secondary first (c .before .before .before .before .before .before .before .before .before .before .before .copy-in .ensures) (omega arith) (omega arith) in
     let two = put-next out 0 (head ++ secondary) (dataAt (g .kind)) label one third (omega (arith, length-append head secondary)) (omega arith) in
     put-next out 0 (head ++ secondary ++ label) (dataValueAt (g .kind)) value two last
     (omega (arith, length-append (head ++ secondary) label, length-append head secondary)) (omega arith)
@@ -64,9 +64,9 @@ write-record-spec =
     data-value-at-requires
     add-write-head
     write-head-requires
-    copy-at-requires
+    copy-in-requires
     data-at-requires
     write-block-requires
-    copy-at-requires-2
+    copy-in-requires-2
     same-length
     returns)

@@ -6,6 +6,7 @@ use Rattle.sfdu.specs.declared.Kind.the-variants.{Telemetry}
 use Rattle.sfdu.specs.Read.{primaryWords}
 use Rattle.sfdu_headers.specs.Headers.{outOfRange, telemetryFieldWords, receivedWords}
 use Rattle.sfdu_headers.proofs.Accept.{same-accepted, telemetry-key, received-parts}
+use Rattle.sfdu_headers.proofs.Keys.{spacecraft-fits}
 use borrow.Author.Needs.{needs}
 use Rattle.sfdu_headers.proofs.telemetry.fields.Statement.{statement}
 use Rattle.sfdu_headers.proofs.telemetry.fields.Tie as tie
@@ -29,7 +30,9 @@ read-fields-requires : tie.Need-read-fields-requires
 read-fields-requires c κs = search needs
 
 telemetry-key-of-requires : tie.Need-telemetry-key-of-requires
-telemetry-key-of-requires c κs = search needs
+telemetry-key-of-requires c κs =
+    let known = c .before .before .before .before in
+    spacecraft-fits (known .before .args .s .now) (c .read-fields .result) (known .shared-slice-known .given) (c .read-fields .ensures)
 
 split-requires : tie.Need-split-requires
 split-requires c κs = search needs

@@ -1,9 +1,9 @@
--- `sfdu_list::flush` meets its contract. Assumes nothing.
+-- `turns::flush` meets its contract. Assumes nothing.
 use mathlib.Core.Path.{sym}
 use lib.Seq.{length-take-le}
 use borrow.Author.Needs.{needs}
-use Rattle.sfdu_list.proofs.flush.Statement.{statement}
-use Rattle.sfdu_list.proofs.flush.Tie as tie
+use Rattle.turns.proofs.flush.Statement.{statement}
+use Rattle.turns.proofs.flush.Tie as tie
 
 slice-aggregate-write-all : tie.Need-slice-aggregate-write-all
 slice-aggregate-write-all c = sym (length-take-le _ _ (c .before .before .pre))

@@ -1,9 +1,9 @@
--- `idr_list::read_piece` meets its contract: a read changes nothing before the part that it is lent. Assumes nothing.
+-- `turns::read_piece` meets its contract: a read changes nothing before the part that it is lent. Assumes nothing.
 use native.Mathlib.Omega.{arith}
 use lib.Seq.{take-at, length-take-le}
 use borrow.Author.Needs.{needs}
-use Rattle.idr_list.proofs.read_piece.Statement.{statement}
-use Rattle.idr_list.proofs.read_piece.Tie as tie
+use Rattle.turns.proofs.read_piece.Statement.{statement}
+use Rattle.turns.proofs.read_piece.Tie as tie
 
 sub-part : tie.Need-sub-part
 sub-part c = search needs

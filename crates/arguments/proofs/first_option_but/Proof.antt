@@ -1,14 +1,14 @@
--- `season_report::first_option` is safe and ends. Assumes nothing.
+-- `arguments::first_option_but` is safe and ends. Assumes nothing.
 use borrow.Author.Needs.{needs}
 use Prim.Native.Nat.{_-_, _<_, _^_}
-use Rattle.season_report.proofs.first_option.Statement.{statement}
-use Rattle.season_report.proofs.first_option.Tie as tie
+use Rattle.arguments.proofs.first_option_but.Statement.{statement}
+use Rattle.arguments.proofs.first_option_but.Tie as tie
 
 abbrev Inv-loop : tie.InvT-loop
-Inv-loop count i₀ i = count < 2 ^ 64
+Inv-loop count own i₀ i = count < 2 ^ 64
 
 abbrev μ-loop : tie.MeasureT-loop
-μ-loop count i₀ i = count - i
+μ-loop count own i₀ i = count - i
 
 loop-holds : tie.Need-loop-holds Inv-loop μ-loop
 loop-holds c = search needs
@@ -43,8 +43,8 @@ loop-again c = search needs
 returns-3 : tie.Need-returns-3 Inv-loop μ-loop
 returns-3 c = search needs
 
-pub first-option-spec : {M : Type 1} → statement M
-first-option-spec =
+pub first-option-but-spec : {M : Type 1} → statement M
+first-option-but-spec =
     tie.close
     (tie.spec
     Inv-loop
