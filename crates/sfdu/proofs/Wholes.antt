@@ -79,14 +79,6 @@ module _ (k : Kind) (s : List ℕ) (bytes : Bytes s) (long : labelSize ≤ lengt
           absurd (h (sym back ∙ ap (λ (x : List ℕ). numberAt x 0 4) (tag-part ∙ p ∙ sym (spelt k)) ∙ spelt-back k))
       by false e = e
 
-  -- so a test of the word is one of the tag
-  pub tag-test : (tag : ℕ) → tag ≡ numberAt s kindAt 4 → eqb tag (tagNumber k) ≡ hasKind k s
-  tag-test tag word = by (eqb tag (tagNumber k)) refl
-    where
-      by : (b : Bool) → eqb tag (tagNumber k) ≡ b → b ≡ hasKind k s
-      by true e = sym (tag-same (sym word ∙ eqb-true tag (tagNumber k) e))
-      by false e = sym (tag-other (λ q. eqb-false tag (tagNumber k) e (word ∙ q)))
-
 -- ---- the blocks
 
 both : (a b m : Bool) → cond (not a) false (cond (not b) false m) ≡ ((a && b) && m)

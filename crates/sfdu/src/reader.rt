@@ -1,6 +1,6 @@
 // Read one: the checks in the order of document 01's refusal table, and the two parts.
 ghost use denote.Ref.{ptr};
-ghost use mathlib.Core.Bool.{_&&_, _||_};
+ghost use mathlib.Core.Bool.{_&&_};
 ghost use mathlib.Core.List.{[], _∷_, _++_};
 ghost use mathlib.Core.Path.{_≡_};
 ghost use Prim.Native.Nat.{_+_, _-_, _≤_, _<_};
@@ -9,14 +9,16 @@ ghost use lib.Dec.{eqb, leb};
 ghost use Rattle.refusals.specs.Judge.{answered};
 ghost use Rattle.refusals.specs.Table.{numberOf};
 ghost use Rattle.octets.specs.Octets.{sameAt};
-ghost use Rattle.sfdu.specs.Nesting.{authority, control, authorityAt, controlAt, tagSize, labelSize, blockLabelSize, aggregationAt, primaryAt, secondaryAt, dataAt, dataValueAt, aggregationType, primaryType, secondaryType, dataType, aggregationLength, primaryLength, secondaryLength, leastLabelLength, mostLabelLength};
-ghost use Rattle.sfdu.specs.declared.Kind.the-variants.{Telemetry, Rsr};
-ghost use Rattle.sfdu.specs.Read.{wordsOf, primaryWords, primaryOf, readOne, lengthRules, headerRules, dataRules, recordWords, hasKind, kindOf, labelLength, recordLength, blockType, blockLength, checked, typeAndLength, secondaryPart, secondaryStart, dataPart, dataStart};
+ghost use Rattle.sfdu.specs.Nesting.{authority, control, authorityAt, controlAt, tagSize, labelSize, blockLabelSize, aggregationAt, primaryAt, secondaryAt, dataAt, dataValueAt, aggregationType, primaryType, secondaryType, dataType, aggregationLength, primaryLength, secondaryLength, leastLabelLength, mostLabelLength, mostData};
+ghost use Rattle.sfdu.specs.Read.{wordsOf, primaryWords, primaryOf, readOne, lengthRules, headerRules, dataRules, recordWords, labelLength, recordLength, blockType, blockLength, checked, typeAndLength, secondaryPart, secondaryStart, dataPart, dataStart};
 use crate::Checked;
 use crate::Fault;
 use crate::Kind;
 use crate::Primary;
 use crate::Read;
+use crate::loads::load_u16;
+use crate::loads::load_u32;
+use crate::loads::load_u64;
 use crate::nesting::AGGREGATION_AT;
 use crate::nesting::AGGREGATION_TYPE;
 use crate::nesting::AUTHORITY;
@@ -26,7 +28,6 @@ use crate::nesting::CONTROL_AT;
 use crate::nesting::DATA_TYPE;
 use crate::nesting::KIND_AT;
 use crate::nesting::LABEL;
-use crate::nesting::LENGTH;
 use crate::nesting::LENGTH_AT;
 use crate::nesting::MOST_DATA;
 use crate::nesting::PRIMARY_AT;
@@ -45,12 +46,12 @@ use crate::nesting::data_value_at;
 use crate::nesting::least_label_length;
 use crate::nesting::secondary_length;
 use crate::nesting::secondary_type;
+use crate::whole::is_label;
 use octets::is_same;
-use octets::read_be;
-use octets::read_u32;
 use refusals::Refusal;
 
-// The first record of a slice; what stands after it does not matter.
+// The first record of a slice; what stands after it does not matter. Each kind has a call of its own: LLVM makes a chain of tests for
+// each, in which the kind's offsets and lengths are constants.
 pub fn read_one(s: &[u8]) -> Read
     ensures { λ r. ⌜ wordsOf r ≡ readOne (now (s .entry)) ⌝ }
 {
@@ -63,10 +64,14 @@ pub fn read_one(s: &[u8]) -> Read
     if !has_control(s) {
         return refused(Refusal::LabelControl, CONTROL_AT);
     }
-    if !is_known(s) {
-        return refused(Refusal::UnknownKind, KIND_AT);
+    let tag = load_u32(s, KIND_AT);
+    if tag == TELEMETRY_TAG {
+        return read_length(s, Kind::Telemetry);
     }
-    read_length(s, kind_of(s))
+    if tag == RSR_TAG {
+        return read_length(s, Kind::Rsr);
+    }
+    refused(Refusal::UnknownKind, KIND_AT)
 }
 
 fn refused(refusal: Refusal, at: usize) -> Read
@@ -87,36 +92,6 @@ pub fn has_control(s: &[u8]) -> bool
     ensures { λ r. ⌜ r ≡ sameAt (now (s .entry)) controlAt control 0 tagSize ⌝ }
 {
     is_same(s, CONTROL_AT, &CONTROL, 0, TAG)
-}
-
-// The tag as one word: LLVM makes byte compares of an array that depends on the kind.
-fn has_kind(s: &[u8], kind: Kind) -> bool
-    requires { ⌜ labelSize ≤ length (now s) ⌝ }
-    ensures { λ r. ⌜ r ≡ hasKind kind (now (s .entry)) ⌝ }
-{
-    let tag = read_u32(s, KIND_AT);
-    match kind {
-        Kind::Telemetry => tag == TELEMETRY_TAG,
-        Kind::Rsr => tag == RSR_TAG,
-    }
-}
-
-// Whether the kind is one of the two.
-fn is_known(s: &[u8]) -> bool
-    requires { ⌜ labelSize ≤ length (now s) ⌝ }
-    ensures { λ r. ⌜ r ≡ (hasKind Telemetry (now (s .entry)) || hasKind Rsr (now (s .entry))) ⌝ }
-{
-    has_kind(s, Kind::Telemetry) | has_kind(s, Kind::Rsr)
-}
-
-fn kind_of(s: &[u8]) -> Kind
-    requires { ⌜ labelSize ≤ length (now s) ⌝ }
-    ensures { λ r. ⌜ r ≡ kindOf (now (s .entry)) ⌝ }
-{
-    if has_kind(s, Kind::Telemetry) {
-        return Kind::Telemetry;
-    }
-    Kind::Rsr
 }
 
 // The refusals from the label's length on.
@@ -140,7 +115,7 @@ pub fn label_length(s: &[u8]) -> u64
     requires { ⌜ labelSize ≤ length (now s) ⌝ }
     ensures { λ r. ⌜ r ≡ labelLength (now (s .entry)) ⌝ }
 {
-    read_be(s, LENGTH_AT, LENGTH)
+    load_u64(s, LENGTH_AT)
 }
 
 pub fn length_in_range(after: u64, kind: Kind) -> bool
@@ -202,18 +177,18 @@ fn judge_secondary(s: &[u8], kind: Kind) -> Checked
     )
 }
 
-// The first field of the label of the block at an offset that is not this type and this length.
+// The first field of the label of the block at an offset that is not this type and this length. A right label is one test.
 fn judge_label(s: &[u8], at: usize, class: u64, size: u64) -> Checked
-    requires { ⌜ at + blockLabelSize ≤ length (now s) ⌝ }
+    requires { ⌜ (at + blockLabelSize ≤ length (now s)) × (class ≤ mostData) × (size ≤ mostData) ⌝ }
     ensures { λ r. ⌜ r ≡ checked (typeAndLength (now (s .entry)) at class size) ⌝ }
 {
-    if read_be(s, at, WORD) != class {
+    if is_label(s, at, class, size) {
+        return Checked::Right;
+    }
+    if load_u16(s, at) as u64 != class {
         return Checked::Wrong(at);
     }
-    if block_length(s, at) != size {
-        return Checked::Wrong(at + WORD);
-    }
-    Checked::Right
+    Checked::Wrong(at + WORD)
 }
 
 fn block_length(s: &[u8], at: usize) -> u64
@@ -221,7 +196,7 @@ fn block_length(s: &[u8], at: usize) -> u64
     ensures { λ r. ⌜ r ≡ blockLength (now (s .entry)) at ⌝ }
     ensures { λ r. ⌜ r < 65536 ⌝ }
 {
-    read_be(s, at + WORD, WORD)
+    load_u16(s, at + WORD) as u64
 }
 
 // The refusals from the data block's label on, and the record where there is none.
@@ -260,7 +235,7 @@ fn has_data_type(s: &[u8], kind: Kind) -> bool
     requires { ⌜ dataValueAt kind ≤ length (now s) ⌝ }
     ensures { λ r. ⌜ r ≡ eqb (blockType (now (s .entry)) (dataAt kind)) dataType ⌝ }
 {
-    read_be(s, data_at(kind), WORD) == DATA_TYPE
+    load_u16(s, data_at(kind)) as u64 == DATA_TYPE
 }
 
 fn has_data_length(s: &[u8], kind: Kind, size: usize) -> bool

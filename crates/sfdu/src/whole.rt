@@ -9,6 +9,7 @@ ghost use Rattle.refusals.specs.Judge.{noneApplies};
 ghost use Rattle.sfdu.specs.Nesting.{labelSize, blockLabelSize, aggregationAt, secondaryAt, dataAt, dataValueAt, aggregationType, secondaryType, dataType, aggregationLength, secondaryLength, mostData};
 ghost use Rattle.sfdu.specs.Read.{recordLength, lengthRules, headerRules, dataRules, isLabel, wholeSize};
 use crate::Kind;
+use crate::loads::load_u32;
 use crate::nesting::AGGREGATION_AT;
 use crate::nesting::AGGREGATION_TYPE;
 use crate::nesting::DATA_TYPE;
@@ -29,7 +30,6 @@ use crate::reader::has_authority;
 use crate::reader::has_control;
 use crate::reader::label_length;
 use crate::reader::length_in_range;
-use octets::read_u32;
 
 const WORD_VALUES: u64 = 65536;
 
@@ -46,7 +46,7 @@ pub fn whole_size(s: &[u8]) -> usize
     if !has_control(s) {
         return 0;
     }
-    let tag = read_u32(s, KIND_AT);
+    let tag = load_u32(s, KIND_AT);
     if tag == TELEMETRY_TAG {
         return size_as(s, Kind::Telemetry);
     }
@@ -119,9 +119,9 @@ fn is_data(s: &[u8], kind: Kind, size: usize) -> bool
 }
 
 // Whether the block at an offset has this type and this length.
-fn is_label(s: &[u8], at: usize, class: u64, size: u64) -> bool
+pub fn is_label(s: &[u8], at: usize, class: u64, size: u64) -> bool
     requires { ⌜ (at + blockLabelSize ≤ length (now s)) × (class ≤ mostData) × (size ≤ mostData) ⌝ }
     ensures { λ r. ⌜ r ≡ isLabel (now (s .entry)) at class size ⌝ }
 {
-    read_u32(s, at) as u64 == class * WORD_VALUES + size
+    load_u32(s, at) as u64 == class * WORD_VALUES + size
 }

@@ -21,14 +21,14 @@ use crate::RsrSignal;
 use crate::RsrSource;
 use crate::RsrTime;
 use dates::CountAnswer;
-use octets::read_be;
-use octets::read_u16;
 use refusals::Refusal;
 use sfdu::Checked;
 use sfdu::Fault;
 use sfdu::PRIMARY_VALUE_AT;
 use sfdu::Primary;
 use sfdu::SECONDARY_AT;
+use sfdu::load_u16;
+use sfdu::load_u64;
 
 // Where the fields stand, from the record's start.
 const SOFTWARE_AT: usize = SECONDARY_AT + 6;
@@ -72,8 +72,6 @@ const YEAR_AT: usize = SECONDARY_AT + 28;
 const DAY_AT: usize = SECONDARY_AT + 30;
 
 const FREQUENCY_AT: usize = SECONDARY_AT + 64;
-
-const FREQUENCY: usize = 8;
 
 // The judged bytes, from the lowest.
 const JUDGED: [Judged; 10] = [
@@ -207,8 +205,8 @@ fn read_date(s: &[u8]) -> Dated
     requires { ⌜ dataValueAt Rsr ≤ length (now s) ⌝ }
     ensures { λ r. ⌜ IsDated (now (s .entry)) r ⌝ }
 {
-    let year = read_u16(s, YEAR_AT);
-    let day = read_u16(s, DAY_AT);
+    let year = load_u16(s, YEAR_AT);
+    let day = load_u16(s, DAY_AT);
     let answer = dates::day_count(year, day);
     match answer {
         CountAnswer::Day(count) => Dated {
@@ -237,14 +235,14 @@ fn read_source(s: &[u8]) -> RsrSource
     ensures { λ r. ⌜ sourceWords r ≡ sourceOf (now (s .entry)) ⌝ }
 {
     RsrSource {
-        software: read_u16(s, SOFTWARE_AT),
+        software: load_u16(s, SOFTWARE_AT),
         number: number(s),
         complex: s[COMPLEX_AT],
         station: s[STATION_AT],
         receiver: s[RECEIVER_AT],
         subchannel: s[SUBCHANNEL_AT],
         spacecraft: s[SPACECRAFT_AT],
-        pass: read_u16(s, PASS_AT),
+        pass: load_u16(s, PASS_AT),
     }
 }
 
@@ -252,7 +250,7 @@ pub fn number(s: &[u8]) -> u16
     requires { ⌜ dataValueAt Rsr ≤ length (now s) ⌝ }
     ensures { λ r. ⌜ r ≡ recordNumber Rsr (now (s .entry)) ⌝ }
 {
-    read_u16(s, NUMBER_AT)
+    load_u16(s, NUMBER_AT)
 }
 
 fn read_signal(s: &[u8]) -> RsrSignal
@@ -289,8 +287,8 @@ fn read_time(s: &[u8]) -> RsrTime
     ensures { λ r. ⌜ timeWords r ≡ timeOf (now (s .entry)) ⌝ }
 {
     RsrTime {
-        year: read_u16(s, YEAR_AT),
-        day: read_u16(s, DAY_AT),
-        frequency: read_be(s, FREQUENCY_AT, FREQUENCY),
+        year: load_u16(s, YEAR_AT),
+        day: load_u16(s, DAY_AT),
+        frequency: load_u64(s, FREQUENCY_AT),
     }
 }

@@ -1,19 +1,22 @@
--- Samples whose highest bit is flipped, in a word and by themselves. Assumes nothing.
+-- A code whose highest bit is flipped, and where the samples of a word stand. Assumes nothing.
 use Prim.Native.Nat.{ℕ, zero, suc, _+_, _*_, _/_, _%_, _-_, _^_, _≤_, _<_}
 use native.Mathlib.Nat.{add-mul-div-left, add-mul-mod-self-left, add-mul-mod-self-right, mod-eq-of-lt, mod-lt, div-add-mod', div-lt-iff-lt-mul, div-div-eq-div-mul, mul-div-mul-right, mul-lt-mul-of-pos-right, mul-assoc, mul-comm, add-mul, mul-pos, mul-add}
 use native.Mathlib.Omega.{arith}
 use mathlib.Core.Bool.{Bool, true, false, false≢true, not, _&&_, _||_}
 use mathlib.Core.Path.{_≡_, refl, sym, ap, _∙_}
+use borrow.Author.Needs.{sfits-of}
 use borrow.Author.Tests.{lt-ltb, le-ltb, le-leb, eq-eqb, ltb-true, ltb-false, eqb-true}
-use lib.Bits.{bitXor, xor-shr, xor-mod, xor-shifted, xor-comm, xor-block, xor-self, xor-zero-r}
+use lib.Bits.{bitXor, xor-shifted, xor-comm, xor-block, xor-self, xor-zero-r}
 use lib.Dec.{eqb, ltb, leb}
-use lib.IntN.{pos, negsuc, _-ℤ_}
+use lib.IntN.{pos, negsuc, _+ℤ_, _-ℤ_, _*ℤ_}
 use lib.Pow.{pow-add, pow-pos}
+use mir.Syntax.{w32}
+use mir.Val.{SFits}
 use Rattle.octets.specs.Octets.{all}
-use Rattle.octets.proofs.Laws.{and-split, all-at}
-use Rattle.sfdu_samples.specs.Packing.{valueOf, perHalf, perWord, halfWord}
-use Rattle.sfdu_samples.specs.Inner.{Width, flipsOf, flippedValue}
-use Rattle.sfdu_samples.proofs.Values.{minus, doubled, codes-some, codes-most, value-low, value-high}
+use Rattle.octets.proofs.Laws.{all-at}
+use Rattle.sfdu_samples.specs.Packing.{twos, perHalf, halfWord}
+use Rattle.sfdu_samples.specs.Inner.{Width}
+use Rattle.sfdu_samples.proofs.Values.{minus, negated, doubled, codes-most, twice-one}
 
 -- ---- a number in a run of digits
 
@@ -44,44 +47,26 @@ shifted x a b c p q s =
     let low : x * c % (m * c) ≡ r * c = ap (λ (y : ℕ). y % (m * c)) whole ∙ add-mul-mod-self-right (r * c) t (m * c) ∙ mod-eq-of-lt less in
     ap (λ (y : ℕ). y / (a * c)) low ∙ mul-div-mul-right r a s ∙ mod-div x a b p q
 
--- ---- the flips of a width, as one computed test
+-- ---- the widths, as one computed test
 
 abbrev fillsHalf : ℕ → Bool
 fillsHalf w = ltb 0 w && leb w 16 && eqb ((2 ^ w) ^ perHalf w) halfWord
 
-abbrev flipsAt : (w j : ℕ) → Bool
-flipsAt w j = eqb (flipsOf w / 2 ^ (w * j) % 2 ^ w) (2 ^ (w - 1))
-
-abbrev rightFlips : ℕ → Bool
-rightFlips w = eqb (w * perHalf w) 16 && ltb (flipsOf w) 4294967296 && all (perWord w) (flipsAt w)
-
-every-width : all 17 (λ w. not (fillsHalf w) || rightFlips w) ≡ true
-unfolding all flipsOf
+every-width : all 17 (λ w. not (fillsHalf w) || eqb (w * perHalf w) 16) ≡ true
+unfolding all
 every-width = refl
-
-pub record Flips (w : ℕ) : Type 0 where
-  pub whole : w * perHalf w ≡ 16
-  pub small : flipsOf w < 4294967296
-  pub at : (j : ℕ) → j < perWord w → flipsOf w / 2 ^ (w * j) % 2 ^ w ≡ 2 ^ (w - 1)
 
 or-right : (a b : Bool) → a ≡ true → (not a || b) ≡ true → b ≡ true
 or-right true b e h = h
 or-right false b e h = absurd (false≢true e)
 
-pub flips : (w : ℕ) → Width w → Flips w
-flips w h =
+pub half-bits : (w : ℕ) → Width w → w * perHalf w ≡ 16
+half-bits w h =
     let less : w < 17 = omega (arith, h .most) in
     let width : fillsHalf w ≡ true = rw (lt-ltb 0 w (h .some), le-leb w 16 (h .most), eq-eqb _ _ (h .whole)) in
-    let test = or-right (fillsHalf w) (rightFlips w) width (all-at 17 w (λ w. not (fillsHalf w) || rightFlips w) every-width less) in
-    let first = and-split (eqb (w * perHalf w) 16 && ltb (flipsOf w) 4294967296) (all (perWord w) (flipsAt w)) test in
-    let both = and-split (eqb (w * perHalf w) 16) (ltb (flipsOf w) 4294967296) (first .0) in
-    record {
-      whole = eqb-true _ _ (both .0);
-      small = ltb-true _ _ (both .1);
-      at = λ j l. eqb-true _ _ (all-at (perWord w) j (flipsAt w) (first .1) l);
-    }
+    eqb-true _ _ (or-right (fillsHalf w) _ width (all-at 17 w (λ w. not (fillsHalf w) || eqb (w * perHalf w) 16) every-width less))
 
--- ---- a flipped sample's value
+-- ---- a flipped code
 
 -- h is the highest bit of w bits
 flip-low : (k c : ℕ) → c < 2 ^ k → bitXor c (2 ^ k) ≡ 2 ^ k + c
@@ -100,30 +85,51 @@ pub above : (a b : ℕ) → b ≤ a → pos a -ℤ pos b ≡ pos (a - b)
 above a zero h = ap pos (omega arith)
 above a (suc b) h = rw (le-ltb a (suc b) h)
 
-pub flip-value : (w c : ℕ) → 0 < w → c < 2 ^ w → flippedValue w (bitXor c (2 ^ (w - 1))) ≡ valueOf w c
-unfolding flippedValue
-flip-value w c s l = by (ltb c (2 ^ (w - 1))) refl
+-- A code with its highest bit flipped, less half the codes, and twice that and one more.
+pub record Flip (w c : ℕ) : Type 0 where
+  pub small : bitXor c (2 ^ (w - 1)) < 65536
+  pub half : 2 ^ (w - 1) ≤ 32768
+  pub is : pos (bitXor c (2 ^ (w - 1))) -ℤ pos (2 ^ (w - 1)) ≡ twos w c
+  pub fits : SFits w32 (twos w c)
+  pub twice : SFits w32 (pos 2 *ℤ twos w c)
+  pub value : SFits w32 (pos 2 *ℤ twos w c +ℤ pos 1)
+
+pub flip : (w c : ℕ) → Width w → c < 2 ^ w → Flip w c
+unfolding twos
+flip w c h l = by (ltb c (2 ^ (w - 1))) refl
   where
-    by : (t : Bool) → ltb c (2 ^ (w - 1)) ≡ t → flippedValue w (bitXor c (2 ^ (w - 1))) ≡ valueOf w c
+    by : (t : Bool) → ltb c (2 ^ (w - 1)) ≡ t → Flip w c
     by true e =
         let low = ltb-true c _ e in
-        let d = doubled w s in
-        rw (flip-low (w - 1) c low, above (2 * (2 ^ (w - 1) + c) + 1) (2 ^ w) (omega arith), value-low w c low) (ap pos (omega arith))
+        let d = doubled w (h .some) in
+        let most = codes-most w (h .most) in
+        let flipped = flip-low (w - 1) c low in
+        let is : twos w c ≡ pos c = rw e in
+        record {
+          small = omega (arith, flipped);
+          half = omega arith;
+          is = rw (flipped, above (2 ^ (w - 1) + c) (2 ^ (w - 1)) (omega arith), is) (ap pos (omega arith));
+          fits = rw is (sfits-of (omega arith));
+          twice = rw is (sfits-of (omega arith));
+          value = rw is (sfits-of (omega arith));
+        }
     by false e =
         let high = ltb-false c _ e in
-        let d = doubled w s in
+        let d = doubled w (h .some) in
+        let most = codes-most w (h .most) in
         let r = c - 2 ^ (w - 1) in
         let less : r < 2 ^ (w - 1) = omega arith in
-        let is : 2 ^ (w - 1) + r ≡ c = omega arith in
-        let flipped : bitXor c (2 ^ (w - 1)) ≡ r = rw is at (flip-high (w - 1) r less) in
-        rw (flipped, minus (2 * r + 1) (2 ^ w) (omega arith), value-high w c high l) (ap negsuc (omega arith))
-
--- The sample with index j of a word, its highest bit flipped with all others.
-pub flip-digit : (w : ℕ) → Width w → (word j : ℕ) → j < perWord w
-    → flippedValue w (bitXor word (flipsOf w) / 2 ^ (w * j) % 2 ^ w) ≡ valueOf w (word / 2 ^ (w * j) % 2 ^ w)
-flip-digit w h word j l =
-    rw (xor-shr word (flipsOf w) (w * j), xor-mod (word / 2 ^ (w * j)) (flipsOf w / 2 ^ (w * j)) w, flips w h .at j l)
-    (flip-value w (word / 2 ^ (w * j) % 2 ^ w) (h .some) (mod-lt _ (codes-some w)))
+        let same : 2 ^ (w - 1) + r ≡ c = omega arith in
+        let flipped : bitXor c (2 ^ (w - 1)) ≡ r = rw same at (flip-high (w - 1) r less) in
+        let is : twos w c ≡ negsuc (2 ^ w - suc c) = rw (e, minus c (2 ^ w) l) in
+        record {
+          small = omega (arith, flipped);
+          half = omega arith;
+          is = rw (flipped, minus r (2 ^ (w - 1)) less, is) (ap negsuc (omega arith));
+          fits = rw is (sfits-of (omega arith));
+          twice = rw (is, negated (2 * suc (2 ^ w - suc c)) (omega arith)) (sfits-of (omega arith));
+          value = rw (is, twice-one (2 ^ w - suc c)) (sfits-of (omega arith));
+        }
 
 -- ---- a sample shifted to the top of a word and down
 
@@ -145,8 +151,8 @@ low-digits y b r =
     sym (ap (λ (x : ℕ). x % b) whole ∙ add-mul-mod-self-left (y % (b * r)) b (r * t))
 
 pub record Turn (w left word : ℕ) : Type 0 where
-  pub i : flippedValue w (bitXor word (flipsOf w) / 2 ^ (32 - w - (16 + w * left - w)) % 2 ^ w) ≡ valueOf w (word % halfWord / 2 ^ (w * (perHalf w - left)) % 2 ^ w)
-  pub q : flippedValue w (bitXor word (flipsOf w) / 2 ^ (32 - w - (16 + w * left - w - 16)) % 2 ^ w) ≡ valueOf w (word / halfWord / 2 ^ (w * (perHalf w - left)) % 2 ^ w)
+  pub i : word / 2 ^ (32 - w - (16 + w * left - w)) % 2 ^ w ≡ word % halfWord / 2 ^ (w * (perHalf w - left)) % 2 ^ w
+  pub q : word / 2 ^ (32 - w - (16 + w * left - w - 16)) % 2 ^ w ≡ word / halfWord / 2 ^ (w * (perHalf w - left)) % 2 ^ w
   pub next : (x : ℕ) → x / 2 ^ (w * (perHalf w - left)) / 2 ^ w ≡ x / 2 ^ (w * (perHalf w - (left - 1)))
   pub some : w ≤ w * left
   pub most : w * left ≤ 16
@@ -155,14 +161,14 @@ pub record Turn (w left word : ℕ) : Type 0 where
 pub turn : (w left word : ℕ) → Width w → 0 < left → left ≤ perHalf w → Turn w left word
 turn w left word h p l =
     let j = perHalf w - left in
-    let f = flips w h in
+    let filled = half-bits w h in
     let one = left - 1 in
     let before : left ≡ 1 + one = omega arith in
     let all-of-them : left + j ≡ perHalf w = omega arith in
     let a : w * left ≡ w + w * one = ap (λ (n : ℕ). w * n) before ∙ mul-add w 1 one ∙ omega arith in
-    let b : w * left + w * j ≡ 16 = sym (mul-add w left j) ∙ ap (λ (n : ℕ). w * n) all-of-them ∙ f .whole in
+    let b : w * left + w * j ≡ 16 = sym (mul-add w left j) ∙ ap (λ (n : ℕ). w * n) all-of-them ∙ filled in
     let at-i : 32 - w - (16 + w * left - w) ≡ w * j = omega arith in
-    let q-index : w * (perHalf w + j) ≡ 16 + w * j = mul-add w (perHalf w) j ∙ omega (arith, f .whole) in
+    let q-index : w * (perHalf w + j) ≡ 16 + w * j = mul-add w (perHalf w) j ∙ omega (arith, filled) in
     let at-q : 32 - w - (16 + w * left - w - 16) ≡ w * (perHalf w + j) = omega (arith, q-index) in
     let exponent : 16 ≡ w * j + (w + w * one) = omega arith in
     let range : halfWord ≡ 2 ^ (w * j) * (2 ^ w * 2 ^ (w * one)) =
@@ -175,8 +181,8 @@ turn w left word h p l =
     let more : j + 1 ≡ perHalf w - one = omega arith in
     let further : w * j + w ≡ w * (perHalf w - one) = omega (arith, mul-add w j 1, ap (λ (n : ℕ). w * n) more) in
     record {
-      i = rw (at-i, low) (flip-digit w h word j (omega arith));
-      q = rw (at-q, high) (flip-digit w h word (perHalf w + j) (omega arith));
+      i = rw (at-i, low);
+      q = rw (at-q, high);
       next = λ x. div-div-eq-div-mul x (2 ^ (w * j)) (2 ^ w) ∙ ap (λ (y : ℕ). x / y) (sym (pow-add 2 (w * j) w) ∙ ap (λ (e : ℕ). 2 ^ e) further);
       some = omega arith;
       most = omega arith;

@@ -17,7 +17,7 @@ pub minus : (a b : ℕ) → a < b → pos a -ℤ pos b ≡ negsuc (b - suc a)
 minus a zero h = absurd (not-suc-le-zero h)
 minus a (suc b) h = rw (lt-ltb a (suc b) h)
 
-negated : (n : ℕ) → 0 < n → negℤ (pos n) ≡ negsuc (n - 1)
+pub negated : (n : ℕ) → 0 < n → negℤ (pos n) ≡ negsuc (n - 1)
 negated zero h = absurd (not-suc-le-zero h)
 negated (suc n) h = ap negsuc (omega arith)
 
@@ -57,7 +57,7 @@ pub value-low : (w c : ℕ) → c < 2 ^ (w - 1) → valueOf w c ≡ pos (2 * c +
 unfolding valueOf twos
 value-low w c h = rw (lt-ltb _ _ h)
 
-twice-one : (m : ℕ) → pos 2 *ℤ negsuc m +ℤ pos 1 ≡ negsuc (2 * m)
+pub twice-one : (m : ℕ) → pos 2 *ℤ negsuc m +ℤ pos 1 ≡ negsuc (2 * m)
 twice-one m =
     let p : 0 < 2 * suc m = omega arith in
     let q : 1 < suc (2 * suc m - 1) = omega arith in

@@ -1,8 +1,8 @@
 -- What the inner functions speak of; no public statement does. Assumes nothing.
-use Prim.Native.Nat.{ℕ, suc, _+_, _*_, _/_, _-_, _≤_, _<_, _^_}
+use Prim.Native.Nat.{ℕ, suc, _+_, _-_, _≤_, _<_, _^_}
 use mathlib.Core.List.{List}
 use mathlib.Core.Path.{_≡_}
-use lib.IntN.{ℤ, pos, negsuc, _-ℤ_}
+use lib.IntN.{ℤ, pos, negsuc}
 use Rattle.sfdu_samples.specs.Packing.{halfWord, perHalf, unpacked}
 use Rattle.sfdu_samples.specs.Calls.{writes, dataRules}
 
@@ -20,11 +20,3 @@ pub record Width (w : ℕ) : Type 0 where
 unfoldable pub raised : ℤ → ℕ
 raised (pos n) = n + 2147483648
 raised (negsuc n) = 2147483648 - suc n
-
--- The highest bit of each sample in a word of 32 bits.
-unfoldable pub flipsOf : ℕ → ℕ
-flipsOf w = 4294967295 / (2 ^ w - 1) * 2 ^ (w - 1)
-
--- The value of a sample whose highest bit is flipped.
-unfoldable pub flippedValue : (w code : ℕ) → ℤ
-flippedValue w code = pos (2 * code + 1) -ℤ pos (2 ^ w)

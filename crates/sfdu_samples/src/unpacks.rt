@@ -1,15 +1,15 @@
 // Words of samples unpacked. The width is a number: one function serves every size.
 ghost use mathlib.Core.Path.{_≡_};
-ghost use Prim.Native.Nat.{_+_, _*_, _/_, _%_, _-_, _^_, _≤_};
+ghost use Prim.Native.Nat.{_+_, _*_, _/_, _%_, _-_, _^_, _≤_, _<_};
 ghost use lib.ListN.{length};
 ghost use lib.Seq.{sets};
-ghost use Rattle.sfdu_samples.specs.Packing.{perHalf, perWord, samplesOf, unpackedWords};
+ghost use Rattle.sfdu_samples.specs.Packing.{perHalf, perWord, twos, valueOf, samplesOf, unpackedWords};
 ghost use Rattle.sfdu_samples.specs.Calls.{wordsOf};
-ghost use Rattle.sfdu_samples.specs.Inner.{Width, flipsOf, flippedValue, unpackingData};
+ghost use Rattle.sfdu_samples.specs.Inner.{Width, unpackingData};
 use crate::Answer;
 use crate::rates::is_listed;
-use octets::read_u32;
 use refusals::Refusal;
+use sfdu::load_u32;
 
 // Bytes of a packing word.
 pub const WORD: usize = 4;
@@ -19,12 +19,10 @@ const HALF_BITS: usize = 16;
 
 pub const HALF: u32 = 65536;
 
-// Bits of a word and of a half word, as shifts count them; a word of ones.
+// Bits of a word and of a half word, as shifts count them.
 const WORD_BITS: u32 = 32;
 
 const HALF_WORD_BITS: u32 = 16;
-
-const ALL_ONES: u32 = 4294967295;
 
 // The numbers of a data part of that size and rate.
 pub fn unpack_data(d: &[u8], size: u32, rate: u32, list: &mut [i32]) -> Answer
@@ -67,22 +65,23 @@ pub fn per_word(size: u32) -> usize
     2 * per_half(size)
 }
 
-// The highest bit of every sample of a word.
-fn flips(size: u32) -> u32
-    requires { ⌜ Width size ⌝ }
-    ensures { λ r. ⌜ r ≡ flipsOf size ⌝ }
+// A code of that many bits in two's complement: with its highest bit flipped it is that number and half the codes. LLVM makes one
+// arithmetic shift of this and of the shift that brought the code down.
+fn signed(code: u32, size: u32) -> i32
+    requires { ⌜ Width size × (code < 2 ^ size) ⌝ }
+    ensures { λ r. ⌜ r ≡ twos size code ⌝ }
 {
-    ALL_ONES / (codes(size) - 1) * codes(size - 1)
+    let half = codes(size - 1);
+    (code ^ half) as i32 - half as i32
 }
 
-// 2k + 1 of the sample that stands `up` bits below the top of a word, its highest bit flipped: that makes of its code k in two's
-// complement k and half the codes. LLVM makes a product of a shift up by a constant, and one shift down for all samples.
-fn sample(flipped: u32, up: u32, size: u32) -> i32
+// The value of the sample that stands `up` bits below the top of a word.
+fn sample(word: u32, up: u32, size: u32) -> i32
     requires { ⌜ Width size × (up + size ≤ 32) ⌝ }
-    ensures { λ r. ⌜ r ≡ flippedValue size (flipped / 2 ^ (32 - size - up) % 2 ^ size) ⌝ }
+    ensures { λ r. ⌜ r ≡ valueOf size (word / 2 ^ (32 - size - up) % 2 ^ size) ⌝ }
 {
-    let code = (flipped << up) >> (WORD_BITS - size);
-    (2 * code + 1) as i32 - codes(size) as i32
+    let code = (word << up) >> (WORD_BITS - size);
+    2 * signed(code, size) + 1
 }
 
 // A word's samples, from its lowest bits up, to the list from index at on.
@@ -90,14 +89,13 @@ fn unpack_word(word: u32, size: u32, list: &mut [i32], at: usize)
     requires { ⌜ Width size × (at + perWord size ≤ length (now list)) ⌝ }
     ensures { λ _. ⌜ now (list .exit) ≡ sets (now (list .entry)) at (samplesOf size word) ⌝ }
 {
-    let flipped = word ^ flips(size);
     let mut up = WORD_BITS;
     let mut to = at;
     let mut left = per_half(size);
     while 0 < left {
         up -= size;
-        let real = sample(flipped, up, size);
-        let imaginary = sample(flipped, up - HALF_WORD_BITS, size);
+        let real = sample(word, up, size);
+        let imaginary = sample(word, up - HALF_WORD_BITS, size);
         list[to] = real;
         list[to + 1] = imaginary;
         to += 2;
@@ -112,7 +110,7 @@ fn unpack_words(d: &[u8], words: usize, size: u32, list: &mut [i32])
     let per = per_word(size);
     let mut to = 0;
     for i in 0..words {
-        unpack_word(read_u32(d, i * WORD), size, list, to);
+        unpack_word(load_u32(d, i * WORD), size, list, to);
         to += per;
     }
 }

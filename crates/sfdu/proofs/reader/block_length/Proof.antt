@@ -7,15 +7,18 @@ use borrow.Author.Needs.{needs}
 use Rattle.sfdu.proofs.reader.block_length.Statement.{statement}
 use Rattle.sfdu.proofs.reader.block_length.Tie as tie
 
-add-read-be : tie.Need-add-read-be
-add-read-be c = search needs
+add-load-u16 : tie.Need-add-load-u16
+add-load-u16 c = search needs
 
-read-be-requires : tie.Need-read-be-requires
-read-be-requires c κs = search needs
+load-u16-requires : tie.Need-load-u16-requires
+load-u16-requires c κs = search needs
+
+cast-result : tie.Need-cast-result
+cast-result c = search needs
 
 returns : tie.Need-returns
 unfolding blockLength
-returns c = (c .read-be .ensures, omega (arith, number-lt (c .before .before .args .s .now) (c .before .before .args .at + 2) 2 (c .before .shared-slice-known .given), c .read-be .ensures))
+returns c = (c .load-u16 .ensures, omega (arith, number-lt (c .before .before .args .s .now) (c .before .before .args .at + 2) 2 (c .before .shared-slice-known .given), c .load-u16 .ensures))
 
 pub block-length-spec : {M : Type 1} → statement M
-block-length-spec = tie.close (tie.spec add-read-be read-be-requires returns)
+block-length-spec = tie.close (tie.spec add-load-u16 load-u16-requires cast-result returns)

@@ -1,32 +1,51 @@
 -- `sfdu::reader::judge_label` meets its contract. Assumes nothing.
+use mathlib.Core.Bool.{true, false}
+use mathlib.Core.Path.{_≡_, sym, _∙_}
+use lib.Dec.{eqb}
 use borrow.Author.Tests.{eq-eqb, ne-eqb}
 use Rattle.refusals.specs.Judge.{judge}
-use Rattle.sfdu.specs.Read.{blockType}
+use Rattle.octets.proofs.Laws.{and-split}
+use Rattle.sfdu.specs.Read.{blockType, blockLength}
 use borrow.Author.Needs.{needs}
 use Rattle.sfdu.proofs.reader.judge_label.Statement.{statement}
 use Rattle.sfdu.proofs.reader.judge_label.Tie as tie
 
-read-be-requires : tie.Need-read-be-requires
-read-be-requires c κs = search needs
+is-label-requires : tie.Need-is-label-requires
+is-label-requires c κs = search needs
 
 returns : tie.Need-returns
-unfolding judge blockType
-returns c = rw (← c .before .read-be .ensures, ne-eqb _ _ (c .if1 .taken))
+unfolding judge
+returns c =
+    let g = c .before .before .before .args in
+    let s = g .s .now in
+    let found = sym (c .before .is-label .ensures) ∙ c .if1 .taken in
+    let same = and-split (eqb (blockType s (g .at)) (g .class)) (eqb (blockLength s (g .at)) (g .size)) found in
+    rw (same .0, same .1)
 
-block-length-requires : tie.Need-block-length-requires
-block-length-requires c κs = search needs
+load-u16-requires : tie.Need-load-u16-requires
+load-u16-requires c κs = search needs
 
-add-t7 : tie.Need-add-t7
-add-t7 c = search needs
+cast-if2 : tie.Need-cast-if2
+cast-if2 c = search needs
 
 returns-2 : tie.Need-returns-2
 unfolding judge blockType
-returns-2 c = rw (← c .before .before .before .read-be .ensures, eq-eqb _ _ (c .before .before .if1 .left), ← c .before .block-length .ensures .0, ne-eqb _ _ (c .if2 .taken))
+returns-2 c = rw (← c .before .load-u16 .ensures, ne-eqb _ _ (c .if2 .taken))
+
+add-t9 : tie.Need-add-t9
+add-t9 c = search needs
 
 returns-3 : tie.Need-returns-3
 unfolding judge blockType
-returns-3 c = rw (← c .before .before .before .read-be .ensures, eq-eqb _ _ (c .before .before .if1 .left), ← c .before .block-length .ensures .0, eq-eqb _ _ (c .if2 .left))
+returns-3 c =
+    let read = c .before in
+    let g = read .before .before .before .before .args in
+    let s = g .s .now in
+    let typed : eqb (blockType s (g .at)) (g .class) ≡ true = rw (← read .load-u16 .ensures) (eq-eqb _ _ (c .if2 .left)) in
+    let other : eqb (blockLength s (g .at)) (g .size) ≡ false = rw typed at (sym (read .before .before .is-label .ensures) ∙ read .before .if1 .left) in
+    rw (typed, other)
 
 pub judge-label-spec : {M : Type 1} → statement M
 judge-label-spec =
-    tie.close (tie.spec read-be-requires returns block-length-requires add-t7 returns-2 returns-3)
+    tie.close
+    (tie.spec is-label-requires returns load-u16-requires cast-if2 returns-2 add-t9 returns-3)

@@ -4,12 +4,12 @@ use borrow.Author.Needs.{needs}
 use Rattle.sfdu.proofs.reader.label_length.Statement.{statement}
 use Rattle.sfdu.proofs.reader.label_length.Tie as tie
 
-read-be-requires : tie.Need-read-be-requires
-read-be-requires c κs = search needs
+load-u64-requires : tie.Need-load-u64-requires
+load-u64-requires c κs = search needs
 
 returns : tie.Need-returns
 unfolding labelLength
-returns c = c .read-be .ensures
+returns c = c .load-u64 .ensures
 
 pub label-length-spec : {M : Type 1} → statement M
-label-length-spec = tie.close (tie.spec read-be-requires returns)
+label-length-spec = tie.close (tie.spec load-u64-requires returns)

@@ -30,8 +30,8 @@ unfolding wholeSize accepts judge kindOf
 returns-3 c =
     rw (le-ltb _ _ (c .before .before .before .before .if1 .left), passed (c .before .before .before .has-authority .ensures) (c .before .before .if2 .left), failed (c .before .has-control .ensures) (c .if3 .taken))
 
-read-u32-requires : tie.Need-read-u32-requires
-read-u32-requires c κs = search needs
+load-u32-requires : tie.Need-load-u32-requires
+load-u32-requires c κs = search needs
 
 size-as-requires : tie.Need-size-as-requires
 size-as-requires c κs = search needs
@@ -40,7 +40,7 @@ returns-4 : tie.Need-returns-4
 unfolding wholeSize accepts judge kindOf
 returns-4 c =
     let s = c .before .before .before .before .before .before .before .before .before .args .s .now in
-    let here = tag-same Telemetry s (c .before .before .before .before .before .before .before .before .shared-slice-known .given) (c .before .before .before .before .before .before .before .if1 .left) (sym (c .before .before .read-u32 .ensures) ∙ c .before .if4 .taken) in
+    let here = tag-same Telemetry s (c .before .before .before .before .before .before .before .before .shared-slice-known .given) (c .before .before .before .before .before .before .before .if1 .left) (sym (c .before .before .load-u32 .ensures) ∙ c .before .if4 .taken) in
     rw (le-ltb _ _ (c .before .before .before .before .before .before .before .if1 .left), passed (c .before .before .before .before .before .before .has-authority .ensures) (c .before .before .before .before .before .if2 .left), passed (c .before .before .before .before .has-control .ensures) (c .before .before .before .if3 .left), here) (c .size-as .ensures)
 
 size-as-requires-2 : tie.Need-size-as-requires-2
@@ -51,7 +51,7 @@ unfolding wholeSize accepts judge kindOf
 returns-5 c =
     let s = c .before .before .before .before .before .before .before .before .before .before .args .s .now in
     let bytes = c .before .before .before .before .before .before .before .before .before .shared-slice-known .given in
-    let tag = c .before .before .before .read-u32 .ensures in
+    let tag = c .before .before .before .load-u32 .ensures in
     let other = tag-other Telemetry s bytes (c .before .before .before .before .before .before .before .before .if1 .left) (λ e. c .before .before .if4 .left (tag ∙ e)) in
     let here = tag-same Rsr s bytes (c .before .before .before .before .before .before .before .before .if1 .left) (sym tag ∙ c .before .if5 .taken) in
     rw (le-ltb _ _ (c .before .before .before .before .before .before .before .before .if1 .left), passed (c .before .before .before .before .before .before .before .has-authority .ensures) (c .before .before .before .before .before .before .if2 .left), passed (c .before .before .before .before .before .has-control .ensures) (c .before .before .before .before .if3 .left), other, here) (c .size-as2 .ensures)
@@ -61,7 +61,7 @@ unfolding wholeSize accepts judge kindOf
 returns-6 c =
     let s = c .before .before .before .before .before .before .before .before .before .args .s .now in
     let bytes = c .before .before .before .before .before .before .before .before .shared-slice-known .given in
-    let tag = c .before .before .read-u32 .ensures in
+    let tag = c .before .before .load-u32 .ensures in
     let other = tag-other Telemetry s bytes (c .before .before .before .before .before .before .before .if1 .left) (λ e. c .before .if4 .left (tag ∙ e)) in
     let neither = tag-other Rsr s bytes (c .before .before .before .before .before .before .before .if1 .left) (λ e. c .if5 .left (tag ∙ e)) in
     rw (le-ltb _ _ (c .before .before .before .before .before .before .before .if1 .left), passed (c .before .before .before .before .before .before .has-authority .ensures) (c .before .before .before .before .before .if2 .left), passed (c .before .before .before .before .has-control .ensures) (c .before .before .before .if3 .left), other, neither)
@@ -75,7 +75,7 @@ whole-size-spec =
     returns-2
     has-control-requires
     returns-3
-    read-u32-requires
+    load-u32-requires
     size-as-requires
     returns-4
     size-as-requires-2

@@ -4,59 +4,58 @@ use Prim.Native.Nat.{_+_, _*_, _/_, _%_, _-_, _^_, _≤_}
 use native.Mathlib.Omega.{arith}
 use mathlib.Core.Path.{_≡_, refl, sym, _∙_}
 use borrow.Author.Needs.{needs, sfits-of}
-use lib.Bits.{bitXor}
 use lib.ListN.{length, length-set}
 use lib.Seq.{sets}
 use mir.Syntax.{w32}
 use mir.ValLaws.{toZ-ofZ}
 use Rattle.sfdu_samples.specs.Packing.{perHalf, halfWord, pairsOf, samplesOf}
-use Rattle.sfdu_samples.specs.Inner.{flipsOf}
-use Rattle.sfdu_samples.proofs.Flipped.{flips, Turn, turn}
+use Rattle.sfdu_samples.proofs.Flipped.{half-bits, Turn, turn}
 use Rattle.sfdu_samples.proofs.Unpacking.{pair-none, pair-more, word-first}
 use Rattle.sfdu_samples.proofs.unpacks.unpack_word.Statement.{statement}
 use Rattle.sfdu_samples.proofs.unpacks.unpack_word.Tie as tie
 
 abbrev Inv-loop : tie.InvT-loop
-Inv-loop word size list₀ at flipped up₀ to₀ left₀ list up to left = (flipped ≡ bitXor word (flipsOf size)) × (left ≤ perHalf size) × (up ≡ 16 + size * left) × (to + 2 * left ≤ length list) × (length list ≡ length list₀)
-    × (sets list to (pairsOf size left (word % halfWord / 2 ^ (size * (perHalf size - left))) (word / halfWord / 2 ^ (size * (perHalf size - left))))
-    ≡ sets list₀ at (samplesOf size word))
+Inv-loop word size list₀ at up₀ to₀ left₀ list up to left =
+    let done = 2 ^ (size * (perHalf size - left)) in
+    (left ≤ perHalf size) × (up ≡ 16 + size * left) × (to + 2 * left ≤ length list) × (length list ≡ length list₀)
+    × (sets list to (pairsOf size left (word % halfWord / done) (word / halfWord / done)) ≡ sets list₀ at (samplesOf size word))
 
 abbrev μ-loop : tie.MeasureT-loop
-μ-loop word size list₀ at flipped up₀ to₀ left₀ list up to left = left
+μ-loop word size list₀ at up₀ to₀ left₀ list up to left = left
 
 -- A turn of the loop.
-turned : (c : tie.In-loop Inv-loop μ-loop) → let d = c .before .before .before .before in Turn (d .args .size) (c .before .loop .left) (d .args .word)
+turned : (c : tie.In-loop Inv-loop μ-loop) → let d = c .before .before .before in Turn (d .args .size) (c .before .loop .left) (d .args .word)
 turned c =
-    let d = c .before .before .before .before in
-    turn (d .args .size) (c .before .loop .left) (d .args .word) (d .pre .0) (omega arith) (c .before .loop .inv .1)
-
-flips-requires : tie.Need-flips-requires Inv-loop μ-loop
-flips-requires c κs = search needs
+    let d = c .before .before .before in
+    turn (d .args .size) (c .before .loop .left) (d .args .word) (d .pre .0) (omega arith) (c .before .loop .inv .0)
 
 per-half-requires : tie.Need-per-half-requires Inv-loop μ-loop
 per-half-requires c κs = search needs
 
 loop-holds : tie.Need-loop-holds Inv-loop μ-loop
 loop-holds c =
-    let d = c .before .before in
-    let w = d .args .size in
+    let d = c .before in
     let p = c .per-half .ensures in
-    (rw (c .before .flips .ensures) refl, omega (arith, p), rw (p, flips w (d .pre .0) .whole) refl, omega (arith, p, d .pre .1), refl, rw p (word-first _ _ _ _))
+    (omega (arith, p), rw (p, half-bits (d .args .size) (d .pre .0)) refl, omega (arith, p, d .pre .1), refl, rw p (word-first _ _ _ _))
 
 sub-up : tie.Need-sub-up Inv-loop μ-loop
-sub-up c = let t = turned c in omega (arith, c .before .loop .inv .2)
+sub-up c = let t = turned c in omega (arith, c .before .loop .inv .1)
 
 sample-requires : tie.Need-sample-requires Inv-loop μ-loop
-sample-requires c κs = (c .before .before .before .before .pre .0, let t = turned c in omega (arith, c .before .loop .inv .2))
+sample-requires c κs = let t = turned c in (c .before .before .before .pre .0, omega (arith, c .before .loop .inv .1))
 
 sub-sample : tie.Need-sub-sample Inv-loop μ-loop
-sub-sample c = let t = turned (c .before) in omega (arith, c .before .before .loop .inv .2)
+sub-sample c = let t = turned (c .before) in omega (arith, c .before .before .loop .inv .1)
 
 sample-requires-2 : tie.Need-sample-requires-2 Inv-loop μ-loop
-sample-requires-2 c κs = (c .before .before .before .before .before .pre .0, let t = turned (c .before) in omega (arith, c .before .before .loop .inv .2))
+sample-requires-2 c κs =
+    let t = turned (c .before) in
+    (c .before .before .before .before .pre .0, omega (arith, c .before .before .loop .inv .1))
 
 mul-real : tie.Need-mul-real Inv-loop μ-loop
-mul-real c = omega (arith, c .before .before .before .before .before .before .good .1 .1 .0 .1, c .before .before .before .loop .inv)
+mul-real c =
+    let loop = c .before .before .before in
+    omega (arith, loop .before .before .good .1 .1 .0 .1, loop .loop .inv)
 
 slice-set-from-real : tie.Need-slice-set-from-real Inv-loop μ-loop
 slice-set-from-real c = omega arith
@@ -65,7 +64,9 @@ add-imaginary : tie.Need-add-imaginary Inv-loop μ-loop
 add-imaginary c = omega arith
 
 mul-imaginary : tie.Need-mul-imaginary Inv-loop μ-loop
-mul-imaginary c = omega (arith, c .before .before .before .before .before .before .good .1 .1 .0 .1, c .before .before .before .loop .inv)
+mul-imaginary c =
+    let loop = c .before .before .before in
+    omega (arith, loop .before .before .good .1 .1 .0 .1, loop .loop .inv)
 
 slice-set-from-imaginary : tie.Need-slice-set-from-imaginary Inv-loop μ-loop
 slice-set-from-imaginary c = rw length-set (omega arith)
@@ -81,28 +82,30 @@ loop-less c = omega arith
 
 loop-again : tie.Need-loop-again Inv-loop μ-loop
 loop-again c =
-    let d = c .before .before .before .before .before .before in
-    let loop = c .before .before .before .loop in
+    let first = c .before in
+    let at-loop = first .before .before in
+    let d = at-loop .before .before in
+    let loop = at-loop .loop in
     let w = d .args .size in
-    let t = turned (c .before .before) in
-    let real = toZ-ofZ w32 (c .before .sample .result) (sfits-of (c .before .sample .ok)) in
+    let done = 2 ^ (w * (perHalf w - loop .left)) in
+    let t = turned (first .before) in
+    let real = toZ-ofZ w32 (first .sample .result) (sfits-of (first .sample .ok)) in
     let imaginary = toZ-ofZ w32 (c .sample2 .result) (sfits-of (c .sample2 .ok)) in
-    let more = pair-more (loop .list) (loop .to) w (loop .left) (d .args .word % halfWord / 2 ^ (w * (perHalf w - loop .left))) (d .args .word / halfWord / 2 ^ (w * (perHalf w - loop .left))) (omega arith) in (
-      loop .inv .0,
+    let more = pair-more (loop .list) (loop .to) w (loop .left) (d .args .word % halfWord / done) (d .args .word / halfWord / done) (omega arith) in (
       omega arith,
-      omega (arith, t .up, loop .inv .2),
+      omega (arith, t .up, loop .inv .1),
       simp length-set (omega arith),
-      simp length-set (loop .inv .4),
-      rw (real, imaginary, c .before .sample .ensures, c .sample2 .ensures, loop .inv .2, loop .inv .0, t .i, t .q, ← t .next, ← t .next) more ∙ loop .inv .5,
+      simp length-set (loop .inv .3),
+      rw (real, imaginary, first .sample .ensures, c .sample2 .ensures, loop .inv .1, t .i, t .q, ← t .next, ← t .next) more ∙ loop .inv .4,
     )
 
 same-length : tie.Need-same-length Inv-loop μ-loop
-same-length c = c .before .loop .inv .4
+same-length c = c .before .loop .inv .3
 
 returns : tie.Need-returns Inv-loop μ-loop
 returns c =
     let z : c .before .loop .left ≡ 0 = omega arith in
-    sym (pair-none _ _ _ _ _ _ z) ∙ c .before .loop .inv .5
+    sym (pair-none _ _ _ _ _ _ z) ∙ c .before .loop .inv .4
 
 pub unpack-word-spec : {M : Type 1} → statement M
 unpack-word-spec =
@@ -110,7 +113,6 @@ unpack-word-spec =
     (tie.spec
     Inv-loop
     μ-loop
-    flips-requires
     per-half-requires
     loop-holds
     sub-up

@@ -1,0 +1,45 @@
+-- `sfdu::loads::load_u64` meets its contract: a number is its upper and its lower half. Assumes nothing.
+use mathlib.Core.Path.{sym}
+use Rattle.octets.proofs.Laws.{number-join}
+use borrow.Author.Needs.{needs}
+use Rattle.sfdu.proofs.loads.load_u64.Statement.{statement}
+use Rattle.sfdu.proofs.loads.load_u64.Tie as tie
+
+load-u32-requires : tie.Need-load-u32-requires
+load-u32-requires c κs = search needs
+
+add-load-u32 : tie.Need-add-load-u32
+add-load-u32 c = search needs
+
+load-u32-requires-2 : tie.Need-load-u32-requires-2
+load-u32-requires-2 c κs = search needs
+
+cast-result : tie.Need-cast-result
+cast-result c = search needs
+
+mul-result : tie.Need-mul-result
+mul-result c = search needs
+
+cast-result-2 : tie.Need-cast-result-2
+cast-result-2 c = search needs
+
+add-result : tie.Need-add-result
+add-result c = search needs
+
+returns : tie.Need-returns
+returns c =
+    let g = c .before .before .before .args in
+    rw (c .before .load-u32 .ensures, c .load-u322 .ensures) (sym (number-join (g .s .now) (g .a) 4 4))
+
+pub load-u64-spec : {M : Type 1} → statement M
+load-u64-spec =
+    tie.close
+    (tie.spec
+    load-u32-requires
+    add-load-u32
+    load-u32-requires-2
+    cast-result
+    mul-result
+    cast-result-2
+    add-result
+    returns)
