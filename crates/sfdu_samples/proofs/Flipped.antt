@@ -16,7 +16,7 @@ use Rattle.octets.specs.Octets.{all}
 use Rattle.octets.proofs.Laws.{all-at}
 use Rattle.sfdu_samples.specs.Packing.{twos, perHalf, halfWord}
 use Rattle.sfdu_samples.specs.Inner.{Width}
-use Rattle.sfdu_samples.proofs.Values.{minus, negated, doubled, codes-most, twice-one}
+use Rattle.sfdu_samples.proofs.Values.{minus, negated, doubled, codes-most}
 
 -- ---- a number in a run of digits
 
@@ -85,14 +85,14 @@ pub above : (a b : ℕ) → b ≤ a → pos a -ℤ pos b ≡ pos (a - b)
 above a zero h = ap pos (omega arith)
 above a (suc b) h = rw (le-ltb a (suc b) h)
 
--- A code with its highest bit flipped, less half the codes, and twice that and one more.
+-- A code with its highest bit flipped, less half the codes; twice that, and a little more.
 pub record Flip (w c : ℕ) : Type 0 where
   pub small : bitXor c (2 ^ (w - 1)) < 65536
   pub half : 2 ^ (w - 1) ≤ 32768
   pub is : pos (bitXor c (2 ^ (w - 1))) -ℤ pos (2 ^ (w - 1)) ≡ twos w c
   pub fits : SFits w32 (twos w c)
   pub twice : SFits w32 (pos 2 *ℤ twos w c)
-  pub value : SFits w32 (pos 2 *ℤ twos w c +ℤ pos 1)
+  pub value : (n : ℕ) → n < 2 → SFits w32 (pos 2 *ℤ twos w c +ℤ pos n)
 
 pub flip : (w c : ℕ) → Width w → c < 2 ^ w → Flip w c
 unfolding twos
@@ -111,7 +111,7 @@ flip w c h l = by (ltb c (2 ^ (w - 1))) refl
           is = rw (flipped, above (2 ^ (w - 1) + c) (2 ^ (w - 1)) (omega arith), is) (ap pos (omega arith));
           fits = rw is (sfits-of (omega arith));
           twice = rw is (sfits-of (omega arith));
-          value = rw is (sfits-of (omega arith));
+          value = λ n m. rw is (sfits-of (omega arith));
         }
     by false e =
         let high = ltb-false c _ e in
@@ -128,7 +128,8 @@ flip w c h l = by (ltb c (2 ^ (w - 1))) refl
           is = rw (flipped, minus r (2 ^ (w - 1)) less, is) (ap negsuc (omega arith));
           fits = rw is (sfits-of (omega arith));
           twice = rw (is, negated (2 * suc (2 ^ w - suc c)) (omega arith)) (sfits-of (omega arith));
-          value = rw (is, twice-one (2 ^ w - suc c)) (sfits-of (omega arith));
+          value =
+              λ n m. let k = 2 * suc (2 ^ w - suc c) in rw (is, negated k (omega arith), lt-ltb n (suc (k - 1)) (omega arith)) (sfits-of (omega arith));
         }
 
 -- ---- a sample shifted to the top of a word and down

@@ -57,7 +57,7 @@ pub value-low : (w c : ℕ) → c < 2 ^ (w - 1) → valueOf w c ≡ pos (2 * c +
 unfolding valueOf twos
 value-low w c h = rw (lt-ltb _ _ h)
 
-pub twice-one : (m : ℕ) → pos 2 *ℤ negsuc m +ℤ pos 1 ≡ negsuc (2 * m)
+twice-one : (m : ℕ) → pos 2 *ℤ negsuc m +ℤ pos 1 ≡ negsuc (2 * m)
 twice-one m =
     let p : 0 < 2 * suc m = omega arith in
     let q : 1 < suc (2 * suc m - 1) = omega arith in

@@ -6,7 +6,7 @@ ghost use Rattle.sfdu.specs.declared.Kind.the-variants.{Rsr as RsrKind};
 ghost use Rattle.sfdu.specs.Nesting.{dataValueAt};
 ghost use Rattle.sfdu_samples.specs.Calls.{wordsOf, sizeOf, rateOf, unpacking, packing};
 use crate::packs::is_coded;
-use crate::packs::pack_words;
+use crate::packs::pack_sized;
 use crate::rates::is_listed;
 use crate::unpacks::WORD;
 use crate::unpacks::per_word;
@@ -103,6 +103,6 @@ pub fn pack(size: u32, rate: u32, samples: &[i32], out: &mut [u8]) -> Answer
     if out.len() / WORD < words {
         return Answer::Refused(Refusal::SampleSpace);
     }
-    pack_words(samples, words, size, out);
+    pack_sized(samples, words, size, out);
     Answer::Count(words * WORD)
 }

@@ -76,7 +76,7 @@ fn word_of(samples: &[i32], at: usize, size: u32) -> u32
     q * HALF + i
 }
 
-pub fn pack_words(samples: &[i32], words: usize, size: u32, out: &mut [u8])
+fn pack_words(samples: &[i32], words: usize, size: u32, out: &mut [u8])
     requires { ⌜ Width size × (words * perWord size ≤ length (now samples)) × (words * 4 ≤ length (now out)) × (allCoded size (now samples) ≡ true) ⌝ }
     ensures { λ _. ⌜ now (out .exit) ≡ sets (now (out .entry)) 0 (packedWords size words (now (samples .entry))) ⌝ }
 {
@@ -86,5 +86,20 @@ pub fn pack_words(samples: &[i32], words: usize, size: u32, out: &mut [u8])
         let word = word_of(samples, at, size);
         write_be(out, i * WORD, WORD, word as u64);
         at += per;
+    }
+}
+
+// The same with a width that is a constant: LLVM unrolls the loop in a half word.
+pub fn pack_sized(samples: &[i32], words: usize, size: u32, out: &mut [u8])
+    requires { ⌜ Width size × (words * perWord size ≤ length (now samples)) × (words * 4 ≤ length (now out)) × (allCoded size (now samples) ≡ true) ⌝ }
+    ensures { λ _. ⌜ now (out .exit) ≡ sets (now (out .entry)) 0 (packedWords size words (now (samples .entry))) ⌝ }
+{
+    match size {
+        1 => pack_words(samples, words, 1, out),
+        2 => pack_words(samples, words, 2, out),
+        4 => pack_words(samples, words, 4, out),
+        8 => pack_words(samples, words, 8, out),
+        16 => pack_words(samples, words, 16, out),
+        _ => pack_words(samples, words, size, out),
     }
 }

@@ -73,8 +73,8 @@ returns-4 c =
     pack-35 (d .args .size) (d .args .rate) (d .args .samples .now) (d .args .out .now) (listed (two .before .before)) (whole two) (all-coded three)
     (too-short _ _ 4 (lit< tt) (rw (two .before .per-word .ensures) at (c .if4 .taken)))
 
-pack-words-requires : tie.Need-pack-words-requires
-pack-words-requires c κs =
+pack-sized-requires : tie.Need-pack-sized-requires
+pack-sized-requires c κs =
     let three = c .before .before in
     let one = three .before .before .before .before in
     let per = c .before .before .before .before .before .per-word .ensures in
@@ -94,7 +94,7 @@ returns-5 c =
     let per = two .before .per-word .ensures in
     let d = two .before .before .before .before .before in
     rw per
-    (pack-accepts (d .args .size) (d .args .rate) (d .args .samples .now) (d .args .out .now) (listed (two .before .before)) (whole two) (all-coded three) _ (room four) (rw per at (c .before .before .pack-words .ensures)))
+    (pack-accepts (d .args .size) (d .args .rate) (d .args .samples .now) (d .args .out .now) (listed (two .before .before)) (whole two) (all-coded three) _ (room four) (rw per at (c .before .before .pack-sized .ensures)))
 
 pub pack-spec : {M : Type 1} → statement M
 pack-spec =
@@ -109,7 +109,7 @@ pack-spec =
     returns-3
     div-words
     returns-4
-    pack-words-requires
+    pack-sized-requires
     mul-t11
     same-length
     returns-5)

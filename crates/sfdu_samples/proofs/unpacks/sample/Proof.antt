@@ -2,6 +2,7 @@
 use Prim.Native.Nat.{ℕ, _*_, _/_, _%_, _-_, _^_, _<_}
 use native.Mathlib.Nat.{mod-lt}
 use mathlib.Core.Path.{_≡_, refl, ap, _∙_}
+use lib.Dec.{lit<}
 use lib.IntN.{pos, _+ℤ_, _*ℤ_}
 use mir.Syntax.{w32}
 use mir.ValLaws.{toZ-ofZ}
@@ -49,14 +50,14 @@ mul-result c =
 add-result : tie.Need-add-result
 add-result c =
     let f = flipped (c .before) in
-    rw (c .signed .ensures, toZ-ofZ w32 _ (f .fits), toZ-ofZ w32 _ (f .twice)) (f .value)
+    rw (c .signed .ensures, toZ-ofZ w32 _ (f .fits), toZ-ofZ w32 _ (f .twice)) (f .value _ (lit< tt))
 
 returns : tie.Need-returns
 returns c =
     let f = flipped (c .before) in
     let w = c .before .args .size in
-    rw (c .signed .ensures, toZ-ofZ w32 _ (f .fits), toZ-ofZ w32 _ (f .twice), toZ-ofZ w32 _ (f .value))
-    (value w (moved (c .before)) ∙ ap (valueOf w) (moved-is (c .before)))
+    rw (c .signed .ensures, toZ-ofZ w32 _ (f .fits), toZ-ofZ w32 _ (f .twice))
+    (toZ-ofZ w32 _ (f .value _ (lit< tt)) ∙ value w (moved (c .before)) ∙ ap (valueOf w) (moved-is (c .before)))
 
 pub sample-spec : {M : Type 1} → statement M
 sample-spec =
