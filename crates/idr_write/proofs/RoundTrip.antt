@@ -17,7 +17,17 @@ use Rattle.idr.specs.Read.{readRules, givenOf, readRecord, readWords}
 use Rattle.idr_write.specs.Write.{wordBytes, areLengths, writeRules, writeRecord}
 use Rattle.idr_write.specs.RoundTrip.{WrittenReadsBack, ReadWritesAgain}
 use Rattle.idr.proofs.Header.{length-header}
-use Rattle.idr.proofs.Judging.{judge-accepted, zero-none, words-numbered, read-numbered, accepted-length, length-verdict, answer-accepted, samples-there, words-judged}
+use Rattle.idr.proofs.Judging.{
+  judge-accepted,
+  zero-none,
+  words-numbered,
+  read-numbered,
+  accepted-length,
+  length-verdict,
+  answer-accepted,
+  samples-there,
+  words-judged,
+}
 use Rattle.idr_write.proofs.Written.{length-wordBytes, write-judged}
 
 -- ---- words and their bytes

@@ -93,7 +93,8 @@ module _ (w : List ℕ) (place : ℕ) (last : Bool) (out₀ : List ℕ) (start :
           room = r .room;
         }
 
-    pub round-waits : [] ≡ foundIn (place + at) (take (length w - at) (drop at w)) last → Drains w place last out₀ out start (record { used = at; end = end; done = false })
+    pub round-waits : [] ≡ foundIn (place + at) (take (length w - at) (drop at w)) last
+        → Drains w place last out₀ out start (record { used = at; end = end; done = false })
     round-waits e = record {
       t = r .t;
       lines = record { within = r .under .within; says = r .under .says; wants = λ _. more-there (place + at) w at last e };

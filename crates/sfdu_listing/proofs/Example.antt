@@ -23,5 +23,7 @@ example = recordBytes Telemetry (record { major = 0; minor = 0; mission = 0; for
 -- 0 120 T 7
 -- 120 0 0
 pub listed : listing example ≡ heading ++ (48 ∷ 32 ∷ 49 ∷ 50 ∷ 48 ∷ 32 ∷ 84 ∷ 32 ∷ 55 ∷ 10 ∷ []) ++ (49 ∷ 50 ∷ 48 ∷ 32 ∷ 48 ∷ 32 ∷ 48 ∷ 10 ∷ [])
-unfolding recordBytes headBytes labelBytes primaryBlock block bytesOf kindOf hasKind recordLength labelLength lengthInRange blockType blockLength isCount inStream numberAt sameAt all judge recordNumber placesIn decimal word heading line numbersLine lastLine wholeBy refusalBy entryOf listingBy walkBy linesOf textOf linesFrom listing
+unfolding recordBytes headBytes labelBytes primaryBlock block bytesOf kindOf hasKind recordLength labelLength lengthInRange blockType
+    blockLength isCount inStream numberAt sameAt all judge recordNumber placesIn decimal word heading line numbersLine lastLine wholeBy
+    refusalBy entryOf listingBy walkBy linesOf textOf linesFrom listing
 listed = refl

@@ -10,7 +10,22 @@ use borrow.Author.Tests.{ltb-true, ltb-false, lt-ltb, le-ltb, eq-eqb, ne-eqb, no
 use lib.Dec.{eqb, ltb, lit<}
 use lib.ListN.{length}
 use Rattle.refusals.specs.Judge.{Rule, _when_, judge, answered}
-use Rattle.refusals.proofs.Judged.{NoneHolds, AllGive, First, here, Outcome, none, first, outcome, none-judge, first-judge, first-gives, none-applies, none-hold, one-first}
+use Rattle.refusals.proofs.Judged.{
+  NoneHolds,
+  AllGive,
+  First,
+  here,
+  Outcome,
+  none,
+  first,
+  outcome,
+  none-judge,
+  first-judge,
+  first-gives,
+  none-applies,
+  none-hold,
+  one-first,
+}
 use Rattle.sfdu.specs.declared.Kind.{Kind}
 use Rattle.octets.specs.Octets.{numberAt}
 use Rattle.sfdu.specs.Nesting.{kindNumber, labelSize, lengthAt, lengthSize, dataValueAt}
@@ -145,7 +160,22 @@ refused-something s e r = omega (arith, first-gives (λ w. 0 < length w) some (r
     some : AllGive (λ w. 0 < length w) (listRules s)
     some = (
       lit< tt,
-      (lit< tt, (lit< tt, (lit< tt, (lit< tt, (lit< tt, (lit< tt, (lit< tt, (lit< tt, (lit< tt, (lit< tt, (lit< tt, (lit< tt, (lit< tt, (lit< tt, tt)))))))))))))),
+      (
+        lit< tt,
+        (
+          lit< tt,
+          (
+            lit< tt,
+            (
+              lit< tt,
+              (
+                lit< tt,
+                (lit< tt, (lit< tt, (lit< tt, (lit< tt, (lit< tt, (lit< tt, (lit< tt, (lit< tt, (lit< tt, tt))))))))),
+              ),
+            ),
+          ),
+        ),
+      ),
     )
 
 -- Each rule gives something: a record is whole where nothing is given, and only there.

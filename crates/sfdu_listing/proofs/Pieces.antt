@@ -53,7 +53,8 @@ module _ (w out new : List ℕ) (s : State) (got : ℕ) (d : Drained) (ready : R
         room = λ f.
             let wants = drained .lines .wants f in
             let short = cut-room _ (wants .1) in
-            let l : length (drop (d .used) (take (s .have + got) w)) ≡ left = length-drop (d .used) (take (s .have + got) w) ∙ ap (λ (n : ℕ). n - d .used) held-length in
+            let l : length (drop (d .used) (take (s .have + got) w)) ≡ left = length-drop (d .used) (take (s .have + got) w)
+            ∙ ap (λ (n : ℕ). n - d .used) held-length in
             let some = eqb-false got 0 (wants .0) in
             (by-positive got some, omega (arith, l, short));
       }

@@ -46,4 +46,5 @@ kept (writes {read} {ended} {written} {s} {held} {text} run) =
     record { going = k .going; says = λ more on. k .says more on ∙ sym (append-assoc written text _) }
 
 pub promise : Promise
-promise read ended written s held run done more on = kept run .says more on ∙ ap (λ (b : Bool). written ++ unless b (linesFrom (s .place) (held ++ more))) done ∙ append-nil written
+promise read ended written s held run done more on =
+    kept run .says more on ∙ ap (λ (b : Bool). written ++ unless b (linesFrom (s .place) (held ++ more))) done ∙ append-nil written

@@ -15,7 +15,22 @@ use Rattle.octets.proofs.Parts.{number-first}
 use Rattle.sfdu.specs.declared.Kind.{Kind}
 use Rattle.sfdu.specs.declared.Kind.the-variants.{Telemetry, Rsr}
 use Rattle.refusals.proofs.Judged.{NoneHolds, First, here}
-use Rattle.sfdu.specs.Nesting.{authority, control, authorityAt, controlAt, kindBytes, kindAt, tagSize, labelSize, blockLabelSize, dataAt, dataValueAt, aggregationAt, primaryAt, secondaryAt}
+use Rattle.sfdu.specs.Nesting.{
+  authority,
+  control,
+  authorityAt,
+  controlAt,
+  kindBytes,
+  kindAt,
+  tagSize,
+  labelSize,
+  blockLabelSize,
+  dataAt,
+  dataValueAt,
+  aggregationAt,
+  primaryAt,
+  secondaryAt,
+}
 use Rattle.sfdu.specs.Read.{hasKind, kindOf, labelLength, recordLength, lengthInRange, blockType, blockLength, cutRule, isCount}
 use Rattle.sfdu.proofs.Placed.{placed}
 use Rattle.sfdu_headers.specs.Fields.{recordNumber}
@@ -23,7 +38,21 @@ use Rattle.sfdu_stream.specs.Listing.{entryOf}
 use Rattle.sfdu_listing.specs.Listing.{overRule, listRules, whole, stopWords}
 use Rattle.sfdu_listing.specs.Window.{givesCount, cutShort}
 use Rattle.sfdu_listing.proofs.Rows.{pass, first-behind, agree}
-use Rattle.sfdu_listing.proofs.Judging.{front, back, refusal, refusal-is, stop-words, refused-first, labelled, headers-within, whole-record, whole-refusal, nothing-whole, something-refused, refused-something}
+use Rattle.sfdu_listing.proofs.Judging.{
+  front,
+  back,
+  refusal,
+  refusal-is,
+  stop-words,
+  refused-first,
+  labelled,
+  headers-within,
+  whole-record,
+  whole-refusal,
+  nothing-whole,
+  something-refused,
+  refused-something,
+}
 
 -- ---- bytes of the first of two lists
 
@@ -138,7 +167,8 @@ module _ (s m : List ℕ) where
       by false e =
           let d = headers-within s (not-false _ (n .1 .1 .1 .0)) in
           let l : recordLength s ≤ length s = ltb-false _ _ e in
-          let still : ltb (length (s ++ m)) (recordLength (s ++ m)) ≡ false = le-ltb (length (s ++ m)) (recordLength (s ++ m)) (omega (arith, longer, length-same h)) in
+          let still : ltb (length (s ++ m)) (recordLength (s ++ m)) ≡ false = le-ltb (length (s ++ m)) (recordLength (s ++ m))
+          (omega (arith, longer, length-same h)) in
           rw (still, e) (ap (λ (r : List (Rule (List ℕ))). answered r []) (blocks-same (kindOf s) (omega arith)))
 
   -- behind a label, 1 does not apply
@@ -178,5 +208,12 @@ module _ (s m : List ℕ) where
       let r = refusal-stays c in
       let none = something-refused (s ++ m) (λ q. refused-something s e (sym r ∙ q)) in (
         none,
-        λ place. rw (stop-words place s (refused-first s e), stop-words place (s ++ m) (refused-first (s ++ m) none), r, ne-eqb (length s) 0 (λ q. omega arith), ne-eqb (length (s ++ m)) 0 (λ q. omega (arith, longer))),
+        λ place. rw (
+          stop-words place s (refused-first s e),
+          stop-words place (s ++ m) (refused-first (s ++ m) none),
+          r,
+          ne-eqb (length s) 0
+              (λ q. omega arith),
+          ne-eqb (length (s ++ m)) 0 (λ q. omega (arith, longer)),
+        ),
       )

@@ -6,7 +6,7 @@ mod window;
 pub use lines::begin;
 pub use window::list_piece;
 
-// What stands at a place of the window.
+// What stands at a place of the window. (Public for the prover's sake.)
 pub enum Found {
     Record {
         kind: sfdu::Kind,
@@ -19,7 +19,8 @@ pub enum Found {
     Stop(u32, u64),
 }
 
-// How far a window was gone over: bytes of it used, where the text ends, and whether the last line is there.
+// How far a window was gone over: bytes of it used, where the text ends, and whether the last line is there. (Public for the prover's
+// sake.)
 pub struct Drained {
     pub used: usize,
     pub end: usize,

@@ -107,7 +107,12 @@ module _ (s : List ℕ) (old : Columns) (size at i : ℕ) (new : Columns) (u : R
       let k = same u in
       record {
         less = omega (arith, further .within, u .count);
-        fits = record { places = omega (arith, n .places); lengths = omega (arith, n .lengths); kinds = omega (arith, n .kinds); numbers = omega (arith, n .numbers) };
+        fits = record {
+          places = omega (arith, n .places);
+          lengths = omega (arith, n .lengths);
+          kinds = omega (arith, n .kinds);
+          numbers = omega (arith, n .numbers);
+        };
         within = record {
           places = omega (arith, n .places, k .places);
           lengths = omega (arith, n .lengths, k .lengths);

@@ -13,7 +13,22 @@ use Rattle.sfdu.specs.Read.{inStream, accepts, readOne}
 use Rattle.sfdu.proofs.Accepted.{Reads, accepted-one, refused-one, reads}
 use Rattle.sfdu_stream.specs.declared.Entry.{Entry}
 use Rattle.sfdu_stream.specs.Walk.{whole, past, full, refusal, wholeBy}
-use Rattle.sfdu_stream.specs.Listing.{Listing, entryAt, stopped, prepend, listing, walkBy, walkFrom, walked, answer, fills, shortest, fillsColumns, listNumbers, listEntries}
+use Rattle.sfdu_stream.specs.Listing.{
+  Listing,
+  entryAt,
+  stopped,
+  prepend,
+  listing,
+  walkBy,
+  walkFrom,
+  walked,
+  answer,
+  fills,
+  shortest,
+  fillsColumns,
+  listNumbers,
+  listEntries,
+}
 use Rattle.sfdu_stream.specs.Laws.{BackToBack, StopsAtEnd, StopsRefused, Full, EveryWalk, EmptyWalk, EveryList, columnsOf, SameInBothLayouts}
 use Rattle.sfdu_stream.proofs.Places.{whole-record, none-at-end, refusal-is, refused-by}
 use Rattle.sfdu_stream.proofs.Listings.{lists, lists-none, lists-full, stops as walk-stops}
@@ -57,7 +72,8 @@ none-found : (s : List ℕ) (free at : ℕ) → at ≤ length s → whole s at �
 none-found s free at h e = record { within = h; fits = omega arith; records = refl; stops = by (stops-there s at h e) }
   where
     by : StopsAtEnd s (stopped at (refusal s at)) ⊎ StopsRefused s (stopped at (refusal s at))
-        → StopsAtEnd s (stopped at (refusal s at)) ⊎ (StopsRefused s (stopped at (refusal s at)) ⊎ (Full s free (stopped at (refusal s at)) × (refusal s at ≡ full)))
+        → StopsAtEnd s (stopped at (refusal s at))
+        ⊎ (StopsRefused s (stopped at (refusal s at)) ⊎ (Full s free (stopped at (refusal s at)) × (refusal s at ≡ full)))
     by (inl x) = inl x
     by (inr x) = inr (inl x)
 
@@ -69,7 +85,8 @@ from zero s at h = by (whole s at) refl
     by false e = rw (lists-none 0 s at e) (none-found s 0 at h e)
 from (suc free) s at h = by (whole s at) refl (λ e. from free s (past s at) (whole-record s at e .within))
   where
-    by : (b : Bool) → whole s at ≡ b → (whole s at ≡ true → From s free (past s at) (listing free s (past s at))) → From s (suc free) at (listing (suc free) s at)
+    by : (b : Bool) → whole s at ≡ b → (whole s at ≡ true → From s free (past s at) (listing free s (past s at)))
+        → From s (suc free) at (listing (suc free) s at)
     by true e rest = rw (lists free s at e) (extends s free at (listing free s (past s at)) e (rest e))
     by false e rest = rw (lists-none (suc free) s at e) (none-found s (suc free) at h e)
 
@@ -124,7 +141,8 @@ walk-right s =
     l : Listing
     l = listing (length s) s 0
 
-    by : BackToBack s 0 (l .entries) (l .stop) → StopsAtEnd s l ⊎ (StopsRefused s l ⊎ (Full s (length s) l × (l .why ≡ full))) → StopsAtEnd s l ⊎ StopsRefused s l
+    by : BackToBack s 0 (l .entries) (l .stop) → StopsAtEnd s l ⊎ (StopsRefused s l ⊎ (Full s (length s) l × (l .why ≡ full)))
+        → StopsAtEnd s l ⊎ StopsRefused s l
     by b (inl x) = inl x
     by b (inr (inl x)) = inr x
     by b (inr (inr x)) = let w = whole-record s (l .stop) (x .0 .0) in absurd (omega (arith, taken s 0 (l .entries) (l .stop) b, x .0 .1))
@@ -157,5 +175,6 @@ same-in-both s table =
       kinds = column (λ (x : Entry). x .kind) es table j;
       numbers = column (λ (x : Entry). x .number) es table j;
     } in
-    let d : fillsColumns (listing (shortest (columnsOf table)) s 0 .entries) (columnsOf table) ≡ columnsOf (fills es table) = ap (λ (l : Listing). fillsColumns (l .entries) (columnsOf table)) e ∙ c in
+    let d : fillsColumns (listing (shortest (columnsOf table)) s 0 .entries) (columnsOf table) ≡ columnsOf (fills es table) =
+    ap (λ (l : Listing). fillsColumns (l .entries) (columnsOf table)) e ∙ c in
     λ j. (answer (e j), d j)

@@ -18,7 +18,8 @@ abbrev pub behind : ℕ → List ℕ → (ℕ → List ℕ → Listing) → List
 behind place s rest = rest (place + recordLength s) (drop (recordLength s) s)
 
 module _ (rules : Rules) (place : ℕ) (s : List ℕ) where
-  pub lists-by : (free : ℕ) → wholeBy rules s ≡ true → listingBy rules (suc free) place s ≡ prepend (entryOf place s ∷ []) (behind place s (listingBy rules free))
+  pub lists-by : (free : ℕ) → wholeBy rules s ≡ true
+      → listingBy rules (suc free) place s ≡ prepend (entryOf place s ∷ []) (behind place s (listingBy rules free))
   unfolding listingBy
   lists-by free e = rw e
 

@@ -110,7 +110,8 @@ module _ (s : List ℕ) (n at : ℕ) (es : List Entry) (t : Turn) (turn : TurnAt
 
   pub finished : (free : ℕ) → Underway s n free at es → t .listed ≡ false → Finished s n es t
   finished free u l =
-      let all-of-it : listing n s 0 ≡ record { entries = es; stop = at; why = cond (whole s at) full (refusal s at) } = u .rest ∙ rw (stops free u l, append-nil) in
+      let all-of-it : listing n s 0 ≡ record { entries = es; stop = at; why = cond (whole s at) full (refusal s at) } =
+      u .rest ∙ rw (stops free u l, append-nil) in
       record { answers = turn .answer l ∙ sym (ap answer all-of-it); entries = ap (λ (x : Listing). x .entries) all-of-it }
 
 -- What a table holds then, and the answer.

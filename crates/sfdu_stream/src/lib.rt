@@ -49,7 +49,7 @@ pub struct Entry {
     pub number: u32,
 }
 
-// A turn of a list: the next record's entry and the place past it, or the list's answer.
+// A turn of a list: the next record's entry and the place past it, or the list's answer. (Public for the prover's sake.)
 pub struct Turn {
     pub listed: bool,
     pub entry: Entry,

@@ -96,8 +96,12 @@ pub fn list_numbers(
     kinds: &mut [u32],
     numbers: &mut [u32],
 ) -> Walked
-    ensures { λ r. ⌜ (wordsOf r, record { places = now (places .exit); lengths = now (lengths .exit); kinds = now (kinds .exit); numbers = now (numbers .exit) })
-        ≡ listNumbers (now (s .entry)) (record { places = now (places .entry); lengths = now (lengths .entry); kinds = now (kinds .entry); numbers = now (numbers .entry) }) ⌝ }
+    ensures { λ r. ⌜ (
+      wordsOf r,
+      record { places = now (places .exit); lengths = now (lengths .exit); kinds = now (kinds .exit); numbers = now (numbers .exit) },
+    )
+        ≡ listNumbers (now (s .entry))
+        (record { places = now (places .entry); lengths = now (lengths .entry); kinds = now (kinds .entry); numbers = now (numbers .entry) }) ⌝ }
 {
     let size = least(
         least(places.len(), lengths.len()),

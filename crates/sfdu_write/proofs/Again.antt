@@ -13,7 +13,34 @@ use Rattle.octets.specs.Octets.{bytesOf, part, sameAt}
 use Rattle.octets.proofs.Laws.{Bytes, length-part}
 use Rattle.octets.proofs.Parts.{bytes-number, part-join, part-whole, same-part}
 use Rattle.sfdu.specs.declared.Primary.{Primary}
-use Rattle.sfdu.specs.Nesting.{authority, control, kindBytes, authorityAt, controlAt, kindAt, tagSize, lengthAt, lengthSize, labelSize, wordSize, blockLabelSize, aggregationAt, primaryAt, primaryValueAt, secondaryAt, secondaryValueAt, dataAt, dataValueAt, aggregationLength, primaryLength, secondaryLength, aggregationType, primaryType, secondaryType, dataType}
+use Rattle.sfdu.specs.Nesting.{
+  authority,
+  control,
+  kindBytes,
+  authorityAt,
+  controlAt,
+  kindAt,
+  tagSize,
+  lengthAt,
+  lengthSize,
+  labelSize,
+  wordSize,
+  blockLabelSize,
+  aggregationAt,
+  primaryAt,
+  primaryValueAt,
+  secondaryAt,
+  secondaryValueAt,
+  dataAt,
+  dataValueAt,
+  aggregationLength,
+  primaryLength,
+  secondaryLength,
+  aggregationType,
+  primaryType,
+  secondaryType,
+  dataType,
+}
 use Rattle.sfdu.specs.Read.{primaryWords, primaryOf, hasKind, kindOf, labelLength, recordLength, blockType, blockLength}
 use Rattle.sfdu_write.specs.Write.{labelBytes, block, primaryBlock, headBytes, recordBytes}
 use Rattle.sfdu.proofs.Placed.{placed}
@@ -93,7 +120,8 @@ module _ (s : List ℕ) (b : Bytes s) (f : Accepted s) where
       record { class = f .data-type; size-is = f .data-length ∙ sym e }
 
   pub record-part : (p : Primary) → primaryWords p ≡ primaryOf s
-      → recordBytes (kindOf s) p (part s secondaryValueAt (secondaryLength (kindOf s))) (part s (dataValueAt (kindOf s)) (recordLength s - dataValueAt (kindOf s)))
+      → recordBytes (kindOf s) p (part s secondaryValueAt (secondaryLength (kindOf s)))
+      (part s (dataValueAt (kindOf s)) (recordLength s - dataValueAt (kindOf s)))
       ≡ part s 0 (recordLength s)
   unfolding recordBytes
   record-part p e =

@@ -46,7 +46,22 @@ use Rattle.sfdu.specs.Nesting.{
   leastLabelLength,
   mostLabelLength,
 }
-use Rattle.sfdu.specs.Read.{primaryWords, primaryOf, hasKind, kindOf, labelLength, recordLength, blockType, blockLength, lengthInRange, readRules, accepts, readOne, secondaryPart, dataPart}
+use Rattle.sfdu.specs.Read.{
+  primaryWords,
+  primaryOf,
+  hasKind,
+  kindOf,
+  labelLength,
+  recordLength,
+  blockType,
+  blockLength,
+  lengthInRange,
+  readRules,
+  accepts,
+  readOne,
+  secondaryPart,
+  dataPart,
+}
 use Rattle.sfdu_write.specs.Write.{labelBytes, block, primaryBlock, headBytes, recordBytes, sizeOf}
 use Rattle.sfdu.proofs.Placed.{placed}
 use Rattle.sfdu_write.proofs.Written.{length-kind, length-label, length-block, length-primary, length-head, length-record}
@@ -161,7 +176,8 @@ module _ (k : Kind) (p : Primary) (secondary value rest : List ℕ) (hs : length
   unfolding labelLength
   label-length =
       rw by-tags
-      (piece-number (authority ++ control ++ kindBytes k) blocks lengthAt lengthSize _ (length-append (authority ++ control) (kindBytes k) ∙ rw (length-kind k)) small)
+      (piece-number (authority ++ control ++ kindBytes k) blocks lengthAt lengthSize _ (length-append (authority ++ control) (kindBytes k)
+      ∙ rw (length-kind k)) small)
 
   record-length : recordLength slice ≡ sizeOf k value
   unfolding recordLength

@@ -105,7 +105,8 @@ read-writes-again s bytes number n p e out h =
     let sp : secondaryPart s ≡ secondary = rw a in
     let vp : dataPart s ≡ value = rw a in
     let ls : length secondary ≡ secondaryLength k = length-part s secondaryValueAt (secondaryLength k) (omega (arith, f .whole, f .size, f .least)) in
-    let lv : length value ≡ recordLength s - dataValueAt k = length-part s (dataValueAt k) (recordLength s - dataValueAt k) (omega (arith, f .whole, f .size, f .least)) in
+    let lv : length value ≡ recordLength s - dataValueAt k = length-part s (dataValueAt k) (recordLength s - dataValueAt k)
+    (omega (arith, f .whole, f .size, f .least)) in
     let most : length value ≤ mostData = omega (arith, f .size, f .most) in
     let input : isInput k secondary value ≡ true = rw (eq-eqb _ _ ls, le-leb _ _ most) in
     let size : sizeOf k value ≡ n = omega (arith, f .size, f .least) in

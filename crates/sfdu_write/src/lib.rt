@@ -58,7 +58,8 @@ fn is_input(kind: Kind, secondary: &[u8], value: &[u8]) -> bool
 }
 
 fn write_record(kind: Kind, primary: Primary, secondary: &[u8], value: &[u8], out: &mut [u8])
-    requires { ⌜ (length (now secondary) ≡ secondaryLength kind) × (length (now value) ≤ mostData) × (dataValueAt kind + length (now value) ≤ length (now out)) ⌝ }
+    requires { ⌜ (length (now secondary) ≡ secondaryLength kind) × (length (now value) ≤ mostData)
+        × (dataValueAt kind + length (now value) ≤ length (now out)) ⌝ }
     ensures { λ _. ⌜ now (out .exit) ≡ put (now (out .entry)) 0 (recordBytes kind primary (now (secondary .entry)) (now (value .entry))) ⌝ }
 {
     let at = sfdu::data_value_at(kind);

@@ -23,10 +23,13 @@ same-length c = search needs
 returns : tie.Need-returns
 unfolding block
 returns c =
-    let g = c .before .before .before .before .before .before .before .before .before .args in
+    let at-write-be = c .before .before .before .before .before .before in
+    let start = at-write-be .before .before .before in
+    let g = start .args in
     let l = length-bytesOf 2 (g .class) in
     let m = length-bytesOf 2 (g .size) in
-    put-next (g .out .now) (g .at) (bytesOf 2 (g .class)) _ (bytesOf 2 (g .size)) (c .before .before .before .before .before .before .write-be .ensures) (c .before .before .write-be2 .ensures) (omega arith) (omega arith)
+    put-next (g .out .now) (g .at) (bytesOf 2 (g .class)) _ (bytesOf 2 (g .size)) (at-write-be .write-be .ensures) (c .before .before .write-be2 .ensures)
+    (omega arith) (omega arith)
 
 pub write-block-spec : {M : Type 1} → statement M
 write-block-spec =

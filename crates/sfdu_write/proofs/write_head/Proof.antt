@@ -37,7 +37,14 @@ same-length c = search needs
 returns : tie.Need-returns
 unfolding headBytes
 returns c =
-    let g = c .before .before .before .before .before .before .before .before .before .before .before .before .before .before .before .before .before .before .before .before .args in
+    let at-secondary-length = c .before .before .before in
+    let at-secondary-type = at-secondary-length .before in
+    let at-write-primary = at-secondary-type .before .before .before .before in
+    let at-write-block = at-write-primary .before .before .before .before in
+    let at-aggregation-length = at-write-block .before in
+    let at-write-label = at-aggregation-length .before .before .before .before in
+    let start = at-write-label .before .before .before in
+    let g = start .args in
     let out = g .out .now in
     let label = labelBytes (g .kind) (g .size) in
     let aggregation = block aggregationType (aggregationLength (g .kind)) in
@@ -47,10 +54,11 @@ returns c =
     let m = length-block aggregationType (aggregationLength (g .kind)) in
     let p = length-primary (g .primary) in
     let s = length-block (secondaryType (g .kind)) (secondaryLength (g .kind)) in
-    let second = rw (c .before .before .before .before .before .before .before .before .before .before .before .before .before .aggregation-length .ensures) at (c .before .before .before .before .before .before .before .before .before .before .before .before .write-block .ensures) in
-    let last = rw (c .before .before .before .before .secondary-type .ensures, c .before .before .before .secondary-length .ensures) at (c .before .before .write-block2 .ensures) in
-    let one = put-next out 0 label aggregationAt aggregation (c .before .before .before .before .before .before .before .before .before .before .before .before .before .before .before .before .before .write-label .ensures) second (omega arith) (omega arith) in
-    let two = put-next out 0 (label ++ aggregation) primaryAt primary one (c .before .before .before .before .before .before .before .before .write-primary .ensures) (omega (arith, length-append label aggregation)) (omega arith) in
+    let second = rw (at-aggregation-length .aggregation-length .ensures) at (at-write-block .write-block .ensures) in
+    let last = rw (at-secondary-type .secondary-type .ensures, at-secondary-length .secondary-length .ensures) at (c .before .before .write-block2 .ensures) in
+    let one = put-next out 0 label aggregationAt aggregation (at-write-label .write-label .ensures) second (omega arith) (omega arith) in
+    let two = put-next out 0 (label ++ aggregation) primaryAt primary one (at-write-primary .write-primary .ensures)
+    (omega (arith, length-append label aggregation)) (omega arith) in
     put-next out 0 (label ++ aggregation ++ primary) secondaryAt secondary two last
     (omega (arith, length-append (label ++ aggregation) primary, length-append label aggregation)) (omega arith)
 

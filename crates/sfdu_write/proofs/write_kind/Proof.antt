@@ -15,7 +15,10 @@ is-input-requires : tie.Need-is-input-requires
 is-input-requires c κs = search needs
 
 returns : tie.Need-returns
-returns c = let g = c .before .before .before .before .before .args in sym (input-refused (g .kind) (g .primary) (g .secondary .now) (g .value .now) (g .out .now) (failed (c .before .is-input .ensures) (c .if1 .taken)))
+returns c =
+    let start = c .before .before .before .before .before in
+    let g = start .args in sym (input-refused (g .kind) (g .primary) (g .secondary .now) (g .value .now) (g .out .now)
+    (failed (c .before .is-input .ensures) (c .if1 .taken)))
 
 data-value-at-requires : tie.Need-data-value-at-requires
 data-value-at-requires c κs = search needs
@@ -28,9 +31,12 @@ add-size c =
 
 returns-2 : tie.Need-returns-2
 returns-2 c =
-    let g = c .before .before .before .before .before .before .before .args in
+    let at-is-input = c .before .before .before in
+    let start = at-is-input .before .before .before .before in
+    let g = start .args in
     let l : length (g .out .now) < sizeOf (g .kind) (g .value .now) = omega (arith, c .before .data-value-at .ensures, c .if2 .taken) in
-    sym (space-refused (g .kind) (g .primary) (g .secondary .now) (g .value .now) (g .out .now) (passed (c .before .before .before .is-input .ensures) (c .before .before .if1 .left)) l)
+    sym (space-refused (g .kind) (g .primary) (g .secondary .now) (g .value .now) (g .out .now)
+    (passed (at-is-input .is-input .ensures) (c .before .before .if1 .left)) l)
 
 write-record-requires : tie.Need-write-record-requires
 write-record-requires c κs =
@@ -42,10 +48,15 @@ same-length c = search needs
 
 returns-3 : tie.Need-returns-3
 returns-3 c =
-    let g = c .before .before .before .before .before .before .before .before .before .before .before .args in
-    let l : sizeOf (g .kind) (g .value .now) ≤ length (g .out .now) = omega (arith, c .before .before .before .before .before .data-value-at .ensures, c .before .before .before .before .if2 .left) in
-    rw (c .before .before .before .before .before .data-value-at .ensures, c .before .before .write-record .ensures)
-    (sym (written (g .kind) (g .primary) (g .secondary .now) (g .value .now) (g .out .now) (passed (c .before .before .before .before .before .before .before .is-input .ensures) (c .before .before .before .before .before .before .if1 .left)) l))
+    let at-if2 = c .before .before .before .before in
+    let at-data-value-at = at-if2 .before in
+    let at-if1 = at-data-value-at .before in
+    let at-is-input = at-if1 .before in
+    let start = at-is-input .before .before .before .before in
+    let g = start .args in
+    let l : sizeOf (g .kind) (g .value .now) ≤ length (g .out .now) = omega (arith, at-data-value-at .data-value-at .ensures, at-if2 .if2 .left) in
+    rw (at-data-value-at .data-value-at .ensures, c .before .before .write-record .ensures)
+    (sym (written (g .kind) (g .primary) (g .secondary .now) (g .value .now) (g .out .now) (passed (at-is-input .is-input .ensures) (at-if1 .if1 .left)) l))
 
 pub write-kind-spec : {M : Type 1} → statement M
 write-kind-spec =

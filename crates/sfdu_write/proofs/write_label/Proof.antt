@@ -47,13 +47,19 @@ same-length c = search needs
 returns : tie.Need-returns
 unfolding labelBytes
 returns c =
-    let g = c .before .before .before .before .before .before .before .before .before .before .before .before .before .before .before .before .before .before .before .before .before .args in
+    let at-copy-in3 = c .before .before .before .before .before .before in
+    let at-kind-tag = at-copy-in3 .before .before .before in
+    let at-copy-in2 = at-kind-tag .before .before .before in
+    let at-copy-in = at-copy-in2 .before .before .before .before .before in
+    let start = at-copy-in .before .before .before .before in
+    let g = start .args in
     let k = length-kind (g .kind) in
     let l = length-bytesOf lengthSize (g .size - labelSize) in
-    let spelt = rw (c .before .before .before .before .before .before .before .before .before .kind-tag .ensures) at (c .before .before .before .before .before .before .copy-in3 .ensures) in
-    let one = put-next (g .out .now) 0 authority _ control (c .before .before .before .before .before .before .before .before .before .before .before .before .before .before .before .before .before .copy-in .ensures) (c .before .before .before .before .before .before .before .before .before .before .before .before .copy-in2 .ensures) refl (omega arith) in
+    let spelt = rw (at-kind-tag .kind-tag .ensures) at (at-copy-in3 .copy-in3 .ensures) in
+    let one = put-next (g .out .now) 0 authority _ control (at-copy-in .copy-in .ensures) (at-copy-in2 .copy-in2 .ensures) refl (omega arith) in
     let two = put-next (g .out .now) 0 (authority ++ control) _ (kindBytes (g .kind)) one spelt refl (omega arith) in
-    put-next (g .out .now) 0 (authority ++ control ++ kindBytes (g .kind)) _ (bytesOf lengthSize (g .size - labelSize)) two (c .before .before .write-be .ensures) (simp (length-append, length-kind) refl) (omega arith)
+    put-next (g .out .now) 0 (authority ++ control ++ kindBytes (g .kind)) _ (bytesOf lengthSize (g .size - labelSize)) two
+    (c .before .before .write-be .ensures) (simp (length-append, length-kind) refl) (omega arith)
 
 pub write-label-spec : {M : Type 1} → statement M
 write-label-spec =

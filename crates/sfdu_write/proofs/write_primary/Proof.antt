@@ -40,11 +40,13 @@ same-length c = search needs
 returns : tie.Need-returns
 unfolding primaryBlock
 returns c =
-    let g = c .before .before .before .before .before .args in
+    let start = c .before .before .before .before .before in
+    let g = start .args in
     let t = c .before .before .write-block .last .0 in
     let l = length-block primaryType primaryLength in
     let stored = sets-put t primaryValueAt (primaryWords (g .p)) (omega arith) in
-    put-next (g .out .now) primaryAt (block primaryType primaryLength) primaryValueAt (primaryWords (g .p)) (c .before .before .write-block .ensures) stored (omega arith) (omega arith)
+    put-next (g .out .now) primaryAt (block primaryType primaryLength) primaryValueAt (primaryWords (g .p)) (c .before .before .write-block .ensures) stored
+    (omega arith) (omega arith)
 
 pub write-primary-spec : {M : Type 1} → statement M
 write-primary-spec =

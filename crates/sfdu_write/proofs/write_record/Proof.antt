@@ -19,7 +19,9 @@ add-write-head : tie.Need-add-write-head
 add-write-head c = search needs
 
 write-head-requires : tie.Need-write-head-requires
-write-head-requires c κs = let k = placed (c .before .before .before .before .before .args .kind) in (omega (arith, c .before .data-value-at .ensures), omega arith)
+write-head-requires c κs =
+    let start = c .before .before .before .before .before in
+    let k = placed (start .args .kind) in (omega (arith, c .before .data-value-at .ensures), omega arith)
 
 copy-in-requires : tie.Need-copy-in-requires
 copy-in-requires c κs = let k = placed (c .before .before .before .before .before .before .before .before .before .args .kind) in omega arith
@@ -28,7 +30,9 @@ data-at-requires : tie.Need-data-at-requires
 data-at-requires c κs = search needs
 
 write-block-requires : tie.Need-write-block-requires
-write-block-requires c κs = let k = placed (c .before .before .before .before .before .before .before .before .before .before .before .before .before .before .args .kind) in omega (arith, c .data-at .ensures)
+write-block-requires c κs =
+    let start = c .before .before .before .before .before .before .before .before .before .before .before .before .before .before in
+    let k = placed (start .args .kind) in omega (arith, c .data-at .ensures)
 
 copy-in-requires-2 : tie.Need-copy-in-requires-2
 copy-in-requires-2 c κs = search needs
@@ -39,7 +43,13 @@ same-length c = search needs
 returns : tie.Need-returns
 unfolding recordBytes
 returns c =
-    let g = c .before .before .before .before .before .before .before .before .before .before .before .before .before .before .before .before .before .before .before .before .before .args in
+    let at-write-block = c .before .before .before .before .before .before in
+    let at-data-at = at-write-block .before in
+    let at-copy-in = at-data-at .before .before .before .before in
+    let at-write-head = at-copy-in .before .before .before .before in
+    let at-data-value-at = at-write-head .before .before in
+    let start = at-data-value-at .before .before .before .before in
+    let g = start .args in
     let k = placed (g .kind) in
     let out = g .out .now in
     let value = g .value .now in
@@ -49,10 +59,10 @@ returns c =
     let label = block dataType (length value) in
     let l = length-head (g .kind) (g .primary) size in
     let m = length-block dataType (length value) in
-    let first = rw (c .before .before .before .before .before .before .before .before .before .before .before .before .before .before .before .before .before .data-value-at .ensures) at (c .before .before .before .before .before .before .before .before .before .before .before .before .before .before .before .write-head .ensures) in
-    let third = rw (c .before .before .before .before .before .before .before .data-at .ensures) at (c .before .before .before .before .before .before .write-block .ensures) in
-    let last = rw (c .before .before .before .before .before .before .before .before .before .before .before .before .before .before .before .before .before .data-value-at .ensures) at (c .before .before .copy-in2 .ensures) in
-    let one = put-next out 0 head secondaryValueAt secondary first (c .before .before .before .before .before .before .before .before .before .before .before .copy-in .ensures) (omega arith) (omega arith) in
+    let first = rw (at-data-value-at .data-value-at .ensures) at (at-write-head .write-head .ensures) in
+    let third = rw (at-data-at .data-at .ensures) at (at-write-block .write-block .ensures) in
+    let last = rw (at-data-value-at .data-value-at .ensures) at (c .before .before .copy-in2 .ensures) in
+    let one = put-next out 0 head secondaryValueAt secondary first (at-copy-in .copy-in .ensures) (omega arith) (omega arith) in
     let two = put-next out 0 (head ++ secondary) (dataAt (g .kind)) label one third (omega (arith, length-append head secondary)) (omega arith) in
     put-next out 0 (head ++ secondary ++ label) (dataValueAt (g .kind)) value two last
     (omega (arith, length-append (head ++ secondary) label, length-append head secondary)) (omega arith)

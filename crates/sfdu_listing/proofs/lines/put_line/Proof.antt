@@ -31,11 +31,14 @@ put-letter-requires c κs =
 
 put-word-requires-3 : tie.Need-put-word-requires-3
 put-word-requires-3 c κs =
+    let at-put-letter = c .before .before .before in
+    let at-put-word2 = at-put-letter .before .before .before .before in
+    let at-put-word = at-put-word2 .before .before .before .before in
     let k = c .before .before .before .before .before .before .before .before .before .before .before .before .before .before in
     let p = word-short 20 (k .args .place) space (lit< tt) (omega (arith, k .fits .place .fits)) in
     let z = word-short 5 (k .args .size) space (lit< tt) (omega arith) in
     let n = word-short 10 (k .args .number) lineEnd (lit< tt) (omega (arith, k .fits .number .fits)) in
-    omega (arith, c .before .before .before .put-letter .ensures .end, c .before .before .before .before .before .before .before .put-word2 .ensures .0 .end, c .before .before .before .before .before .before .before .before .before .before .before .put-word .ensures .0 .end)
+    omega (arith, at-put-letter .put-letter .ensures .end, at-put-word2 .put-word2 .ensures .0 .end, at-put-word .put-word .ensures .0 .end)
 
 same-length : tie.Need-same-length
 same-length c = search needs
@@ -43,15 +46,21 @@ same-length c = search needs
 returns : tie.Need-returns
 unfolding line
 returns c =
+    let at-put-letter = c .before .before .before .before .before .before in
+    let at-put-word2 = at-put-letter .before .before .before .before in
+    let at-put-word = at-put-word2 .before .before .before .before in
     let k = c .before .before .before .before .before .before .before .before .before .before .before .before .before .before .before .before .before in
     let p = word-short 20 (k .args .place) space (lit< tt) (omega (arith, k .fits .place .fits)) in
     let z = word-short 5 (k .args .size) space (lit< tt) (omega arith) in
     let n = word-short 10 (k .args .number) lineEnd (lit< tt) (omega (arith, k .fits .number .fits)) in
-    let a = c .before .before .before .before .before .before .before .before .before .before .before .before .before .before .put-word .ensures .0 in
-    let b = c .before .before .before .before .before .before .before .before .before .before .put-word2 .ensures .0 in
-    let l = c .before .before .before .before .before .before .put-letter .ensures in
-    let d = c .before .before .put-word3 .ensures .0 in
-    (then (then (then a b (omega (arith, a .end, b .end))) l (omega (arith, a .end, b .end, l .end))) d (omega (arith, a .end, b .end, l .end, d .end)), omega (arith, a .end, b .end, l .end, d .end))
+    let a = at-put-word .put-word .ensures .0 in
+    let b = at-put-word2 .put-word2 .ensures .0 in
+    let l = at-put-letter .put-letter .ensures in
+    let d = c .before .before .put-word3 .ensures .0 in (
+      then (then (then a b (omega (arith, a .end, b .end))) l (omega (arith, a .end, b .end, l .end))) d (omega (arith, a .end, b .end, l .end, d .end)),
+      omega
+          (arith, a .end, b .end, l .end, d .end),
+    )
 
 pub put-line-spec : {M : Type 1} → statement M
 put-line-spec =

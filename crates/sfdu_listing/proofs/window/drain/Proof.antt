@@ -6,7 +6,19 @@ use Prim.Native.Nat.{_+_, _-_}
 use mathlib.Core.Path.{sym, ap, _∙_}
 use lib.ListN.{length}
 use Rattle.sfdu_listing.specs.Window.{wordsOf}
-use Rattle.sfdu_listing.proofs.Draining.{part-length, record-there, stop-there, record-bounds, Round, round-begins, line-room, last-room, round-goes, round-waits, round-stops}
+use Rattle.sfdu_listing.proofs.Draining.{
+  part-length,
+  record-there,
+  stop-there,
+  record-bounds,
+  Round,
+  round-begins,
+  line-room,
+  last-room,
+  round-goes,
+  round-waits,
+  round-stops,
+}
 use Rattle.sfdu_listing.proofs.window.drain.Statement.{statement}
 use Rattle.sfdu_listing.proofs.window.drain.Tie as tie
 
@@ -42,37 +54,56 @@ enum-known-found c = search needs
 
 put-line-requires : tie.Need-put-line-requires Inv-loop μ-loop
 put-line-requires c κs =
-    let k = c .before .before .before .before .before .before .loop in
-    let a = c .before .before .before .before .before .before .before .before .before .args in
+    let at-judge = c .before .before .before .before in
+    let at-loop = at-judge .before .before in
+    let start = at-loop .before .before .before in
+    let k = at-loop .loop in
+    let a = start .args in
     let g = c .before .before .found .given in
-    let f = record-there (a .place + k .at) (a .w .now) (k .at) (a .last) (g .0 .0) (g .0 .1 .0) (g .0 .1 .1 .0) (sym (ap wordsOf (g .1)) ∙ c .before .before .before .before .judge .ensures) in
+    let f = record-there (a .place + k .at) (a .w .now) (k .at) (a .last) (g .0 .0) (g .0 .1 .0) (g .0 .1 .1 .0)
+    (sym (ap wordsOf (g .1)) ∙ at-judge .judge .ensures) in
     let b = record-bounds (a .w .now) (k .at) _ _ _ f in
     (line-room (a .w .now) (a .place) (a .last) (a .out .now) (a .start) (k .out) (k .at) (k .end) (k .inv) _ _ _ f, b .1)
 
 add-at : tie.Need-add-at Inv-loop μ-loop
 add-at c =
-    let k = c .before .before .before .before .before .before .before .before .before .loop in
-    let a = c .before .before .before .before .before .before .before .before .before .before .before .before .args in
-    let g = c .before .before .before .before .before .found .given in
-    let f = record-there (a .place + k .at) (a .w .now) (k .at) (a .last) (g .0 .0) (g .0 .1 .0) (g .0 .1 .1 .0) (sym (ap wordsOf (g .1)) ∙ c .before .before .before .before .before .before .before .judge .ensures) in
+    let at-found = c .before .before .before .before .before in
+    let at-judge = at-found .before .before in
+    let at-loop = at-judge .before .before in
+    let start = at-loop .before .before .before in
+    let k = at-loop .loop in
+    let a = start .args in
+    let g = at-found .found .given in
+    let f = record-there (a .place + k .at) (a .w .now) (k .at) (a .last) (g .0 .0) (g .0 .1 .0) (g .0 .1 .1 .0)
+    (sym (ap wordsOf (g .1)) ∙ at-judge .judge .ensures) in
     let b = record-bounds (a .w .now) (k .at) _ _ _ f in
     omega (arith, k .inv .fits)
 
 loop-less : tie.Need-loop-less Inv-loop μ-loop
 loop-less c =
-    let k = c .before .before .before .before .before .before .before .before .before .loop in
-    let a = c .before .before .before .before .before .before .before .before .before .before .before .before .args in
-    let g = c .before .before .before .before .before .found .given in
-    let f = record-there (a .place + k .at) (a .w .now) (k .at) (a .last) (g .0 .0) (g .0 .1 .0) (g .0 .1 .1 .0) (sym (ap wordsOf (g .1)) ∙ c .before .before .before .before .before .before .before .judge .ensures) in
+    let at-found = c .before .before .before .before .before in
+    let at-judge = at-found .before .before in
+    let at-loop = at-judge .before .before in
+    let start = at-loop .before .before .before in
+    let k = at-loop .loop in
+    let a = start .args in
+    let g = at-found .found .given in
+    let f = record-there (a .place + k .at) (a .w .now) (k .at) (a .last) (g .0 .0) (g .0 .1 .0) (g .0 .1 .1 .0)
+    (sym (ap wordsOf (g .1)) ∙ at-judge .judge .ensures) in
     let b = record-bounds (a .w .now) (k .at) _ _ _ f in
     omega arith
 
 loop-again : tie.Need-loop-again Inv-loop μ-loop
 loop-again c =
-    let k = c .before .before .before .before .before .before .before .before .before .loop in
-    let a = c .before .before .before .before .before .before .before .before .before .before .before .before .args in
-    let g = c .before .before .before .before .before .found .given in
-    let f = record-there (a .place + k .at) (a .w .now) (k .at) (a .last) (g .0 .0) (g .0 .1 .0) (g .0 .1 .1 .0) (sym (ap wordsOf (g .1)) ∙ c .before .before .before .before .before .before .before .judge .ensures) in
+    let at-found = c .before .before .before .before .before in
+    let at-judge = at-found .before .before in
+    let at-loop = at-judge .before .before in
+    let start = at-loop .before .before .before in
+    let k = at-loop .loop in
+    let a = start .args in
+    let g = at-found .found .given in
+    let f = record-there (a .place + k .at) (a .w .now) (k .at) (a .last) (g .0 .0) (g .0 .1 .0) (g .0 .1 .1 .0)
+    (sym (ap wordsOf (g .1)) ∙ at-judge .judge .ensures) in
     let b = record-bounds (a .w .now) (k .at) _ _ _ f in
     let p = c .before .before .put-line .ensures in
     round-goes (a .w .now) (a .place) (a .last) (a .out .now) (a .start) (k .out) (k .at) (k .end) (k .inv) _ _ _ _ _ f (p .0) (p .1) (search needs)
@@ -85,9 +116,12 @@ same-length c = c .before .before .before .before .loop .inv .same
 
 returns : tie.Need-returns Inv-loop μ-loop
 returns c =
-    let k = c .before .before .before .before .loop in
-    let a = c .before .before .before .before .before .before .before .args in
-    round-waits (a .w .now) (a .place) (a .last) (a .out .now) (a .start) (k .out) (k .at) (k .end) (k .inv) (sym (ap wordsOf (c .enum-told .given .1)) ∙ c .before .before .judge .ensures)
+    let at-loop = c .before .before .before .before in
+    let start = at-loop .before .before .before in
+    let k = at-loop .loop in
+    let a = start .args in
+    round-waits (a .w .now) (a .place) (a .last) (a .out .now) (a .start) (k .out) (k .at) (k .end) (k .inv) (sym (ap wordsOf (c .enum-told .given .1))
+    ∙ c .before .before .judge .ensures)
 
 enum-known-found-2 : tie.Need-enum-known-found-2 Inv-loop μ-loop
 enum-known-found-2 c = search needs
@@ -103,10 +137,14 @@ same-length-2 c = search needs
 
 returns-2 : tie.Need-returns-2 Inv-loop μ-loop
 returns-2 c =
-    let k = c .before .before .before .before .before .before .before .before .before .loop in
-    let a = c .before .before .before .before .before .before .before .before .before .before .before .before .args in
-    let g = c .before .before .before .before .before .found2 .given in
-    let f = stop-there (a .place + k .at) (a .w .now) (k .at) (a .last) (g .0 .0) (g .0 .1 .0) (sym (ap wordsOf (g .1)) ∙ c .before .before .before .before .before .before .before .judge .ensures) in
+    let at-found2 = c .before .before .before .before .before in
+    let at-judge = at-found2 .before .before in
+    let at-loop = at-judge .before .before in
+    let start = at-loop .before .before .before in
+    let k = at-loop .loop in
+    let a = start .args in
+    let g = at-found2 .found2 .given in
+    let f = stop-there (a .place + k .at) (a .w .now) (k .at) (a .last) (g .0 .0) (g .0 .1 .0) (sym (ap wordsOf (g .1)) ∙ at-judge .judge .ensures) in
     let p = c .before .before .put-last .ensures in
     round-stops (a .w .now) (a .place) (a .last) (a .out .now) (a .start) (k .out) (k .at) (k .end) (k .inv) _ _ _ _ f (p .0) (p .1) (search needs)
 

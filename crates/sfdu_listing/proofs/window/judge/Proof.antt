@@ -41,12 +41,14 @@ stop-requires c κs =
 
 returns : tie.Need-returns
 returns c =
+    let at-read-one = c .before .before .before .before in
     let k = c .before .before .before .before .before .before in
     let s = k .args .s .now in
     let g = c .before .before .read .given in
-    let f = found s (g .0 .0) (g .0 .1 .0) (primaryWords (g .0 .1 .1 .0)) (sym (ap wordsOf (g .1)) ∙ c .before .before .before .before .read-one .ensures) in
+    let f = found s (g .0 .0) (g .0 .1 .0) (primaryWords (g .0 .1 .1 .0)) (sym (ap wordsOf (g .1)) ∙ at-read-one .read-one .ensures) in
     let fits : recordLength s ≤ bufferSize = omega (arith, f .size, room s _ _ _ f, k .pre .0) in
-    records (k .args .place) s (k .args .last) (g .0 .0) (g .0 .1 .0) (c .record-number .result) (accepted-whole s (f .accepted) fits) (f .kind) (f .size) (c .record-number .ensures)
+    records (k .args .place) s (k .args .last) (g .0 .0) (g .0 .1 .0) (c .record-number .result) (accepted-whole s (f .accepted) fits) (f .kind) (f .size)
+    (c .record-number .ensures)
 
 returns-2 : tie.Need-returns-2
 returns-2 c = search needs

@@ -46,7 +46,11 @@ same-length-2 : tie.Need-same-length-2
 same-length-2 c = search needs
 
 returns : tie.Need-returns
-returns c = listed _ _ _ _ _ _ (c .before .before .before .before .before .before .before .before .before .before .before .before .before .pre) (c .before .before .before .before .before .before .before .drain .ensures) _ (c .before .before .before .copy .ensures)
+returns c =
+    let at-copy = c .before .before .before in
+    let at-drain = at-copy .before .before .before .before in
+    let start = at-drain .before .before .before .before .before .before in
+    listed _ _ _ _ _ _ (start .pre) (at-drain .drain .ensures) _ (at-copy .copy .ensures)
 
 pub list-piece-spec : {M : Type 1} → statement M
 list-piece-spec =

@@ -21,7 +21,8 @@ returns : tie.Need-returns
 unfolding isCount inStream
 returns c =
     let k = c .before .before .before .before in
-    let f = refused-cut (k .args .s .now) (k .pre .0) _ _ (k .pre .2) (c .before .before .if1 .taken) true (sym (c .before .is-over .ensures) ∙ c .if2 .taken) in
+    let f = refused-cut (k .args .s .now) (k .pre .0) _ _ (k .pre .2) (c .before .before .if1 .taken) true (sym (c .before .is-over .ensures) ∙ c .if2 .taken)
+    in
     stops (k .args .place) (k .args .s .now) (k .args .last) (17 ∷ []) f refl
 
 returns-2 : tie.Need-returns-2

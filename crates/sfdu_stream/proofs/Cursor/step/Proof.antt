@@ -28,11 +28,13 @@ enum-known-found c = search needs
 
 add-t16 : tie.Need-add-t16
 add-t16 c =
+    let at-read-one = c .before .before .before in
     let d = c .before .before .before .before .before in
     let s = d .before .before .args .s .now in
     let at = d .before .before .args .self .at in
     let g = c .before .found .given .0 in
-    let e = step-found s at (g .0) (g .1 .0) (primaryWords (g .1 .1 .0)) (d .if1 .left) (sym (ap wordsOf (c .before .found .given .1)) ∙ c .before .before .before .read-one .ensures ∙ ap readOne (from-there s at)) in
+    let e = step-found s at (g .0) (g .1 .0) (primaryWords (g .1 .1 .0)) (d .if1 .left) (sym (ap wordsOf (c .before .found .given .1))
+    ∙ at-read-one .read-one .ensures ∙ ap readOne (from-there s at)) in
     let f = found-there s at (g .0) (g .1 .0) (primaryWords (g .1 .1 .0)) _ (sym e) in
     let w = whole-record s at (f .there .is-whole) in
     omega (arith, f .moved)
@@ -42,18 +44,22 @@ enum-known-found-2 c = search needs
 
 returns-2 : tie.Need-returns-2
 returns-2 c =
+    let at-read-one = c .before .before .before in
     let d = c .before .before .before .before .before in
     let s = d .before .before .args .s .now in
     let at = d .before .before .args .self .at in
     let g = c .before .found .given .0 in
-    sym (step-found s at (g .0) (g .1 .0) (primaryWords (g .1 .1 .0)) (d .if1 .left) (sym (ap wordsOf (c .before .found .given .1)) ∙ c .before .before .before .read-one .ensures ∙ ap readOne (from-there s at)))
+    sym (step-found s at (g .0) (g .1 .0) (primaryWords (g .1 .1 .0)) (d .if1 .left) (sym (ap wordsOf (c .before .found .given .1))
+    ∙ at-read-one .read-one .ensures ∙ ap readOne (from-there s at)))
 
 returns-3 : tie.Need-returns-3
 returns-3 c =
+    let at-read-one = c .before .before .before in
     let d = c .before .before .before .before .before in
     let s = d .before .before .args .s .now in
     let at = d .before .before .args .self .at in
-    sym (step-refused s at (numberOf (c .before .found2 .given .0 .0 .refusal)) (c .before .found2 .given .0 .0 .at) (d .if1 .left) (sym (ap wordsOf (c .before .found2 .given .1)) ∙ c .before .before .before .read-one .ensures ∙ ap readOne (from-there s at)))
+    sym (step-refused s at (numberOf (c .before .found2 .given .0 .0 .refusal)) (c .before .found2 .given .0 .0 .at) (d .if1 .left)
+    (sym (ap wordsOf (c .before .found2 .given .1)) ∙ at-read-one .read-one .ensures ∙ ap readOne (from-there s at)))
 
 pub step-spec : {M : Type 1} → statement M
 step-spec =

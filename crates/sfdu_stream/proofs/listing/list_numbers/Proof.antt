@@ -9,7 +9,8 @@ use Rattle.sfdu_stream.proofs.listing.list_numbers.Tie as tie
 
 abbrev Inv-loop : tie.InvT-loop
 Inv-loop s places₀ lengths₀ kinds₀ numbers₀ size at₀ i₀ places lengths kinds numbers at i =
-    Round s (record { places = places₀; lengths = lengths₀; kinds = kinds₀; numbers = numbers₀ }) size at i (record { places = places; lengths = lengths; kinds = kinds; numbers = numbers })
+    Round s (record { places = places₀; lengths = lengths₀; kinds = kinds₀; numbers = numbers₀ }) size at i
+    (record { places = places; lengths = lengths; kinds = kinds; numbers = numbers })
 
 abbrev μ-loop : tie.MeasureT-loop
 μ-loop s places₀ lengths₀ kinds₀ numbers₀ size at₀ i₀ places lengths kinds numbers at i = size - i
@@ -67,9 +68,10 @@ slice-write-kinds c =
 
 mul-numbers : tie.Need-mul-numbers Inv-loop μ-loop
 mul-numbers c =
+    let start = c .before .before .before .before .before .before .before .before .before .before .before .before in
     let d = c .before .before in
     let x = stores _ _ _ _ _ _ (d .before .loop .inv) (d .turn-at .result) (d .turn-at .ensures) (c .before .if1 .taken) in
-    scaled-fits _ _ 4 (x .fits .numbers) (c .before .before .before .before .before .before .before .before .before .before .before .before .good .1 .1 .1 .1 .0 .1)
+    scaled-fits _ _ 4 (x .fits .numbers) (start .good .1 .1 .1 .1 .0 .1)
 
 slice-write-numbers : tie.Need-slice-write-numbers Inv-loop μ-loop
 slice-write-numbers c =
@@ -109,7 +111,8 @@ same-length-4 c = same (c .before .before .before .loop .inv) .numbers
 
 returns : tie.Need-returns Inv-loop μ-loop
 returns c =
-    finished _ _ _ _ _ _ (c .before .before .before .loop .inv) (c .before .before .turn-at .result) (c .before .before .turn-at .ensures) (c .before .if1 .left)
+    let at-loop = c .before .before .before in
+    finished _ _ _ _ _ _ (at-loop .loop .inv) (c .before .before .turn-at .result) (c .before .before .turn-at .ensures) (c .before .if1 .left)
 
 pub list-numbers-spec : {M : Type 1} → statement M
 list-numbers-spec =

@@ -27,15 +27,18 @@ returns c =
     let d = c .before .before .before .before in
     let a = d .before .before .before .before .args in
     let g = d .found .given .0 in
-    let f = found-there (a .s .now) (a .at) (g .0) (g .1 .0) (primaryWords (g .1 .1 .0)) (g .1 .1 .1 .0 .at) (sym (ap stepWords (d .found .given .1)) ∙ d .before .before .step .ensures) in
-    rw (c .no-turn .ensures) (turn-full (a .s .now) (a .at) (a .count) (a .size) _ (f .there .is-whole) (c .before .before .if1 .taken) (ap wordsOf (c .before .stopped .ensures)))
+    let f = found-there (a .s .now) (a .at) (g .0) (g .1 .0) (primaryWords (g .1 .1 .0)) (g .1 .1 .1 .0 .at) (sym (ap stepWords (d .found .given .1))
+    ∙ d .before .before .step .ensures) in
+    rw (c .no-turn .ensures) (turn-full (a .s .now) (a .at) (a .count) (a .size) _ (f .there .is-whole) (c .before .before .if1 .taken)
+    (ap wordsOf (c .before .stopped .ensures)))
 
 entry-at-requires : tie.Need-entry-at-requires
 entry-at-requires c κs =
     let d = c .before .before in
     let a = d .before .before .before .before .args in
     let g = d .found .given .0 in
-    found-there (a .s .now) (a .at) (g .0) (g .1 .0) (primaryWords (g .1 .1 .0)) (g .1 .1 .1 .0 .at) (sym (ap stepWords (d .found .given .1)) ∙ d .before .before .step .ensures) .there
+    found-there (a .s .now) (a .at) (g .0) (g .1 .0) (primaryWords (g .1 .1 .0)) (g .1 .1 .1 .0 .at) (sym (ap stepWords (d .found .given .1))
+    ∙ d .before .before .step .ensures) .there
 
 stopped-requires-2 : tie.Need-stopped-requires-2
 stopped-requires-2 c κs = search needs
@@ -69,7 +72,8 @@ returns-2 c =
     let d = c .before .before .before .before in
     let a = d .before .before .before .before .args in
     let g = d .found .given .0 in
-    let f = found-there (a .s .now) (a .at) (g .0) (g .1 .0) (primaryWords (g .1 .1 .0)) (g .1 .1 .1 .0 .at) (sym (ap stepWords (d .found .given .1)) ∙ d .before .before .step .ensures) in
+    let f = found-there (a .s .now) (a .at) (g .0) (g .1 .0) (primaryWords (g .1 .1 .0)) (g .1 .1 .1 .0 .at) (sym (ap stepWords (d .found .given .1))
+    ∙ d .before .before .step .ensures) in
     turn-lists (a .s .now) (a .at) (a .count) (a .size) _ _ _ (f .there .is-whole) (c .before .before .if1 .left) (c .before .entry-at .ensures) (f .moved)
 
 returns-3 : tie.Need-returns-3

@@ -29,7 +29,8 @@ returns : tie.Need-returns
 returns c =
     let k = c .before .before .before .before in
     let g = c .enum-told .given .0 in
-    let f = found-there (k .args .s .now) (k .args .at) (g .0) (g .1 .0) (primaryWords (g .1 .1 .0)) (g .1 .1 .1 .0 .at) (sym (ap stepWords (c .enum-told .given .1)) ∙ c .before .before .step .ensures) in
+    let f = found-there (k .args .s .now) (k .args .at) (g .0) (g .1 .0) (primaryWords (g .1 .1 .0)) (g .1 .1 .1 .0 .at)
+    (sym (ap stepWords (c .enum-told .given .1)) ∙ c .before .before .step .ensures) in
     absurd (false≢true (sym (k .pre) ∙ f .there .is-whole))
 
 returns-2 : tie.Need-returns-2
@@ -39,8 +40,9 @@ returns-2 c =
 
 returns-3 : tie.Need-returns-3
 returns-3 c =
+    let at-step = c .before .before .before .before in
     let k = c .before .before .before .before .before .before in
-    let n = refused-there (k .args .s .now) (k .args .at) _ _ _ (sym (ap stepWords (c .before .before .found .given .1)) ∙ c .before .before .before .before .step .ensures) in
+    let n = refused-there (k .args .s .now) (k .args .at) _ _ _ (sym (ap stepWords (c .before .before .found .given .1)) ∙ at-step .step .ensures) in
     c .in-stream .ensures ∙ sym (n .number)
 
 pub stop-at-spec : {M : Type 1} → statement M
