@@ -103,7 +103,8 @@ fn write_desks(old: &[u8], new: &mut [u8])
 fn write_desk(new: &mut [u8], d: usize, row: u8, opened: Row, worked: Row)
     requires { ⌜ (length (now new) ≡ sheetSize) × (d < deskCount) ⌝ }
     requires { ⌜ (length (opened .ticks) ≡ ticksSize) × (length (worked .ticks) ≡ ticksSize) ⌝ }
-    ensures { λ _. ⌜ now (new .exit) ≡ put (now (new .entry)) (deskAt d) (openDesk row (rowBytes (opened .key) (opened .first) (opened .ticks)) (rowBytes (worked .key) (worked .first) (worked .ticks))) ⌝ }
+    ensures { λ _. ⌜ now (new .exit) ≡ put (now (new .entry)) (deskAt d) (openDesk row (rowBytes (opened .key) (opened .first) (opened .ticks))
+        (rowBytes (worked .key) (worked .first) (worked .ticks))) ⌝ }
 {
     let a = DESKS_AT + DESK * d;
     new[a] = OPEN;
