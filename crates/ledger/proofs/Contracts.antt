@@ -41,19 +41,22 @@ Gives ps r learnt P =
 pub fresh-promises : Gives fresh-kinds.ps fresh-kinds.r fresh.Learnt (λ κs a r e. r ≡ A.Done → MadeFresh (a .0 .now) (e .0 .now))
 fresh-promises κs a r e fits h done = rw done at h
 
-pub enrol-promises : Gives enrol-kinds.ps enrol-kinds.r enrol.Learnt (λ κs a r e. Promised (Enrol (a .1 .0) (a .1 .1 .0)) (a .0 .now) (rowAnswerOf r) (e .0 .now))
+pub enrol-promises : Gives enrol-kinds.ps enrol-kinds.r enrol.Learnt
+    (λ κs a r e. Promised (Enrol (a .1 .0) (a .1 .1 .0)) (a .0 .now) (rowAnswerOf r) (e .0 .now))
 enrol-promises κs a r e fits h = enrolled r h
 
 pub find-promises : Gives find-kinds.ps find-kinds.r find.Learnt (λ κs a r e. Promised (Ask (Find (a .1 .0))) (a .0 .now) (rowAnswerOf r) (a .0 .now))
 find-promises κs a r e fits h = found r h
 
-pub open-row-promises : Gives open-row-kinds.ps open-row-kinds.r open-row.Learnt (λ κs a r e. Promised (Open (a .1 .0) (a .1 .1 .0)) (a .0 .now) (answerOf r) (e .0 .now))
+pub open-row-promises : Gives open-row-kinds.ps open-row-kinds.r open-row.Learnt
+    (λ κs a r e. Promised (Open (a .1 .0) (a .1 .1 .0)) (a .0 .now) (answerOf r) (e .0 .now))
 open-row-promises κs a r e fits h = opened r h
 
 pub tick-promises : Gives tick-kinds.ps tick-kinds.r tick.Learnt (λ κs a r e. Promised (Tick (a .1 .0) (a .1 .1 .0)) (a .0 .now) (answerOf r) (e .0 .now))
 tick-promises κs a r e fits h = ticked r h
 
-pub untick-promises : Gives untick-kinds.ps untick-kinds.r untick.Learnt (λ κs a r e. Promised (Untick (a .1 .0) (a .1 .1 .0)) (a .0 .now) (answerOf r) (e .0 .now))
+pub untick-promises : Gives untick-kinds.ps untick-kinds.r untick.Learnt
+    (λ κs a r e. Promised (Untick (a .1 .0) (a .1 .1 .0)) (a .0 .now) (answerOf r) (e .0 .now))
 untick-promises κs a r e fits h = unticked r h
 
 pub drop-promises : Gives drop-kinds.ps drop-kinds.r drop.Learnt (λ κs a r e. Promised (Drop (a .1 .0)) (a .0 .now) (answerOf r) (e .0 .now))

@@ -36,7 +36,7 @@ chain-meets (next p ps) = next (meets p) (chain-meets ps)
 
 -- ---- the start
 
-made-fresh : (s start : List ℕ) → MadeFresh s start → start ≡ freshSheet
+pub made-fresh : (s start : List ℕ) → MadeFresh s start → start ≡ freshSheet
 unfolding freshOn
 made-fresh s start e = by (eqb (length s) sheetSize) refl
   where

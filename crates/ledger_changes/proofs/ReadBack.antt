@@ -10,7 +10,8 @@ use lib.Seq.{ext-getD, getD-set-same, getD-set-other}
 use Rattle.octets.specs.Octets.{numberAt, bytesOf, part, put}
 use Rattle.octets.proofs.Laws.{length-bytesOf, length-put, length-part, part-at}
 use Rattle.octets.proofs.Parts.{number-first, number-second, number-bytes, part-second, part-whole}
-use Rattle.ledger_sheet.specs.Sheet.{usedWordSize, usedWord, keyStart, keySize, firstAt, firstSize, ticksAt, ticksSize, rowSize, rowCount, sheetSize, headerNumberSize, usedAt, rowAt, used, keyAt, firstNumberAt}
+use Rattle.ledger_sheet.specs.Sheet.{usedWordSize, usedWord, keyStart, keySize, firstAt, firstSize, ticksAt, ticksSize, rowSize}
+use Rattle.ledger_sheet.specs.Sheet.{rowCount, sheetSize, headerNumberSize, usedAt, rowAt, used, keyAt, firstNumberAt}
 use Rattle.ledger_changes.specs.Rows.{rowBytes, blankTicks, rowValueAt, blankRow}
 use Rattle.ledger_changes.specs.Bytes.{enrolAt}
 use Rattle.ledger_changes.proofs.Puts.{put-outside, put-inside}
@@ -21,7 +22,8 @@ unfolding numberAt
 number-same s t a b zero h = refl
 number-same s t a b (suc n) h = rw (number-same s t a b n (λ i l. h i (omega arith)), h n (omega arith))
 
-pub part-agree : (s t : List ℕ) (a b n : ℕ) → a + n ≤ length s → b + n ≤ length t → ((i : ℕ) → i < n → getD s (a + i) 0 ≡ getD t (b + i) 0) → part s a n ≡ part t b n
+pub part-agree : (s t : List ℕ) (a b n : ℕ) → a + n ≤ length s → b + n ≤ length t
+    → ((i : ℕ) → i < n → getD s (a + i) 0 ≡ getD t (b + i) 0) → part s a n ≡ part t b n
 part-agree s t a b n la lb h =
     ext-getD 0 (part s a n) (part t b n) (length-part s a n la ∙ sym (length-part t b n lb)) (λ i q.
     let l : i < n = omega (arith, length-part s a n la) in
@@ -88,8 +90,11 @@ value-is s a key first ticks l k f t agree =
     let later : (m n : ℕ) → m + n ≤ rowSize → (j : ℕ) → j < n → getD s (a + m + j) 0 ≡ getD row (m + j) 0 =
     (λ m n h j q. let e : a + m + j ≡ a + (m + j) = omega arith in rw e (agree (m + j) (omega arith))) in
     let ek : keyAt s a ≡ key = number-same s row (a + keyStart) keyStart keySize (later keyStart keySize (omega arith)) ∙ row-key key first ticks k in
-    let ef : firstNumberAt s a ≡ first = number-same s row (a + firstAt) firstAt firstSize (later firstAt firstSize (omega arith)) ∙ row-first key first ticks f in
-    let et : part s (a + ticksAt) ticksSize ≡ ticks = part-agree s row (a + ticksAt) ticksAt ticksSize (omega arith) (omega arith) (later ticksAt ticksSize (omega arith)) ∙ row-ticks key first ticks t in
+    let ef : firstNumberAt s a ≡ first =
+    number-same s row (a + firstAt) firstAt firstSize (later firstAt firstSize (omega arith)) ∙ row-first key first ticks f in
+    let et : part s (a + ticksAt) ticksSize ≡ ticks =
+    part-agree s row (a + ticksAt) ticksAt ticksSize (omega arith) (omega arith) (later ticksAt ticksSize (omega arith))
+    ∙ row-ticks key first ticks t in
     rw (ek, ef, et)
 
 -- ---- enrol, then read: "a row starts from a blank map of 128 zero bytes"

@@ -6,7 +6,9 @@ use mathlib.Core.Path.{_≡_, refl, ap, _∙_}
 use lib.ListN.{length, set, replicate, length-append, length-replicate, length-set}
 use Rattle.octets.specs.Octets.{bytesOf, part, put}
 use Rattle.octets.proofs.Laws.{length-bytesOf, length-part}
-use Rattle.ledger_sheet.specs.Sheet.{usedWordSize, usedWord, keyStart, keySize, firstAt, firstSize, ticksAt, ticksSize, rowSize, rowCount, rowsStart, deskRowAt, deskZerosAt, deskZerosSize, openedAt, workedAt, deskCount, desksStart, sheetSize, headerNumberSize, lengthAt, usedAt, rowCountAt, rowsStartAt, deskCountAt, desksStartAt, rowAt, deskAt, used}
+use Rattle.ledger_sheet.specs.Sheet.{usedWordSize, usedWord, keyStart, keySize, firstAt, firstSize, ticksAt, ticksSize, rowSize, rowCount}
+use Rattle.ledger_sheet.specs.Sheet.{rowsStart, deskRowAt, deskZerosAt, deskZerosSize, openedAt, workedAt, deskCount, desksStart, sheetSize, headerNumberSize}
+use Rattle.ledger_sheet.specs.Sheet.{lengthAt, usedAt, rowCountAt, rowsStartAt, deskCountAt, desksStartAt, rowAt, deskAt, used}
 use Rattle.ledger_sheet.specs.declared.Row.{Row}
 use Rattle.ledger_changes.specs.Rows.{rowBytes, blankRow}
 use Rattle.ledger_changes.specs.Bytes.{headerBytes, freshSheet, counting, enrolAt, strikeAt, openDesk, openAt}
@@ -17,7 +19,8 @@ use Rattle.ledger_changes.proofs.Puts.{put-whole, part-before}
 
 -- one more number behind those before it
 number-then : (s : List ℕ) (v : List ℕ) (x at : ℕ) {t u : List ℕ} → at + headerNumberSize ≤ length s → length v ≡ at → t ≡ put s 0 v
-    → u ≡ put t at (bytesOf headerNumberSize x) → (u ≡ put s 0 (v ++ bytesOf headerNumberSize x)) × (length (v ++ bytesOf headerNumberSize x) ≡ at + headerNumberSize)
+    → u ≡ put t at (bytesOf headerNumberSize x)
+    → (u ≡ put s 0 (v ++ bytesOf headerNumberSize x)) × (length (v ++ bytesOf headerNumberSize x) ≡ at + headerNumberSize)
 number-then s v x at room l p q =
     let n = length-bytesOf headerNumberSize x in
     (put-next s 0 v at (bytesOf headerNumberSize x) p q (omega arith) (omega arith), length-append v (bytesOf headerNumberSize x) ∙ rw (l, n))
@@ -82,11 +85,13 @@ module _ (s : List ℕ) (d row : ℕ) (long : length s ≡ sheetSize) (desk : d 
       let copy = part s (rowAt row) rowSize in
       let lc = length-part s (rowAt row) rowSize (omega arith) in
       let two : set (set s a 1) (a + deskRowAt) row ≡ put s a (1 ∷ row ∷ []) =
-      put-next s a (1 ∷ []) (a + deskRowAt) (row ∷ []) (set-put s a 1 (omega arith)) (set-put (set s a 1) (a + deskRowAt) row (rw length-set (omega arith))) refl (omega arith) in
+      put-next s a (1 ∷ []) (a + deskRowAt) (row ∷ []) (set-put s a 1 (omega arith))
+      (set-put (set s a 1) (a + deskRowAt) row (rw length-set (omega arith))) refl (omega arith) in
       let four : t ≡ put s a (1 ∷ row ∷ 0 ∷ 0 ∷ []) =
       put-next s a (1 ∷ row ∷ []) (a + deskZerosAt) (0 ∷ 0 ∷ []) two p refl (omega arith) in
       let first : u ≡ put s a (1 ∷ row ∷ 0 ∷ 0 ∷ copy) =
-      put-next s a (1 ∷ row ∷ 0 ∷ 0 ∷ []) (a + openedAt) copy four (q ∙ ap (λ (w : List ℕ). put t (a + openedAt) w) (ap (λ (w : List ℕ). part w (rowAt row) rowSize) four ∙ same-row _ (omega arith))) refl (omega arith) in
+      put-next s a (1 ∷ row ∷ 0 ∷ 0 ∷ []) (a + openedAt) copy four
+      (q ∙ ap (λ (w : List ℕ). put t (a + openedAt) w) (ap (λ (w : List ℕ). part w (rowAt row) rowSize) four ∙ same-row _ (omega arith))) refl (omega arith) in
       put-next s a (1 ∷ row ∷ 0 ∷ 0 ∷ copy) (a + workedAt) copy first
       (r ∙ ap (λ (w : List ℕ). put u (a + workedAt) w) (ap (λ (w : List ℕ). part w (rowAt row) rowSize) first ∙ same-row _ (omega arith)))
       (rw lc) (omega arith)

@@ -7,7 +7,8 @@ use Rattle.octets.specs.Octets.{bytesOf, part, put, sameAt}
 use Rattle.refusals.specs.Judge.{Rule, _when_}
 use Rattle.ledger_model.specs.Positions.{position, inRow}
 use Rattle.ledger_model.specs.Step.{alreadySo}
-use Rattle.ledger_sheet.specs.Sheet.{sheetSize, rowSize, rowCount, rowsStart, openedAt, workedAt, deskSize, deskCount, desksStart, headerNumberSize, usedAt, rowAt, deskAt, used, keyAt, firstNumberAt, deskRow}
+use Rattle.ledger_sheet.specs.Sheet.{sheetSize, rowSize, rowCount, rowsStart, openedAt, workedAt, deskSize, deskCount, desksStart}
+use Rattle.ledger_sheet.specs.Sheet.{headerNumberSize, usedAt, rowAt, deskAt, used, keyAt, firstNumberAt, deskRow}
 use Rattle.ledger_sheet.specs.Outcome.{Outcome, judged, done}
 use Rattle.ledger_rows.specs.Ticks.{tickedAt}
 use Rattle.ledger_changes.specs.Rows.{setTick, clearTick, rowBytes, blankTicks}

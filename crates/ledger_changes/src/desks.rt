@@ -1,26 +1,7 @@
 // Desks, and the sheet as a whole: made fresh, opened, saved, cleared.
 use ledger_rows::desk_row;
+use ledger_sheet as sheet;
 use ledger_sheet::Answer;
-use ledger_sheet::DESK;
-use ledger_sheet::DESK_COUNT_AT;
-use ledger_sheet::DESK_ROW_AT;
-use ledger_sheet::DESK_ZEROS;
-use ledger_sheet::DESK_ZEROS_AT;
-use ledger_sheet::DESKS;
-use ledger_sheet::DESKS_AT;
-use ledger_sheet::DESKS_START_AT;
-use ledger_sheet::LENGTH_AT;
-use ledger_sheet::NUMBER;
-use ledger_sheet::OPEN;
-use ledger_sheet::OPENED_AT;
-use ledger_sheet::ROW;
-use ledger_sheet::ROW_COUNT_AT;
-use ledger_sheet::ROWS;
-use ledger_sheet::ROWS_AT;
-use ledger_sheet::ROWS_START_AT;
-use ledger_sheet::SHEET;
-use ledger_sheet::USED_AT;
-use ledger_sheet::WORKED_AT;
 use octets::clear;
 use octets::copy;
 use octets::is_same;
@@ -40,7 +21,7 @@ pub fn make_fresh(s: &mut [u8])
     ensures { λ _. ⌜ now (s .exit) ≡ freshSheet ⌝ }
 {
     write_header(s, 0);
-    clear(s, ROWS_AT, SHEET - ROWS_AT);
+    clear(s, sheet::ROWS_AT, sheet::SHEET - sheet::ROWS_AT);
 }
 
 // Writes the header of a sheet with so many rows used.
@@ -48,12 +29,22 @@ fn write_header(s: &mut [u8], used: u64)
     requires { ⌜ rowsStart ≤ length (now s) ⌝ }
     ensures { λ _. ⌜ now (s .exit) ≡ put (now (s .entry)) 0 (headerBytes used) ⌝ }
 {
-    write_be(s, LENGTH_AT, NUMBER, SHEET as u64);
-    write_be(s, USED_AT, NUMBER, used);
-    write_be(s, ROW_COUNT_AT, NUMBER, ROWS as u64);
-    write_be(s, ROWS_START_AT, NUMBER, ROWS_AT as u64);
-    write_be(s, DESK_COUNT_AT, NUMBER, DESKS as u64);
-    write_be(s, DESKS_START_AT, NUMBER, DESKS_AT as u64);
+    write_be(s, sheet::LENGTH_AT, sheet::NUMBER, sheet::SHEET as u64);
+    write_be(s, sheet::USED_AT, sheet::NUMBER, used);
+    write_be(s, sheet::ROW_COUNT_AT, sheet::NUMBER, sheet::ROWS as u64);
+    write_be(
+        s,
+        sheet::ROWS_START_AT,
+        sheet::NUMBER,
+        sheet::ROWS_AT as u64,
+    );
+    write_be(s, sheet::DESK_COUNT_AT, sheet::NUMBER, sheet::DESKS as u64);
+    write_be(
+        s,
+        sheet::DESKS_START_AT,
+        sheet::NUMBER,
+        sheet::DESKS_AT as u64,
+    );
 }
 
 // Opens a row at desk d: both copies become the row.
@@ -61,13 +52,13 @@ pub fn open_desk(s: &mut [u8], d: usize, row: usize)
     requires { ⌜ (length (now s) ≡ sheetSize) × (d < deskCount) × (row < rowCount) ⌝ }
     ensures { λ _. ⌜ now (s .exit) ≡ openAt d row (now (s .entry)) ⌝ }
 {
-    let a = DESKS_AT + DESK * d;
-    let from = ROWS_AT + ROW * row;
-    s[a] = OPEN;
-    s[a + DESK_ROW_AT] = row as u8;
-    clear(s, a + DESK_ZEROS_AT, DESK_ZEROS);
-    copy(s, from, a + OPENED_AT, ROW);
-    copy(s, from, a + WORKED_AT, ROW);
+    let a = sheet::DESKS_AT + sheet::DESK * d;
+    let from = sheet::ROWS_AT + sheet::ROW * row;
+    s[a] = sheet::OPEN;
+    s[a + sheet::DESK_ROW_AT] = row as u8;
+    clear(s, a + sheet::DESK_ZEROS_AT, sheet::DESK_ZEROS);
+    copy(s, from, a + sheet::OPENED_AT, sheet::ROW);
+    copy(s, from, a + sheet::WORKED_AT, sheet::ROW);
 }
 
 // Clears desk d.
@@ -75,7 +66,7 @@ pub fn clear_desk(s: &mut [u8], d: usize)
     requires { ⌜ (length (now s) ≡ sheetSize) × (d < deskCount) ⌝ }
     ensures { λ _. ⌜ now (s .exit) ≡ clearDesk d (now (s .entry)) ⌝ }
 {
-    clear(s, DESKS_AT + DESK * d, DESK);
+    clear(s, sheet::DESKS_AT + sheet::DESK * d, sheet::DESK);
 }
 
 // Saves desk d: where its row is still as it was opened, the worked copy becomes the row; the desk is cleared.
@@ -97,9 +88,15 @@ fn is_current(s: &[u8], d: usize) -> bool
     requires { ⌜ (length (now s) ≡ sheetSize) × (d < deskCount) × (deskRow (now s) d < rowCount) ⌝ }
     ensures { λ r. ⌜ r ≡ isCurrent d (now (s .entry)) ⌝ }
 {
-    let a = DESKS_AT + DESK * d;
-    let row = s[a + DESK_ROW_AT] as usize;
-    is_same(s, ROWS_AT + ROW * row, s, a + OPENED_AT, ROW)
+    let a = sheet::DESKS_AT + sheet::DESK * d;
+    let row = s[a + sheet::DESK_ROW_AT] as usize;
+    is_same(
+        s,
+        sheet::ROWS_AT + sheet::ROW * row,
+        s,
+        a + sheet::OPENED_AT,
+        sheet::ROW,
+    )
 }
 
 // The row that desk d has open becomes the worked copy.
@@ -107,7 +104,12 @@ fn store(s: &mut [u8], d: usize)
     requires { ⌜ (length (now s) ≡ sheetSize) × (d < deskCount) × (deskRow (now s) d < rowCount) ⌝ }
     ensures { λ _. ⌜ now (s .exit) ≡ stored d (now (s .entry)) ⌝ }
 {
-    let a = DESKS_AT + DESK * d;
-    let row = s[a + DESK_ROW_AT] as usize;
-    copy(s, a + WORKED_AT, ROWS_AT + ROW * row, ROW);
+    let a = sheet::DESKS_AT + sheet::DESK * d;
+    let row = s[a + sheet::DESK_ROW_AT] as usize;
+    copy(
+        s,
+        a + sheet::WORKED_AT,
+        sheet::ROWS_AT + sheet::ROW * row,
+        sheet::ROW,
+    );
 }

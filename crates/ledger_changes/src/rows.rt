@@ -1,18 +1,7 @@
 // Rows: as values, by their key, enrolled and struck.
 use ledger_rows::free_row;
-use ledger_sheet::FIRST;
-use ledger_sheet::FIRST_AT;
-use ledger_sheet::KEY;
-use ledger_sheet::KEY_AT;
-use ledger_sheet::NUMBER;
-use ledger_sheet::ROW;
-use ledger_sheet::ROWS_AT;
+use ledger_sheet as sheet;
 use ledger_sheet::Row;
-use ledger_sheet::TICKS;
-use ledger_sheet::TICKS_AT;
-use ledger_sheet::USED;
-use ledger_sheet::USED_AT;
-use ledger_sheet::USED_WORD;
 use ledger_sheet::right::first_at;
 use ledger_sheet::right::key_at;
 use ledger_sheet::right::rows_used;
@@ -34,7 +23,7 @@ pub fn blank_row(key: u64, first: u32) -> Row
     Row {
         key,
         first,
-        ticks: [0; TICKS],
+        ticks: [0; sheet::TICKS],
     }
 }
 
@@ -45,16 +34,16 @@ pub fn read_row(s: &[u8], a: usize) -> Row
 {
     let key = key_at(s, a);
     let first = first_at(s, a);
-    let ticks = read_ticks(s, a + TICKS_AT);
+    let ticks = read_ticks(s, a + sheet::TICKS_AT);
     Row { key, first, ticks }
 }
 
-fn read_ticks(s: &[u8], a: usize) -> [u8; TICKS]
+fn read_ticks(s: &[u8], a: usize) -> [u8; sheet::TICKS]
     requires { ⌜ a + ticksSize ≤ length (now s) ⌝ }
     ensures { λ r. ⌜ r ≡ part (now (s .entry)) a ticksSize ⌝ }
 {
-    let mut ticks = [0u8; TICKS];
-    for i in 0..TICKS {
+    let mut ticks = [0u8; sheet::TICKS];
+    for i in 0..sheet::TICKS {
         ticks[i] = s[a + i];
     }
     ticks
@@ -66,17 +55,17 @@ pub fn write_row(s: &mut [u8], a: usize, row: Row)
     ensures { λ _. ⌜ now (s .exit) ≡ put (now (s .entry)) a (rowBytes (row .key) (row .first) (row .ticks)) ⌝ }
 {
     let ticks = row.ticks;
-    write_be(s, a, USED_WORD, USED);
-    write_be(s, a + KEY_AT, KEY, row.key);
-    write_be(s, a + FIRST_AT, FIRST, row.first as u64);
-    write_ticks(s, a + TICKS_AT, &ticks);
+    write_be(s, a, sheet::USED_WORD, sheet::USED);
+    write_be(s, a + sheet::KEY_AT, sheet::KEY, row.key);
+    write_be(s, a + sheet::FIRST_AT, sheet::FIRST, row.first as u64);
+    write_ticks(s, a + sheet::TICKS_AT, &ticks);
 }
 
 fn write_ticks(s: &mut [u8], a: usize, ticks: &[u8])
     requires { ⌜ (a + ticksSize ≤ length (now s)) × (length (now ticks) ≡ ticksSize) ⌝ }
     ensures { λ _. ⌜ now (s .exit) ≡ put (now (s .entry)) a (now (ticks .entry)) ⌝ }
 {
-    for i in 0..TICKS {
+    for i in 0..sheet::TICKS {
         s[a + i] = ticks[i];
     }
 }
@@ -88,8 +77,8 @@ pub fn enrol_row(s: &mut [u8], key: u64, first: u32) -> u32
 {
     let row = free_row(s);
     let used = rows_used(s) as u64;
-    write_row(s, ROWS_AT + ROW * row, blank_row(key, first));
-    write_be(s, USED_AT, NUMBER, used + 1);
+    write_row(s, sheet::ROWS_AT + sheet::ROW * row, blank_row(key, first));
+    write_be(s, sheet::USED_AT, sheet::NUMBER, used + 1);
     row as u32
 }
 
@@ -99,6 +88,6 @@ pub fn strike_row(s: &mut [u8], row: usize)
     ensures { λ _. ⌜ now (s .exit) ≡ strikeAt row (now (s .entry)) ⌝ }
 {
     let used = rows_used(s) as u64;
-    clear(s, ROWS_AT + ROW * row, ROW);
-    write_be(s, USED_AT, NUMBER, used - 1);
+    clear(s, sheet::ROWS_AT + sheet::ROW * row, sheet::ROW);
+    write_be(s, sheet::USED_AT, sheet::NUMBER, used - 1);
 }

@@ -1,14 +1,8 @@
 // Ticks in a row or a desk's copy of one.
 use ledger_rows::is_ticked;
 use ledger_rows::tick_bit;
+use ledger_sheet as sheet;
 use ledger_sheet::Answer;
-use ledger_sheet::BYTE_BITS;
-use ledger_sheet::DESK;
-use ledger_sheet::DESKS_AT;
-use ledger_sheet::ROW;
-use ledger_sheet::TICKS;
-use ledger_sheet::TICKS_AT;
-use ledger_sheet::WORKED_AT;
 use ledger_sheet::right::first_at;
 use ledger_sheet::right::key_at;
 use refusals::Refusal;
@@ -20,15 +14,15 @@ ghost use Rattle.ledger_changes.specs.Bytes.{markRow, markPosition, mark
 ghost use Rattle.ledger_sheet.specs.Words.{answerWords};
 
 // How many positions a row has.
-pub const POSITIONS: usize = BYTE_BITS * TICKS;
+pub const POSITIONS: usize = sheet::BYTE_BITS * sheet::TICKS;
 
 // Ticks or unticks number n in the worked copy of desk d, which is lent on as that middle part of the sheet.
 pub fn mark_desk(s: &mut [u8], d: usize, n: u32, on: bool) -> Answer
     requires { ⌜ (length (now s) ≡ sheetSize) × (d < deskCount) ⌝ }
     ensures { λ r. ⌜ (answerWords r, now (s .exit)) ≡ markDesk on d n (now (s .entry)) ⌝ }
 {
-    let a = DESKS_AT + DESK * d + WORKED_AT;
-    let e = a + ROW;
+    let a = sheet::DESKS_AT + sheet::DESK * d + sheet::WORKED_AT;
+    let e = a + sheet::ROW;
     mark_row(&mut s[a..e], n, on)
 }
 
@@ -51,8 +45,8 @@ fn mark_position(row: &mut [u8], i: usize, on: bool) -> Answer
         return Answer::Refused(Refusal::OutsideRow);
     }
     let ticked = is_ticked(row, 0, i);
-    let at = TICKS_AT + i / BYTE_BITS;
-    let bit = tick_bit(i % BYTE_BITS);
+    let at = sheet::TICKS_AT + i / sheet::BYTE_BITS;
+    let bit = tick_bit(i % sheet::BYTE_BITS);
     if on {
         if ticked {
             return Answer::Refused(Refusal::AlreadyTicked);

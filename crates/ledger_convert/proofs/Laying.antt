@@ -15,7 +15,8 @@ use Rattle.octets.specs.Octets.{bytesOf, part, put}
 use Rattle.octets.proofs.Laws.{Bytes, length-bytesOf, length-part, part-at, length-put}
 use Rattle.octets.proofs.Parts.{part-join, part-whole, part-first, part-second}
 use Rattle.octets.proofs.Puts.{put-next, set-put}
-use Rattle.ledger_sheet.specs.Sheet.{sheetSize, usedWordSize, rowSize, rowCount, rowsStart, ticksSize, deskSize, deskCount, deskRowAt, deskZerosAt, deskZerosSize, openedAt, workedAt, desksStart, headerNumberSize, usedAt, rowAt, deskAt, count}
+use Rattle.ledger_sheet.specs.Sheet.{sheetSize, usedWordSize, rowSize, rowCount, rowsStart, ticksSize, deskSize, deskCount, deskRowAt, deskZerosAt}
+use Rattle.ledger_sheet.specs.Sheet.{deskZerosSize, openedAt, workedAt, desksStart, headerNumberSize, usedAt, rowAt, deskAt, count}
 use Rattle.ledger_sheet.specs.declared.Row.{Row}
 use Rattle.octets.specs.Lists.{table}
 use Rattle.ledger_changes.specs.Rows.{rowBytes, rowValueAt}
@@ -87,7 +88,9 @@ module _ (old new : List ℕ) (k d : ℕ) (h : Laid old new k d) where
         rows = λ j m.
             by-order _ j k
             (λ q. apart (rowAt j) rowSize (omega arith) (inl (omega arith)) ∙ h .rows j m ∙ sym (next-of j k _ _ (λ z. omega arith)))
-            (λ q. rw (q, lt-ltb k (k + 1) (omega arith)) (ap (λ (x : List ℕ). part x (rowAt k) rowSize) p ∙ part-put new (rowAt k) v rowSize lv (omega arith) ∙ e))
+            (λ q.
+            rw (q, lt-ltb k (k + 1) (omega arith))
+            (ap (λ (x : List ℕ). part x (rowAt k) rowSize) p ∙ part-put new (rowAt k) v rowSize lv (omega arith) ∙ e))
             (λ q. apart (rowAt j) rowSize (omega arith) (inr (omega arith)) ∙ h .rows j m ∙ sym (next-of j k _ _ (λ z. omega arith)));
         desks = λ e m. apart (deskAt e) deskSize (omega arith) (inr (omega arith)) ∙ h .desks e m;
       }
@@ -107,7 +110,9 @@ module _ (old new : List ℕ) (k d : ℕ) (h : Laid old new k d) where
         desks = λ j m.
             by-order _ j d
             (λ q. apart (deskAt j) deskSize (omega arith) (inl (omega arith)) ∙ h .desks j m ∙ sym (next-of j d _ _ (λ z. omega arith)))
-            (λ q. rw (q, lt-ltb d (d + 1) (omega arith)) (ap (λ (x : List ℕ). part x (deskAt d) deskSize) p ∙ part-put new (deskAt d) v deskSize lv (omega arith) ∙ e))
+            (λ q.
+            rw (q, lt-ltb d (d + 1) (omega arith))
+            (ap (λ (x : List ℕ). part x (deskAt d) deskSize) p ∙ part-put new (deskAt d) v deskSize lv (omega arith) ∙ e))
             (λ q. apart (deskAt j) deskSize (omega arith) (inr (omega arith)) ∙ h .desks j m ∙ sym (next-of j d _ _ (λ z. omega arith)));
       }
 
@@ -129,7 +134,13 @@ module _ (old new : List ℕ) (k d : ℕ) (h : Laid old new k d) where
 -- the free rows are there already
 pub rows-laid : (old new : List ℕ) (d : ℕ) → Laid old new (Old.used old) d → Laid old new rowCount d
 unfolding oldPlaceIn placeBytes
-rows-laid old new d h = record { long = h .long; header = h .header; rows = λ j m. h .rows j m ∙ rw (lt-ltb j rowCount m) (by j (ltb j (Old.used old)) refl); desks = h .desks }
+rows-laid old new d h =
+    record {
+      long = h .long;
+      header = h .header;
+      rows = λ j m. h .rows j m ∙ rw (lt-ltb j rowCount m) (by j (ltb j (Old.used old)) refl);
+      desks = h .desks;
+    }
   where
     by : (j : ℕ) (t : Bool) → ltb j (Old.used old) ≡ t
         → cond (ltb j (Old.used old)) (placeBytes (oldPlaceIn old j)) (replicate rowSize 0) ≡ placeBytes (oldPlaceIn old j)
@@ -153,7 +164,9 @@ fresh-laid old {t} {u} p q =
     ∙ part-zeros (sheetSize - rowsStart) (a - rowsStart) n (omega arith) in
     record {
       long = ap length is ∙ length-append (headerBytes m) zeros ∙ omega arith;
-      header = ap (λ (x : List ℕ). part x 0 rowsStart) is ∙ part-first (headerBytes m) zeros 0 rowsStart (omega arith) ∙ part-whole (headerBytes m) rowsStart lh;
+      header =
+          ap (λ (x : List ℕ). part x 0 rowsStart) is ∙ part-first (headerBytes m) zeros 0 rowsStart (omega arith)
+          ∙ part-whole (headerBytes m) rowsStart lh;
       rows = λ j l. rw (le-ltb j 0 (omega arith)) (zero-part (rowAt j) rowSize (omega arith) (omega arith));
       desks = λ e l. rw (le-ltb e 0 (omega arith)) (zero-part (deskAt e) deskSize (omega arith) (omega arith));
     }
@@ -189,18 +202,22 @@ module _ (old : List ℕ) (r : Old.right old ≡ true) where
       let rows = laid-table new rowSize placeBytes rowCount rowsStart (oldPlaceIn old) (λ i l. sym (h .rows i l ∙ rw (lt-ltb i rowCount l))) in
       let desks = laid-table new deskSize (deskBytes (oldBookOf old .places)) deskCount desksStart (oldDeskIn old)
       (λ i l. sym (h .desks i l ∙ rw (lt-ltb i deskCount l))) in
-      sym (rw (count-is, ← h .header, rows, desks, part-join new 0 rowsStart rowsStart (rowSize * rowCount) desksStart refl refl, part-join new 0 desksStart desksStart (deskSize * deskCount) sheetSize refl refl) (part-whole new sheetSize (h .long)))
+      let front = part-join new 0 rowsStart rowsStart (rowSize * rowCount) desksStart refl refl in
+      let whole = part-join new 0 desksStart desksStart (deskSize * deskCount) sheetSize refl refl in
+      sym (rw (count-is, ← h .header, rows, desks, front, whole) (part-whole new sheetSize (h .long)))
 
 -- ---- an open desk
 
-pub desk-written : (s : List ℕ) (d named : ℕ) (opened worked : List ℕ) {t u v : List ℕ} → length s ≡ sheetSize → d < deskCount → length opened ≡ rowSize → length worked ≡ rowSize
+pub desk-written : (s : List ℕ) (d named : ℕ) (opened worked : List ℕ) {t u v : List ℕ} → length s ≡ sheetSize → d < deskCount
+    → length opened ≡ rowSize → length worked ≡ rowSize
     → t ≡ put (set (set s (deskAt d) 1) (deskAt d + deskRowAt) named) (deskAt d + deskZerosAt) (replicate deskZerosSize 0)
     → u ≡ put t (deskAt d + openedAt) opened → v ≡ put u (deskAt d + workedAt) worked → v ≡ put s (deskAt d) (openDesk named opened worked)
 unfolding openDesk
 desk-written s d named opened worked {t} {u} long l lo lw p q r =
     let a = deskAt d in
     let two : set (set s a 1) (a + deskRowAt) named ≡ put s a (1 ∷ named ∷ []) =
-    put-next s a (1 ∷ []) (a + deskRowAt) (named ∷ []) (set-put s a 1 (omega arith)) (set-put (set s a 1) (a + deskRowAt) named (rw length-set (omega arith))) refl (omega arith) in
+    put-next s a (1 ∷ []) (a + deskRowAt) (named ∷ []) (set-put s a 1 (omega arith))
+    (set-put (set s a 1) (a + deskRowAt) named (rw length-set (omega arith))) refl (omega arith) in
     let four : t ≡ put s a (1 ∷ named ∷ 0 ∷ 0 ∷ []) =
     put-next s a (1 ∷ named ∷ []) (a + deskZerosAt) (0 ∷ 0 ∷ []) two p refl (omega arith) in
     let first : u ≡ put s a (1 ∷ named ∷ 0 ∷ 0 ∷ opened) =
@@ -233,4 +250,8 @@ module _ (old : List ℕ) (r : Old.right old ≡ true) (bytes : Bytes old) where
   unfolding oldDeskIn deskBytes
   desk-copied d b c l o e f v w x y =
       let h = opened old r d l o in
-      rw (o, copied d (Old.deskAt d + Old.openedAt) b l o e (omega arith) (h .opened-carries) v x, copied d (Old.deskAt d + Old.workedAt) c l o f (omega arith) (h .worked-carries) w y)
+      rw (
+        o,
+        copied d (Old.deskAt d + Old.openedAt) b l o e (omega arith) (h .opened-carries) v x,
+        copied d (Old.deskAt d + Old.workedAt) c l o f (omega arith) (h .worked-carries) w y,
+      )

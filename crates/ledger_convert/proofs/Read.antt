@@ -27,7 +27,9 @@ use Rattle.ledger_layout.specs.Layout.{tickBytes, placeBytes}
 use Rattle.ledger_layout.proofs.Parts.{number-within}
 use Rattle.octets.proofs.Lists.{length-table, getD-table, table-is}
 use Rattle.ledger_layout.proofs.Ticks.{ticks-bytes}
-use Rattle.ledger_convert.specs.Old.{sheetSize, keySize, firstAt, firstSize, rowCount, deskSize, deskCount, openedAt, workedAt, rowAt, deskAt, used, keyAt, firstNumberAt, deskByte, deskRow, isClosed, carries, validKeys, differentKeys, firstNumbers, closedZero, deskMarked, openNames, deskRight, right}
+use Rattle.ledger_convert.specs.Old.{sheetSize, keySize, firstAt, firstSize, rowCount, deskSize, deskCount, openedAt, workedAt}
+use Rattle.ledger_convert.specs.Old.{rowAt, deskAt, used, keyAt, firstNumberAt, deskByte, deskRow, isClosed, carries}
+use Rattle.ledger_convert.specs.Old.{validKeys, differentKeys, firstNumbers, closedZero, deskMarked, openNames, deskRight, right}
 use Rattle.ledger_convert.specs.Old as Old
 use Rattle.ledger_convert.specs.Convert.{oldTickedAt, oldTicksOf, oldPlaceIn, oldDeskIn, oldBookOf}
 use Rattle.ledger_convert.proofs.Clauses.{Right, right-parts, sized, open-row}
@@ -124,14 +126,17 @@ module _ (s : List ℕ) (r : right s ≡ true) where
       → row (keyAt s c) (firstNumberAt s c) (oldTicksOf s c) ≡ withTicks (oldTicksOf s c) (place b i)
   copy-is i c l h e =
       let same = same-part s (rowAt i) s c Old.ticksAt (omega (arith, long, few)) (omega (arith, long)) e in
-      let key : keyAt s (rowAt i) ≡ keyAt s c = number-same s (rowAt i) c Old.ticksAt 0 keySize (rowAt i) c same (add-zero (rowAt i)) (add-zero c) (omega arith) in
-      let first : firstNumberAt s (rowAt i) ≡ firstNumberAt s c = number-same s (rowAt i) c Old.ticksAt firstAt firstSize (rowAt i + firstAt) (c + firstAt) same refl refl (omega arith) in
+      let key : keyAt s (rowAt i) ≡ keyAt s c =
+      number-same s (rowAt i) c Old.ticksAt 0 keySize (rowAt i) c same (add-zero (rowAt i)) (add-zero c) (omega arith) in
+      let first : firstNumberAt s (rowAt i) ≡ firstNumberAt s c =
+      number-same s (rowAt i) c Old.ticksAt firstAt firstSize (rowAt i + firstAt) (c + firstAt) same refl refl (omega arith) in
       rw (row-at i l, key, first)
 
   -- ---- the book is well-formed
 
   -- a place is one of the used rows, or free
-  by-place : (P : Place → Type 0) (i : ℕ) → (i < used s → P (row (keyAt s (rowAt i)) (firstNumberAt s (rowAt i)) (oldTicksOf s (rowAt i)))) → P free → P (place b i)
+  by-place : (P : Place → Type 0) (i : ℕ)
+      → (i < used s → P (row (keyAt s (rowAt i)) (firstNumberAt s (rowAt i)) (oldTicksOf s (rowAt i)))) → P free → P (place b i)
   unfolding oldPlaceIn
   by-place P i f g = by (ltb i (used s)) refl
     where

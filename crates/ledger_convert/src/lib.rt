@@ -4,24 +4,9 @@ pub mod old;
 use ledger_changes::desks::make_fresh;
 use ledger_changes::rows::read_row;
 use ledger_changes::rows::write_row;
+use ledger_sheet as sheet;
 use ledger_sheet::Answer;
-use ledger_sheet::CLOSED;
-use ledger_sheet::DESK;
-use ledger_sheet::DESK_ROW_AT;
-use ledger_sheet::DESK_ZEROS;
-use ledger_sheet::DESK_ZEROS_AT;
-use ledger_sheet::DESKS;
-use ledger_sheet::DESKS_AT;
-use ledger_sheet::NUMBER;
-use ledger_sheet::OPEN;
-use ledger_sheet::OPENED_AT;
-use ledger_sheet::ROW;
-use ledger_sheet::ROWS_AT;
 use ledger_sheet::Row;
-use ledger_sheet::SHEET;
-use ledger_sheet::USED_AT;
-use ledger_sheet::USED_WORD;
-use ledger_sheet::WORKED_AT;
 use octets::clear;
 use octets::write_be;
 use old::is_old_sheet;
@@ -43,14 +28,14 @@ ghost use Rattle.ledger_convert.specs.Laid.{Laid};
 
 // A row of the new layout, from its key on, is laid out as an old one: so an old row is read as the new one whose used word
 // would stand before its key.
-const BEFORE_KEY: usize = USED_WORD;
+const BEFORE_KEY: usize = sheet::USED_WORD;
 
 // Makes a new sheet of an old one: places and open desks are kept. What is not a right old sheet, or no slice of a new sheet's length, is
 // refused, and nothing is written.
 pub fn convert(old: &[u8], new: &mut [u8]) -> Answer
     ensures { λ r. ⌜ (answerWords r, now (new .exit)) ≡ convertOn (now (old .entry)) (now (new .entry)) ⌝ }
 {
-    if new.len() != SHEET {
+    if new.len() != sheet::SHEET {
         return Answer::Refused(Refusal::NotSheet);
     }
     if !is_old_sheet(old) {
@@ -66,7 +51,7 @@ fn lay_out(old: &[u8], new: &mut [u8])
 {
     let used = rows_used(old);
     make_fresh(new);
-    write_be(new, USED_AT, NUMBER, used as u64);
+    write_be(new, sheet::USED_AT, sheet::NUMBER, used as u64);
     write_rows(old, new, used);
     write_desks(old, new);
 }
@@ -78,8 +63,8 @@ fn write_rows(old: &[u8], new: &mut [u8], used: usize)
     ensures { λ _. ⌜ Laid (now (old .entry)) (now (new .exit)) rowCount 0 ⌝ }
 {
     for i in 0..used {
-        let row = read_row(old, ROWS_AT + old::ROW * i - BEFORE_KEY);
-        write_row(new, ROWS_AT + ROW * i, row);
+        let row = read_row(old, sheet::ROWS_AT + old::ROW * i - BEFORE_KEY);
+        write_row(new, sheet::ROWS_AT + sheet::ROW * i, row);
     }
 }
 
@@ -89,12 +74,12 @@ fn write_desks(old: &[u8], new: &mut [u8])
     requires { ⌜ Laid (now old) (now new) rowCount 0 ⌝ }
     ensures { λ _. ⌜ Laid (now (old .entry)) (now (new .exit)) rowCount deskCount ⌝ }
 {
-    for d in 0..DESKS {
+    for d in 0..sheet::DESKS {
         let from = old::DESKS_AT + old::DESK * d;
-        if old[from] != CLOSED {
-            let opened = read_row(old, from + OPENED_AT - BEFORE_KEY);
+        if old[from] != sheet::CLOSED {
+            let opened = read_row(old, from + sheet::OPENED_AT - BEFORE_KEY);
             let worked = read_row(old, from + old::WORKED_AT - BEFORE_KEY);
-            write_desk(new, d, old[from + DESK_ROW_AT], opened, worked);
+            write_desk(new, d, old[from + sheet::DESK_ROW_AT], opened, worked);
         }
     }
 }
@@ -103,12 +88,13 @@ fn write_desks(old: &[u8], new: &mut [u8])
 fn write_desk(new: &mut [u8], d: usize, row: u8, opened: Row, worked: Row)
     requires { ⌜ (length (now new) ≡ sheetSize) × (d < deskCount) ⌝ }
     requires { ⌜ (length (opened .ticks) ≡ ticksSize) × (length (worked .ticks) ≡ ticksSize) ⌝ }
-    ensures { λ _. ⌜ now (new .exit) ≡ put (now (new .entry)) (deskAt d) (openDesk row (rowBytes (opened .key) (opened .first) (opened .ticks)) (rowBytes (worked .key) (worked .first) (worked .ticks))) ⌝ }
+    ensures { λ _. ⌜ now (new .exit) ≡ put (now (new .entry)) (deskAt d) (openDesk row (rowBytes (opened .key) (opened .first) (opened .ticks))
+        (rowBytes (worked .key) (worked .first) (worked .ticks))) ⌝ }
 {
-    let a = DESKS_AT + DESK * d;
-    new[a] = OPEN;
-    new[a + DESK_ROW_AT] = row;
-    clear(new, a + DESK_ZEROS_AT, DESK_ZEROS);
-    write_row(new, a + OPENED_AT, opened);
-    write_row(new, a + WORKED_AT, worked);
+    let a = sheet::DESKS_AT + sheet::DESK * d;
+    new[a] = sheet::OPEN;
+    new[a + sheet::DESK_ROW_AT] = row;
+    clear(new, a + sheet::DESK_ZEROS_AT, sheet::DESK_ZEROS);
+    write_row(new, a + sheet::OPENED_AT, opened);
+    write_row(new, a + sheet::WORKED_AT, worked);
 }

@@ -1,23 +1,5 @@
 // Whether a slice is a right old sheet: document 01's layout, before rows had a used word.
-use ledger_sheet::CLOSED;
-use ledger_sheet::DESK_COUNT_AT;
-use ledger_sheet::DESK_ROW_AT;
-use ledger_sheet::DESK_ZEROS;
-use ledger_sheet::DESK_ZEROS_AT;
-use ledger_sheet::DESKS;
-use ledger_sheet::DESKS_START_AT;
-use ledger_sheet::FIRST;
-use ledger_sheet::KEY;
-use ledger_sheet::LENGTH_AT;
-use ledger_sheet::NUMBER;
-use ledger_sheet::OPEN;
-use ledger_sheet::OPENED_AT;
-use ledger_sheet::ROW_COUNT_AT;
-use ledger_sheet::ROWS;
-use ledger_sheet::ROWS_AT;
-use ledger_sheet::ROWS_START_AT;
-use ledger_sheet::TICKS;
-use ledger_sheet::USED_AT;
+use ledger_sheet as sheet;
 use ledger_sheet::right::is_other;
 use octets::is_long_zero;
 use octets::is_same;
@@ -29,22 +11,23 @@ ghost use Prim.Native.Nat.{_+_, _≤_, _<_};
 ghost use lib.Dec.{eqb};
 ghost use lib.ListN.{length, getD};
 ghost use Rattle.octets.specs.Octets.{all};
-ghost use Rattle.ledger_convert.specs.Old.{sheetSize, rowSize, rowCount, deskCount, used, keyAt, firstNumberAt, deskByte, headerRight, validKeys, differentKeys, firstNumbers, unusedZero, deskRight, right, Sized};
+ghost use Rattle.ledger_convert.specs.Old.{sheetSize, rowSize, rowCount, deskCount, used, keyAt, firstNumberAt, deskByte};
+ghost use Rattle.ledger_convert.specs.Old.{headerRight, validKeys, differentKeys, firstNumbers, unusedZero, deskRight, right, Sized};
 
 // An old row: key, first number, ticks.
-const FIRST_AT: usize = KEY;
+const FIRST_AT: usize = sheet::KEY;
 
-const TICKS_AT: usize = FIRST_AT + FIRST;
+const TICKS_AT: usize = FIRST_AT + sheet::FIRST;
 
-pub const ROW: usize = TICKS_AT + TICKS;
+pub const ROW: usize = TICKS_AT + sheet::TICKS;
 
-pub const WORKED_AT: usize = OPENED_AT + ROW;
+pub const WORKED_AT: usize = sheet::OPENED_AT + ROW;
 
 pub const DESK: usize = WORKED_AT + ROW;
 
-pub const DESKS_AT: usize = ROWS_AT + ROW * ROWS;
+pub const DESKS_AT: usize = sheet::ROWS_AT + ROW * sheet::ROWS;
 
-pub const SHEET: usize = DESKS_AT + DESK * DESKS;
+pub const SHEET: usize = DESKS_AT + DESK * sheet::DESKS;
 
 // Whether a slice is a right old sheet.
 pub fn is_old_sheet(s: &[u8]) -> bool
@@ -65,12 +48,12 @@ fn is_header(s: &[u8]) -> bool
     requires { ⌜ length (now s) ≡ sheetSize ⌝ }
     ensures { λ r. ⌜ r ≡ headerRight (now (s .entry)) ⌝ }
 {
-    let size = read_be(s, LENGTH_AT, NUMBER) == SHEET as u64;
-    let used = read_be(s, USED_AT, NUMBER) <= ROWS as u64;
-    let rows = read_be(s, ROW_COUNT_AT, NUMBER) == ROWS as u64;
-    let rows_start = read_be(s, ROWS_START_AT, NUMBER) == ROWS_AT as u64;
-    let desks = read_be(s, DESK_COUNT_AT, NUMBER) == DESKS as u64;
-    let desks_start = read_be(s, DESKS_START_AT, NUMBER) == DESKS_AT as u64;
+    let size = read_be(s, sheet::LENGTH_AT, sheet::NUMBER) == SHEET as u64;
+    let used = read_be(s, sheet::USED_AT, sheet::NUMBER) <= sheet::ROWS as u64;
+    let rows = read_be(s, sheet::ROW_COUNT_AT, sheet::NUMBER) == sheet::ROWS as u64;
+    let rows_start = read_be(s, sheet::ROWS_START_AT, sheet::NUMBER) == sheet::ROWS_AT as u64;
+    let desks = read_be(s, sheet::DESK_COUNT_AT, sheet::NUMBER) == sheet::DESKS as u64;
+    let desks_start = read_be(s, sheet::DESKS_START_AT, sheet::NUMBER) == DESKS_AT as u64;
     size & used & rows & rows_start & desks & desks_start
 }
 
@@ -79,7 +62,7 @@ pub fn rows_used(s: &[u8]) -> usize
     requires { ⌜ length (now s) ≡ sheetSize ⌝ }
     ensures { λ r. ⌜ r ≡ used (now (s .entry)) ⌝ }
 {
-    read_be(s, USED_AT, NUMBER) as usize
+    read_be(s, sheet::USED_AT, sheet::NUMBER) as usize
 }
 
 // The key of the row or the copy at offset a.
@@ -87,7 +70,7 @@ fn key_at(s: &[u8], a: usize) -> u64
     requires { ⌜ a + rowSize ≤ length (now s) ⌝ }
     ensures { λ r. ⌜ r ≡ keyAt (now (s .entry)) a ⌝ }
 {
-    read_be(s, a, KEY)
+    read_be(s, a, sheet::KEY)
 }
 
 // The first number of the row or the copy at offset a.
@@ -95,7 +78,7 @@ fn first_at(s: &[u8], a: usize) -> u32
     requires { ⌜ a + rowSize ≤ length (now s) ⌝ }
     ensures { λ r. ⌜ r ≡ firstNumberAt (now (s .entry)) a ⌝ }
 {
-    read_be(s, a + FIRST_AT, FIRST) as u32
+    read_be(s, a + FIRST_AT, sheet::FIRST) as u32
 }
 
 // Whether the used rows have valid, different keys and first numbers of their streams. Each key is read once.
@@ -104,12 +87,12 @@ fn are_rows(s: &[u8]) -> bool
     ensures { λ r. ⌜ r ≡ (validKeys (now (s .entry)) && differentKeys (now (s .entry)) && firstNumbers (now (s .entry))) ⌝ }
 {
     let used = rows_used(s);
-    let mut keys = [0u64; ROWS];
+    let mut keys = [0u64; sheet::ROWS];
     let mut valid = true;
     let mut different = true;
     let mut numbers = true;
     for i in 0..used {
-        let row = ROWS_AT + ROW * i;
+        let row = sheet::ROWS_AT + ROW * i;
         let key = key_at(s, row);
         valid &= keys::valid(key);
         numbers &= keys::is_number(key, first_at(s, row));
@@ -126,10 +109,10 @@ fn is_rest(s: &[u8]) -> bool
     ensures { λ r. ⌜ r ≡ (unusedZero (now (s .entry)) && all deskCount (deskRight (now (s .entry)))) ⌝ }
 {
     let mut right = true;
-    let mut zeros = ROWS_AT + ROW * rows_used(s);
-    for d in 0..DESKS {
+    let mut zeros = sheet::ROWS_AT + ROW * rows_used(s);
+    for d in 0..sheet::DESKS {
         let desk = DESKS_AT + DESK * d;
-        if s[desk] != CLOSED {
+        if s[desk] != sheet::CLOSED {
             right &= is_long_zero(s, zeros, desk - zeros);
             right &= is_open_desk(s, d);
             zeros = desk + DESK;
@@ -146,13 +129,19 @@ fn is_open_desk(s: &[u8], d: usize) -> bool
     ensures { λ r. ⌜ r ≡ deskRight (now (s .entry)) d ⌝ }
 {
     let a = DESKS_AT + DESK * d;
-    let row = s[a + DESK_ROW_AT] as usize;
+    let row = s[a + sheet::DESK_ROW_AT] as usize;
     if row >= rows_used(s) {
         return false;
     }
-    let open = s[a] == OPEN;
-    let zeros = is_zero(s, a + DESK_ZEROS_AT, DESK_ZEROS);
-    let opened = is_same(s, ROWS_AT + ROW * row, s, a + OPENED_AT, TICKS_AT);
-    let worked = is_same(s, ROWS_AT + ROW * row, s, a + WORKED_AT, TICKS_AT);
+    let open = s[a] == sheet::OPEN;
+    let zeros = is_zero(s, a + sheet::DESK_ZEROS_AT, sheet::DESK_ZEROS);
+    let opened = is_same(
+        s,
+        sheet::ROWS_AT + ROW * row,
+        s,
+        a + sheet::OPENED_AT,
+        TICKS_AT,
+    );
+    let worked = is_same(s, sheet::ROWS_AT + ROW * row, s, a + WORKED_AT, TICKS_AT);
     open & zeros & opened & worked
 }

@@ -112,7 +112,8 @@ missing-lowest zero t i p top l h e = let w = top .within in absurd (omega arith
 missing-lowest (suc n) zero i p top l h e = absurd (not-suc-le-zero l)
 missing-lowest (suc n) (suc t) zero p top l h e = rw (e, ticked-after n t p top e)
 missing-lowest (suc n) (suc t) (suc i) p top l h e =
-    rw (h 0 (zero-lt-suc i)) (ap (Option·map suc) (missing-lowest n t i (λ j. p (suc j)) (after-first n t p top) (le-of-suc-le-suc l) (λ j q. h (suc j) (omega arith)) e))
+    let later = missing-lowest n t i (λ j. p (suc j)) (after-first n t p top) (le-of-suc-le-suc l) (λ j q. h (suc j) (omega arith)) e in
+    rw (h 0 (zero-lt-suc i)) (ap (Option·map suc) later)
 
 -- where all below the end are ticked, none is missing
 pub missing-none : (n t : ℕ) (p : ℕ → Bool) → Top n p t → Each true p t → least (missing (table n p)) ≡ none

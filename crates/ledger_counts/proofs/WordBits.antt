@@ -50,7 +50,8 @@ little-bit s h (suc n) b i l = by (ltb i 8) refl (λ j m. little-bit s h n (b + 
     y : ℕ
     y = littleAt s (b + 1) n
 
-    by : (f : Bool) → ltb i 8 ≡ f → ((j : ℕ) → j < 8 * n → bitOf y j ≡ bitOf (getD s (b + 1 + j / 8) 0) (j % 8)) → bitOf (x + 256 * y) i ≡ bitOf (getD s (b + i / 8) 0) (i % 8)
+    by : (f : Bool) → ltb i 8 ≡ f → ((j : ℕ) → j < 8 * n → bitOf y j ≡ bitOf (getD s (b + 1 + j / 8) 0) (j % 8))
+        → bitOf (x + 256 * y) i ≡ bitOf (getD s (b + i / 8) 0) (i % 8)
     by true q rest =
         let low = ltb-true i 8 q in
         let byte : b + i / 8 ≡ b = omega arith in

@@ -14,8 +14,10 @@ use borrow.Author.Tests.{ltb-true, eqb-true, eqb-false, not-false}
 use Rattle.refusals.specs.Judge.{Rule, _when_, verdict, judge}
 use Rattle.refusals.proofs.Judged.{NoneHolds, Numbered, verdict-none}
 use Rattle.ledger_model.specs.Positions.{Positions, noTicks, same, position}
-use Rattle.ledger_model.specs.Book.{Place, free, row, Desk, closed, working, Book, place, desk, putPlace, putDesk, isFree, ticksOf, withTicks, isDesk, isOpen, hasKey, placeWith, allUsed, lowestFree, anyHasOpen, positionAt}
-use Rattle.ledger_model.specs.Step.{Find, RowReport, FirstGap, Call, Enrol, Ask, Open, Mark, Save, Drop, Strike, done, refused, answerWords, Reply, reply, refusals, asked, effect, afterRefusal, step}
+use Rattle.ledger_model.specs.Book.{Place, free, row, Desk, closed, working, Book, place, desk, putPlace, putDesk}
+use Rattle.ledger_model.specs.Book.{isFree, ticksOf, withTicks, isDesk, isOpen, hasKey, placeWith, allUsed, lowestFree, anyHasOpen, positionAt}
+use Rattle.ledger_model.specs.Step.{Find, RowReport, FirstGap, Call, Enrol, Ask, Open, Mark, Save, Drop, Strike}
+use Rattle.ledger_model.specs.Step.{done, refused, answerWords, Reply, reply, refusals, asked, effect, afterRefusal, step}
 use Rattle.ledger_model.specs.WellFormed.{WellFormed, PlaceOk}
 use Rattle.ledger_model.proofs.Basics.{same-true, same-refl, row-in, has-row, not-open}
 use Rattle.ledger_model.proofs.Laws.{lowest-in}
@@ -36,7 +38,8 @@ use Rattle.ledger_layout.proofs.Judged.{refuses}
 use Rattle.ledger_layout.specs.Layout.{bitsValue, tickBytes, placeBytes, deskBytes, countUsed, layout, call, laidOut}
 use Rattle.ledger_layout.proofs.Rows.{length-place, row-same, mark-law}
 use Rattle.ledger_layout.proofs.Places.{header-put, worked-put, Shape, shape, length-layout, row-part, desk-put, row-put, desk-put-in, closed-law}
-use Rattle.ledger_layout.proofs.Used.{Of, lowest-free, lowest-is-free, all-used, count-same, count-more, count-less, has-law, find-law, report-law, gap-law}
+use Rattle.ledger_layout.proofs.Used.{Of, lowest-free, lowest-is-free, all-used, count-same, count-more}
+use Rattle.ledger_layout.proofs.Used.{count-less, has-law, find-law, report-law, gap-law}
 use Rattle.ledger_layout.proofs.Right.{n, used-is, row-used, words, row-is, row-read, OpenDesk, open-read, layout-right}
 
 -- ---- judging
@@ -105,7 +108,9 @@ module _ (b : Book) (ok : WellFormed b) where
       → (NoneHolds (refusals c b) → outcome ≡ laidOut (answerWords (effect c b .answer), effect c b .book))
       → judged ((20 when not (right s)) ∷ rows) outcome s ≡ laidOut (call c b)
   unfolding judged judge step
-  by-rows c rows outcome e stays h = rw (layout-right b ok, e) (by (verdict (refusals c b)) (eqb (verdict (refusals c b)) 0) refl (λ v. h (verdict-none (refusals c b) (numbered c b) v)))
+  by-rows c rows outcome e stays h =
+      let v = verdict (refusals c b) in
+      rw (layout-right b ok, e) (by v (eqb v 0) refl (λ z. h (verdict-none (refusals c b) (numbered c b) z)))
     where
       by : (v : ℕ) (t : Bool) → eqb v 0 ≡ t → (v ≡ 0 → outcome ≡ laidOut (answerWords (effect c b .answer), effect c b .book))
           → let g = cond t (effect c b) (reply (refused v) (afterRefusal v c b)) in
@@ -293,7 +298,8 @@ module _ (b : Book) (ok : WellFormed b) where
         let i = position (o .key) (o .first) number in
         let at : positionAt (place b r) number ≡ i = ap (λ p. positionAt p number) (o .place-is) in
         let law = mark-law (o .key) (o .first) worked (o .row-ok worked (o .worked-set)) flag number in
-        rw (mark-step b d t flag number r opened worked q i at, o .worked-part, law) (by (markVerdict flag i worked) (set worked i flag) (eqb (markVerdict flag i worked) 0))
+        let v = markVerdict flag i worked in
+        rw (mark-step b d t flag number r opened worked q i at, o .worked-part, law) (by v (set worked i flag) (eqb v 0))
       where
         by : (v : ℕ) (new : Positions) (t : Bool)
             → let x = cond {A = Outcome} t (0 ∷ [], bytes new) (v ∷ [], bytes worked) in

@@ -1,17 +1,16 @@
 -- Demand 3 of every list of calls on a fresh sheet. Assumes nothing.
 use Prim.Native.Nat.{ℕ}
 use native.Mathlib.Omega.{arith}
-use mathlib.Core.List.{List, [], _∷_, map}
+use mathlib.Core.List.{List, map}
 use mathlib.Core.Logic.{_≢_}
 use mathlib.Core.Path.{_≡_, refl, sym, ap, _∙_}
 use Rattle.refusals.specs.Table.{numberOf}
 use Rattle.refusals.proofs.Laws.{number-positive}
 use Rattle.ledger_model.specs.Book.{Book, idle, fresh}
-use Rattle.ledger_model.specs.Step.{Call, Answer, gave, done, atRow, refused, answerWords, step, Entry, callOf, run, bookAfter}
+use Rattle.ledger_model.specs.Step.{Call, Answer, gave, done, atRow, refused, answerWords, step, Entry, callOf, bookAfter}
 use Rattle.ledger_model.specs.WellFormed.{WellFormed}
-use Rattle.ledger_model.specs.Chain.{Chain, stop, next}
-use Rattle.ledger_model.proofs.Outcome.{outcome}
-use Rattle.ledger_model.proofs.WellFormed.{well-formed, fresh-well-formed, run-well-formed}
+use Rattle.ledger_model.specs.Chain.{Chain}
+use Rattle.ledger_model.proofs.WellFormed.{well-formed, run-well-formed}
 use Rattle.ledger_model.proofs.Laws.{Proper, words-injective, step-proper}
 use Rattle.ledger_model.proofs.Claim.{chain-claim}
 use Rattle.ledger_changes.specs.Bytes.{freshSheet}
@@ -42,13 +41,10 @@ each c b a t ok m =
     let same = m .1 ∙ on-layout (call c) b ok in
     (words-injective a (step c b .answer) (proper a (m .0)) (step-proper c b) (ap (λ r. r .0) same), ap (λ r. r .1) same)
 
--- and what the model does keeps the promise
+-- an answer that is no refusal with the number 0
 improper : (a : Answer) → Proper a → a ≢ refused 0
 improper (gave words) h e = let z : _≡_ {A = ℕ} 0 1 = cc in omega arith
 improper (refused number) h e = h (cc)
-
-model-meets : (c : Call) (b : Book) → WellFormed b → Meets c (layout b) (step c b .answer) (layout (step c b .book))
-model-meets c b ok = (improper (step c b .answer) (step-proper c b), sym (on-layout (call c) b ok))
 
 -- What a contract says, with the answer as the function's enum.
 pub answer-meets : (c : Call) (s : List ℕ) (r : sheet.Answer) (t : List ℕ) → (Words.answerWords r, t) ≡ onSheet (call c) s → Meets c s (answerOf r) t
@@ -69,18 +65,6 @@ pub gap-answer-meets : (c : Call) (s : List ℕ) (r : GapAnswer) (t : List ℕ) 
 gap-answer-meets c s G.Nothing t e = (improper (gave _) tt, e)
 gap-answer-meets c s (G.Gap number row) t e = (improper (gave _) tt, e)
 gap-answer-meets c s (G.Refused q) t e = (improper (refused (numberOf q)) (number-positive q), e)
-
--- ---- a list of calls
-
-chain-from : (calls : List Call) (b : Book) → WellFormed b → Chain Meets (layout b) (run b calls .log) (layout (run b calls .book))
-unfolding run
-chain-from [] b ok = stop
-chain-from (c ∷ calls) b ok =
-    next (model-meets c b ok) (chain-from calls (step c b .book) (well-formed b ok (outcome c b)))
-
--- Every list of calls has such a chain.
-pub chain-exists : (calls : List Call) → Chain Meets freshSheet (run fresh calls .log) (layout (run fresh calls .book))
-chain-exists calls = rw fresh-layout (chain-from calls fresh fresh-well-formed)
 
 -- ---- the theorem
 

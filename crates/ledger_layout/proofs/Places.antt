@@ -15,7 +15,8 @@ use Rattle.ledger_model.specs.WellFormed.{WellFormed}
 use Rattle.octets.specs.Octets.{numberAt, bytesOf, part, put}
 use Rattle.octets.proofs.Laws.{length-bytesOf, part-at}
 use Rattle.octets.proofs.Parts.{number-first, number-bytes, part-first, part-whole, part-seam}
-use Rattle.ledger_sheet.specs.Sheet.{sheetSize, rowSize, rowCount, rowsStart, deskZerosAt, deskZerosSize, openedAt, workedAt, deskSize, deskCount, desksStart, headerNumberSize, usedAt, rowAt, deskAt, headerNumber, isClosed}
+use Rattle.ledger_sheet.specs.Sheet.{sheetSize, rowSize, rowCount, rowsStart, deskZerosAt, deskZerosSize, openedAt, workedAt, deskSize}
+use Rattle.ledger_sheet.specs.Sheet.{deskCount, desksStart, headerNumberSize, usedAt, rowAt, deskAt, headerNumber, isClosed}
 use Rattle.ledger_changes.specs.Bytes.{headerBytes, openDesk}
 use Rattle.ledger_changes.proofs.Written.{length-header}
 use Rattle.ledger_layout.specs.Layout.{placeBytes, deskBytes, countUsed, layout}
@@ -153,7 +154,8 @@ module _ (b : Book) (ok : Shape b) where
   desk-part d l =
       let ld = ok .desks-count in
       ap (λ (t : List ℕ). part t (deskAt d) deskSize) (sym (append-nil (header ++ rows ++ desks)))
-      ∙ part-laid deskSize (deskBytes (b .places)) (length-desk (b .places)) (header ++ rows) [] (b .desks) closed d (deskAt d) (omega arith) (omega (arith, length-front))
+      ∙ part-laid deskSize (deskBytes (b .places)) (length-desk (b .places)) (header ++ rows) [] (b .desks) closed d (deskAt d) (omega arith)
+      (omega (arith, length-front))
 
   pub desk-put : (d : ℕ) (x : Desk) → d < deskCount → put (layout b) (deskAt d) (deskBytes (b .places) x) ≡ layout (putDesk d x b)
   unfolding layout
@@ -161,7 +163,8 @@ module _ (b : Book) (ok : Shape b) where
       let ld = ok .desks-count in
       let bytes = deskBytes (b .places) x in
       ap (λ (t : List ℕ). put t (deskAt d) bytes) (sym (append-nil (header ++ rows ++ desks)))
-      ∙ put-laid deskSize (deskBytes (b .places)) (length-desk (b .places)) (header ++ rows) [] (b .desks) d (deskAt d) x (omega arith) (omega (arith, length-front))
+      ∙ put-laid deskSize (deskBytes (b .places)) (length-desk (b .places)) (header ++ rows) [] (b .desks) d (deskAt d) x (omega arith)
+      (omega (arith, length-front))
       ∙ append-nil (header ++ rows ++ laid (deskBytes (b .places)) (set (b .desks) d x))
 
   -- a row, where the desks lay out the same with it
@@ -176,17 +179,20 @@ module _ (b : Book) (ok : Shape b) where
 
   -- ---- a desk's bytes, and its copies
 
-  pub desk-byte : (d i k : ℕ) (x : Desk) → d < deskCount → desk b d ≡ x → i < deskSize → deskAt d + i ≡ k → getD (layout b) k 0 ≡ getD (deskBytes (b .places) x) i 0
+  pub desk-byte : (d i k : ℕ) (x : Desk) → d < deskCount → desk b d ≡ x → i < deskSize → deskAt d + i ≡ k
+      → getD (layout b) k 0 ≡ getD (deskBytes (b .places) x) i 0
   desk-byte d i k x l q h e =
       rw (← e) (sym (part-at (layout b) (deskAt d) deskSize i h) ∙ ap (λ (t : List ℕ). getD t i 0) (desk-part d l ∙ ap (deskBytes (b .places)) q))
 
   -- what stands in a desk
   pub desk-in : (d j n : ℕ) (x : Desk) → d < deskCount → desk b d ≡ x → j + n ≤ deskSize → part (layout b) (deskAt d + j) n ≡ part (deskBytes (b .places) x) j n
   desk-in d j n x l q h =
-      sym (part-within (layout b) (deskAt d) deskSize j n (deskAt d + j) refl h) ∙ ap (λ (t : List ℕ). part t j n) (desk-part d l ∙ ap (deskBytes (b .places)) q)
+      sym (part-within (layout b) (deskAt d) deskSize j n (deskAt d + j) refl h)
+      ∙ ap (λ (t : List ℕ). part t j n) (desk-part d l ∙ ap (deskBytes (b .places)) q)
 
   -- and is put there
-  pub desk-put-in : (d j : ℕ) (v : List ℕ) (x y : Desk) → d < deskCount → desk b d ≡ x → j + length v ≤ deskSize → put (deskBytes (b .places) x) j v ≡ deskBytes (b .places) y
+  pub desk-put-in : (d j : ℕ) (v : List ℕ) (x y : Desk) → d < deskCount → desk b d ≡ x → j + length v ≤ deskSize
+      → put (deskBytes (b .places) x) j v ≡ deskBytes (b .places) y
       → put (layout b) (deskAt d + j) v ≡ layout (putDesk d y b)
   desk-put-in d j v x y l q h e =
       let long = length-layout in

@@ -18,7 +18,11 @@ use Rattle.ledger_model.specs.WellFormed.{IsSet, PlaceOk, DeskOk, keyOf, WellFo
 use Rattle.octets.specs.Octets.{numberAt, bytesOf, part, all, zeroAt}
 use Rattle.octets.proofs.Laws.{Bytes, and-split, all-at}
 use Rattle.octets.proofs.Parts.{bytes-number, part-join, part-whole, zero-part, same-part}
-use Rattle.ledger_sheet.specs.Sheet.{sheetSize, usedWordSize, keyStart, keySize, firstAt, firstSize, ticksAt, rowSize, rowCount, rowsStart, deskRowAt, deskZerosAt, deskZerosSize, openedAt, workedAt, deskSize, deskCount, desksStart, headerNumberSize, lengthAt, usedAt, rowCountAt, rowsStartAt, deskCountAt, desksStartAt, rowAt, deskAt, headerNumber, used, isUsed, isRow, keyAt, firstNumberAt, deskByte, deskRow, isClosed, carries, headerRight, validKeys, isNew, differentKeys, firstNumbers, freeZero, closedZero, deskMarked, openNames, deskRight, right}
+use Rattle.ledger_sheet.specs.Sheet.{sheetSize, usedWordSize, keyStart, keySize, firstAt, firstSize, ticksAt, rowSize, rowCount, rowsStart}
+use Rattle.ledger_sheet.specs.Sheet.{deskRowAt, deskZerosAt, deskZerosSize, openedAt, workedAt, deskSize, deskCount, desksStart, headerNumberSize, lengthAt}
+use Rattle.ledger_sheet.specs.Sheet.{usedAt, rowCountAt, rowsStartAt, deskCountAt, desksStartAt, rowAt, deskAt, headerNumber, used, isUsed}
+use Rattle.ledger_sheet.specs.Sheet.{isRow, keyAt, firstNumberAt, deskByte, deskRow, isClosed, carries, headerRight, validKeys, isNew}
+use Rattle.ledger_sheet.specs.Sheet.{differentKeys, firstNumbers, freeZero, closedZero, deskMarked, openNames, deskRight, right}
 use Rattle.ledger_rows.specs.Ticks.{ticksOf}
 use Rattle.octets.specs.Lists.{table}
 use Rattle.ledger_changes.specs.Bytes.{headerBytes, openDesk}
@@ -178,9 +182,12 @@ module _ (s : List ℕ) (bytes : Bytes s) (r : right s ≡ true) where
   copy-there i c l h e =
       let there = row-parts s i l in
       let same = same-part s (rowAt i) s c ticksAt (omega (arith, long)) (omega (arith, long)) e in
-      let word : numberAt s (rowAt i) usedWordSize ≡ numberAt s c usedWordSize = number-same s (rowAt i) c ticksAt 0 usedWordSize (rowAt i) c same (add-zero (rowAt i)) (add-zero c) (omega arith) in
-      let key : keyAt s (rowAt i) ≡ keyAt s c = number-same s (rowAt i) c ticksAt keyStart keySize (rowAt i + keyStart) (c + keyStart) same refl refl (omega arith) in
-      let first : firstNumberAt s (rowAt i) ≡ firstNumberAt s c = number-same s (rowAt i) c ticksAt firstAt firstSize (rowAt i + firstAt) (c + firstAt) same refl refl (omega arith) in
+      let word : numberAt s (rowAt i) usedWordSize ≡ numberAt s c usedWordSize =
+      number-same s (rowAt i) c ticksAt 0 usedWordSize (rowAt i) c same (add-zero (rowAt i)) (add-zero c) (omega arith) in
+      let key : keyAt s (rowAt i) ≡ keyAt s c =
+      number-same s (rowAt i) c ticksAt keyStart keySize (rowAt i + keyStart) (c + keyStart) same refl refl (omega arith) in
+      let first : firstNumberAt s (rowAt i) ≡ firstNumberAt s c =
+      number-same s (rowAt i) c ticksAt firstAt firstSize (rowAt i + firstAt) (c + firstAt) same refl refl (omega arith) in
       rw (row-at i l, key, first) (row-there s c bytes (omega (arith, long)) (sym word ∙ eqb-true _ _ (there .1)))
 
   desk-there : (d : ℕ) → d < deskCount → deskBytes (b .places) (deskIn s d) ≡ part s (deskAt d) deskSize
@@ -222,7 +229,8 @@ module _ (s : List ℕ) (bytes : Bytes s) (r : right s ≡ true) where
   read-law =
       rw count-there
       (join s 0 desksStart desksStart (deskSize * deskCount) sheetSize
-      (join s 0 rowsStart rowsStart (rowSize * rowCount) desksStart header-there (laid-table s rowSize placeBytes rowCount rowsStart (placeIn s) place-there) refl refl)
+      (join s 0 rowsStart rowsStart (rowSize * rowCount) desksStart header-there
+      (laid-table s rowSize placeBytes rowCount rowsStart (placeIn s) place-there) refl refl)
       (laid-table s deskSize (deskBytes (b .places)) deskCount desksStart (deskIn s) desk-there) refl refl
       ∙ part-whole s sheetSize long)
 

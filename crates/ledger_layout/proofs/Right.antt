@@ -17,14 +17,17 @@ use Rattle.ledger_model.proofs.Basics.{row-in, has-row}
 use Rattle.octets.specs.Octets.{numberAt, part, zeroAt}
 use Rattle.octets.proofs.Laws.{part-at, all-each}
 use Rattle.octets.proofs.Parts.{part-same}
-use Rattle.ledger_sheet.specs.Sheet.{sheetSize, usedWordSize, ticksAt, rowSize, rowCount, deskRowAt, deskZerosAt, deskZerosSize, openedAt, workedAt, deskSize, deskCount, rowsStart, desksStart, headerNumberSize, rowAt, deskAt, headerNumber, used, isUsed, isRow, deskByte, deskRow, carries, headerRight, countRight, validKeys, isNew, differentKeys, firstNumbers, freeZero, deskRight, right}
+use Rattle.ledger_sheet.specs.Sheet.{sheetSize, usedWordSize, ticksAt, rowSize, rowCount, deskRowAt, deskZerosAt, deskZerosSize, openedAt, workedAt, deskSize}
+use Rattle.ledger_sheet.specs.Sheet.{deskCount, rowsStart, desksStart, headerNumberSize, rowAt, deskAt, headerNumber, used, isUsed, isRow, deskByte}
+use Rattle.ledger_sheet.specs.Sheet.{deskRow, carries, headerRight, countRight, validKeys, isNew, differentKeys, firstNumbers, freeZero, deskRight, right}
 use Rattle.ledger_changes.specs.Bytes.{openDesk}
 use Rattle.ledger_sheet.proofs.Clauses.{closed-desk, open-desk}
 use Rattle.ledger_layout.specs.Layout.{placeBytes, deskBytes, countUsed, layout, placeIn, deskIn, bookOf}
 use Rattle.ledger_layout.proofs.Parts.{number-within, part-within}
 use Rattle.octets.proofs.Lists.{table-is}
 use Rattle.ledger_layout.proofs.Rows.{Says, row-says, row-carries}
-use Rattle.ledger_layout.proofs.Places.{headerNumbers, header-number, opened-in, worked-in, zeros-in, shape, length-layout, row-part, desk-part, desk-byte, desk-in, closed-law}
+use Rattle.ledger_layout.proofs.Places.{headerNumbers, header-number, opened-in, worked-in, zeros-in, shape}
+use Rattle.ledger_layout.proofs.Places.{length-layout, row-part, desk-part, desk-byte, desk-in, closed-law}
 use Rattle.ledger_layout.proofs.Used.{Words, count-law, count-in}
 
 part-zero : (s : List ℕ) (a n : ℕ) → part s a n ≡ replicate n 0 → zeroAt s a n ≡ true
@@ -127,8 +130,12 @@ module _ (b : Book) (ok : WellFormed b) where
         opened-set = k .1;
         worked-set = k .2;
         row-named = desk-byte b (shape ok) d deskRowAt (deskAt d + deskRowAt) (working r opened worked) l q (omega arith) refl;
-        opened-part = desk-in b (shape ok) d openedAt rowSize (working r opened worked) l q (omega arith) ∙ opened-in (b .places) r opened worked ∙ ap (λ (p : Place). placeBytes (withTicks opened p)) (h .is);
-        worked-part = desk-in b (shape ok) d workedAt rowSize (working r opened worked) l q (omega arith) ∙ worked-in (b .places) r opened worked ∙ ap (λ (p : Place). placeBytes (withTicks worked p)) (h .is);
+        opened-part =
+            desk-in b (shape ok) d openedAt rowSize (working r opened worked) l q (omega arith) ∙ opened-in (b .places) r opened worked
+            ∙ ap (λ (p : Place). placeBytes (withTicks opened p)) (h .is);
+        worked-part =
+            desk-in b (shape ok) d workedAt rowSize (working r opened worked) l q (omega arith) ∙ worked-in (b .places) r opened worked
+            ∙ ap (λ (p : Place). placeBytes (withTicks worked p)) (h .is);
       }
 
   -- ---- reads back
@@ -219,7 +226,8 @@ module _ (b : Book) (ok : WellFormed b) where
       by r l (row key first ticks) e = rw (row-used r l, e)
 
   -- a copy whose bytes are those of a row with another set carries its word, key and first number
-  carried : (r c key first : ℕ) (t u : Positions) → part s (rowAt r) rowSize ≡ placeBytes (row key first t) → part s c rowSize ≡ placeBytes (row key first u) → carries s c r ≡ true
+  carried : (r c key first : ℕ) (t u : Positions) → part s (rowAt r) rowSize ≡ placeBytes (row key first t)
+      → part s c rowSize ≡ placeBytes (row key first u) → carries s c r ≡ true
   carried r c key first t u er ec =
       let head : (a : ℕ) → part s a ticksAt ≡ part (part s a rowSize) 0 ticksAt = λ a. sym (part-within s a rowSize 0 ticksAt a (add-zero a) (omega arith)) in
       part-same s (rowAt r) s c ticksAt
@@ -239,7 +247,9 @@ module _ (b : Book) (ok : WellFormed b) where
           let there : isRow s r ≡ true = row-is r ∙ ap (λ p. not (isFree p)) (o .place-is) in
           let x = working r opened worked in
           let byte : deskByte s d ≡ 1 = desk-byte b (shape ok) d 0 (deskAt d) x l q (omega arith) (add-zero (deskAt d)) in
-          let zeros = part-zero s (deskAt d + deskZerosAt) deskZerosSize (desk-in b (shape ok) d deskZerosAt deskZerosSize x l q (omega arith) ∙ zeros-in (b .places) r opened worked) in
+          let zeros =
+          part-zero s (deskAt d + deskZerosAt) deskZerosSize
+          (desk-in b (shape ok) d deskZerosAt deskZerosSize x l q (omega arith) ∙ zeros-in (b .places) r opened worked) in
           let er = row-part b (shape ok) r (omega arith) ∙ ap placeBytes (o .place-is) in
           sym (open-desk s d (λ z. omega arith))
           ∙ rw (

@@ -89,11 +89,18 @@ unfolding placeBytes
 row-says s a key first ticks ok e =
     let ts = tickBytes ticksSize ticks in
     record {
-      word-is = sym (number-within s a rowSize 0 usedWordSize a (add-zero a) (omega arith)) ∙ ap (λ (t : List ℕ). numberAt t 0 usedWordSize) e ∙ row-word key first ts;
-      key-is = sym (number-within s a rowSize keyStart keySize (a + keyStart) refl (omega arith)) ∙ ap (λ (t : List ℕ). numberAt t keyStart keySize) e ∙ row-key key first ts (lt-trans (below-valid key (ok .0)) (lit< tt));
-      first-is = sym (number-within s a rowSize firstAt firstSize (a + firstAt) refl (omega arith)) ∙ ap (λ (t : List ℕ). numberAt t firstAt firstSize) e ∙ row-first key first ts (omega (arith, ok .1, modulus-fits key));
+      word-is =
+          sym (number-within s a rowSize 0 usedWordSize a (add-zero a) (omega arith)) ∙ ap (λ (t : List ℕ). numberAt t 0 usedWordSize) e
+          ∙ row-word key first ts;
+      key-is =
+          sym (number-within s a rowSize keyStart keySize (a + keyStart) refl (omega arith)) ∙ ap (λ (t : List ℕ). numberAt t keyStart keySize) e
+          ∙ row-key key first ts (lt-trans (below-valid key (ok .0)) (lit< tt));
+      first-is =
+          sym (number-within s a rowSize firstAt firstSize (a + firstAt) refl (omega arith)) ∙ ap (λ (t : List ℕ). numberAt t firstAt firstSize) e
+          ∙ row-first key first ts (omega (arith, ok .1, modulus-fits key));
       ticks-are = ticks-read s a ticks (ok .2)
-          (sym (part-within s a rowSize ticksAt ticksSize (a + ticksAt) refl (omega arith)) ∙ ap (λ (t : List ℕ). part t ticksAt ticksSize) e ∙ row-ticks key first ts (length-ticks ticksSize ticks));
+          (sym (part-within s a rowSize ticksAt ticksSize (a + ticksAt) refl (omega arith)) ∙ ap (λ (t : List ℕ). part t ticksAt ticksSize) e
+          ∙ row-ticks key first ts (length-ticks ticksSize ticks));
     }
 
 -- rows with the same bytes have the same set
@@ -114,7 +121,8 @@ pub row-there : (s : List ℕ) (a : ℕ) → Bytes s → a + rowSize ≤ length 
     → placeBytes (row (keyAt s a) (firstNumberAt s a) (ticksOf s a)) ≡ part s a rowSize
 unfolding placeBytes rowBytes
 row-there s a bytes h one =
-    let word : bytesOf usedWordSize usedWord ≡ part s a usedWordSize = ap (bytesOf usedWordSize) (sym one) ∙ bytes-number s a usedWordSize bytes (omega arith) in
+    let word : bytesOf usedWordSize usedWord ≡ part s a usedWordSize =
+    ap (bytesOf usedWordSize) (sym one) ∙ bytes-number s a usedWordSize bytes (omega arith) in
     rw (
       word,
       bytes-number s (a + keyStart) keySize bytes (omega arith),

@@ -111,7 +111,13 @@ tick-set (suc n) t i h l e =
     (λ (q : i < byteBits).
     let k : i / byteBits ≡ 0 = omega arith in
     let m : i % byteBits ≡ i = omega arith in
-    rw (k, m, take-set-lt byteBits t i true q, drop-set-lt byteBits t i true q, value-set (take byteBits t) i (rw length-take (le-min q l)) (getD-take byteBits t i false q ∙ e)))
+    rw (
+      k,
+      m,
+      take-set-lt byteBits t i true q,
+      drop-set-lt byteBits t i true q,
+      value-set (take byteBits t) i (rw length-take (le-min q l)) (getD-take byteBits t i false q ∙ e),
+    ))
     (λ (q : byteBits ≤ i).
     let k : i / byteBits ≡ suc ((i - byteBits) / byteBits) = omega arith in
     let m : i % byteBits ≡ (i - byteBits) % byteBits = omega arith in
@@ -119,7 +125,8 @@ tick-set (suc n) t i h l e =
     let tail : drop byteBits (set t i true) ≡ set (drop byteBits t) (i - byteBits) true =
     ap (λ (x : ℕ). drop byteBits (set t x true)) (sym j) ∙ drop-set-add byteBits t (i - byteBits) true in
     let clear : getD (drop byteBits t) (i - byteBits) false ≡ false = rw (getD-drop, j) e in
-    rw (k, m, take-set-le byteBits t i true q, tail) (ap (λ (r : List ℕ). bitsValue (take byteBits t) ∷ r) (tick-set n (drop byteBits t) (i - byteBits) (omega arith) (rw length-drop (omega arith)) clear)))
+    let later = tick-set n (drop byteBits t) (i - byteBits) (omega arith) (rw length-drop (omega arith)) clear in
+    rw (k, m, take-set-le byteBits t i true q, tail) (ap (λ (r : List ℕ). bitsValue (take byteBits t) ∷ r) later))
     (first-or-later i)
 
 pub tick-clear : (n : ℕ) (t : Positions) (i : ℕ) → i < byteBits * n → i < length t → has t i ≡ true

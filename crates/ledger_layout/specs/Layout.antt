@@ -8,7 +8,8 @@ use lib.ListN.{length, getD, take, drop, replicate}
 use Rattle.ledger_model.specs.Positions.{Positions}
 use Rattle.ledger_model.specs.Book.{Place, free, row, Desk, closed, working, Book, fresh, withTicks}
 use Rattle.ledger_model.specs.Step.{Call, answerWords, step}
-use Rattle.ledger_sheet.specs.Sheet.{sheetSize, rowSize, rowCount, ticksSize, byteBits, openedAt, workedAt, deskSize, deskCount, rowAt, deskAt, isUsed, keyAt, firstNumberAt, deskRow, isClosed, right}
+use Rattle.ledger_sheet.specs.Sheet.{sheetSize, rowSize, rowCount, ticksSize, byteBits, openedAt, workedAt, deskSize, deskCount}
+use Rattle.ledger_sheet.specs.Sheet.{rowAt, deskAt, isUsed, keyAt, firstNumberAt, deskRow, isClosed, right}
 use Rattle.ledger_rows.specs.Ticks.{ticksOf}
 use Rattle.octets.specs.Lists.{table, laid}
 use Rattle.ledger_changes.specs.Rows.{rowBytes}

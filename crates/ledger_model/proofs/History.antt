@@ -168,7 +168,8 @@ unfolding transactionFrom lastOpened only
 goes-on d t [] n = sym (append-nil t)
 goes-on d t (e ∷ log) n =
     let m = later-is-none (openedBy d e) (lastOpened d log) n in
-    goes-on d (noted d t e) log (m .1) ∙ rw (noted-mark d t e (m .0)) (append-assoc t _ _ ∙ ap (λ u. t ++ u) (sym (only-append (λ x. marks d (callOf x)) (e ∷ []) log)))
+    let split = ap (λ u. t ++ u) (sym (only-append (λ x. marks d (callOf x)) (e ∷ []) log)) in
+    goes-on d (noted d t e) log (m .1) ∙ rw (noted-mark d t e (m .0)) (append-assoc t _ _ ∙ split)
 
 transaction-append : (d : ℕ) (t xs ys : List Entry) → transactionFrom d t (xs ++ ys) ≡ transactionFrom d (transactionFrom d t xs) ys
 unfolding transactionFrom

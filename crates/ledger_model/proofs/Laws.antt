@@ -16,8 +16,10 @@ use Rattle.refusals.specs.Judge.{verdict, judge}
 use Rattle.keys.specs.Key.{validKey}
 use Rattle.keys.specs.Numbers.{isNumber}
 use Rattle.ledger_model.specs.Positions.{rowLength, Positions, has, same, size, missing, inRow}
-use Rattle.ledger_model.specs.Book.{Place, free, row, closed, working, Book, place, desk, isFree, ticksOf, withTicks, workedOf, hasKey, placeWith, lowestFree}
-use Rattle.ledger_model.specs.Step.{Find, RowReport, FirstGap, Call, Enrol, Ask, Open, Mark, Save, Drop, Strike, Answer, gave, done, atRow, refused, answerWords, Reply, alreadySo, refusals, asked, effect, step, run}
+use Rattle.ledger_model.specs.Book.{Place, free, row, closed, working, Book, place, desk}
+use Rattle.ledger_model.specs.Book.{isFree, ticksOf, withTicks, workedOf, hasKey, placeWith, lowestFree}
+use Rattle.ledger_model.specs.Step.{Find, RowReport, FirstGap, Call, Enrol, Ask, Open, Mark, Save, Drop, Strike, Answer}
+use Rattle.ledger_model.specs.Step.{gave, done, atRow, refused, answerWords, Reply, alreadySo, refusals, asked, effect, step, run}
 use Rattle.ledger_model.specs.Counts.{placeReport}
 use Rattle.ledger_model.specs.WellFormed.{WellFormed, PlaceOk, IsSet, keyOf}
 use Rattle.ledger_model.proofs.Basics.{by-test, row-in, has-open, HasRow, has-row, put-back}

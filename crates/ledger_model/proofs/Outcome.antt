@@ -10,8 +10,10 @@ use Rattle.refusals.specs.Judge.{judge, verdict}
 use Rattle.keys.specs.Key.{validKey}
 use Rattle.keys.specs.Numbers.{isNumber}
 use Rattle.ledger_model.specs.Positions.{Positions, noTicks, same}
-use Rattle.ledger_model.specs.Book.{free, row, Desk, closed, working, Book, place, desk, putPlace, putDesk, isFree, ticksOf, withTicks, isDesk, isOpen, hasKey, allUsed, lowestFree, anyHasOpen, positionAt}
-use Rattle.ledger_model.specs.Step.{Question, Call, Enrol, Ask, Open, Mark, Save, Drop, Strike, gave, done, atRow, refused, Reply, reply, refusals, effect, afterRefusal, judged, step}
+use Rattle.ledger_model.specs.Book.{free, row, Desk, closed, working, Book, place, desk, putPlace, putDesk}
+use Rattle.ledger_model.specs.Book.{isFree, ticksOf, withTicks, isDesk, isOpen, hasKey, allUsed, lowestFree, anyHasOpen, positionAt}
+use Rattle.ledger_model.specs.Step.{Question, Call, Enrol, Ask, Open, Mark, Save, Drop, Strike, gave}
+use Rattle.ledger_model.specs.Step.{done, atRow, refused, Reply, reply, refusals, effect, afterRefusal, judged, step}
 use Rattle.ledger_model.proofs.Basics.{by-test, by-bool, Lowest, lowest, HasRow, has-row}
 use Rattle.ledger_model.proofs.Steps.{markVerdict, mark-step, save-step, mark-closed, save-closed, mark-no-desk, save-no-desk}
 

@@ -14,8 +14,10 @@ use Rattle.ledger_model.specs.Lists.{only}
 use Rattle.keys.specs.Key.{validKey}
 use Rattle.keys.specs.Numbers.{modulus}
 use Rattle.ledger_model.specs.Positions.{position, Positions, noTicks, same, size, missing, anyTicked, least}
-use Rattle.ledger_model.specs.Book.{Desk, closed, working, Book, fresh, desk, putPlace, putDesk, isOpen, withWorked, openedOf, hasKey, allUsed, lowestFree, anyHasOpen}
-use Rattle.ledger_model.specs.Step.{Find, RowReport, FirstGap, Call, Enrol, Ask, Open, Mark, Save, Drop, Strike, gave, done, atRow, Reply, reply, refusals, asked, effect, afterRefusal, step, Entry, _⇒_, run}
+use Rattle.ledger_model.specs.Book.{Desk, closed, working, Book, fresh, desk, putPlace, putDesk}
+use Rattle.ledger_model.specs.Book.{isOpen, withWorked, openedOf, hasKey, allUsed, lowestFree, anyHasOpen}
+use Rattle.ledger_model.specs.Step.{Find, RowReport, FirstGap, Call, Enrol, Ask, Open, Mark, Save, Drop, Strike, gave}
+use Rattle.ledger_model.specs.Step.{done, atRow, Reply, reply, refusals, asked, effect, afterRefusal, step, Entry, _⇒_, run}
 use Rattle.ledger_model.specs.History.{marks}
 use Rattle.ledger_model.specs.Private.{saves, NoSave, unmarked, unmarkedLog, Alike, Privacy}
 use Rattle.ledger_model.proofs.Outcome.{Outcome, refusal, unopened, unmarked as not-marked, marking, outcome}

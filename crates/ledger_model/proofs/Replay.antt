@@ -12,13 +12,16 @@ use lib.Seq.{getD-set-same, getD-set-other, set-set, set-getD}
 use borrow.Author.Tests.{eq-eqb, ne-eqb}
 use Rattle.refusals.specs.Judge.{judge}
 use Rattle.ledger_model.specs.Positions.{Positions, same}
-use Rattle.ledger_model.specs.Book.{Place, free, row, Desk, closed, working, Book, idle, fresh, place, desk, putPlace, putDesk, ticksOf, withTicks, isDesk, anyHasOpen, positionAt}
-use Rattle.ledger_model.specs.Step.{Call, Enrol, Ask, Open, Mark, Save, Drop, Strike, Answer, done, refused, Reply, reply, refusals, effect, step, Entry, _⇒_, callOf, run}
+use Rattle.ledger_model.specs.Book.{Place, free, row, Desk, closed, working, Book, idle, fresh}
+use Rattle.ledger_model.specs.Book.{place, desk, putPlace, putDesk, ticksOf, withTicks, isDesk, anyHasOpen, positionAt}
+use Rattle.ledger_model.specs.Step.{Call, Enrol, Ask, Open, Mark, Save, Drop, Strike, Answer, done}
+use Rattle.ledger_model.specs.Step.{refused, Reply, reply, refusals, effect, step, Entry, _⇒_, callOf, run}
 use Rattle.ledger_model.specs.History.{noted, transactionFrom, transaction, kept, serialFrom, serial}
 use Rattle.ledger_model.specs.Chain.{Chain, stop, next, Steps}
 use Rattle.ledger_model.proofs.Basics.{same-true, row-not-free, row-in, not-open, put-all, idle-desk, idle-close, at-desk}
 use Rattle.ledger_model.proofs.Steps.{markVerdict, open-step, mark-step, save-step}
-use Rattle.ledger_model.proofs.Outcome.{isMark, Outcome, refusal, enrolment, asking, opening, unopened, unmarked, marking, saving, stale, dropping, striking, outcome}
+use Rattle.ledger_model.proofs.Outcome.{isMark, Outcome, refusal, enrolment, asking, opening, unopened}
+use Rattle.ledger_model.proofs.Outcome.{unmarked, marking, saving, stale, dropping, striking, outcome}
 
 -- ---- transactions
 
@@ -216,7 +219,8 @@ module _ (b : Book) (past : List Entry) (h : Inv b (inLog past)) where
   save-good d r opened worked k t =
       record {
         replays = append (k .replay (b .places) fits)
-            (one (save-step (putDesk d (working r opened worked) (idle (b .places))) d (k .is-desk) r opened worked (at-desk d _ (k .is-desk)) ∙ rw (t, set-set, idle-close)));
+            (one (save-step (putDesk d (working r opened worked) (idle (b .places))) d (k .is-desk) r opened worked (at-desk d _ (k .is-desk))
+            ∙ rw (t, set-set, idle-close)));
         inv = inv-desk stored d closed (inLog past) _ (λ e n. refl) tt (inv-places b (inLog past) (stored .places) (keeps-saved b r worked) h);
       }
     where
@@ -250,7 +254,10 @@ module _ (b : Book) (past : List Entry) (h : Inv b (inLog past)) where
   good (stale {d = d} r opened worked e t) = record { replays = stop; inv = inv-desk b d closed (inLog past) _ (λ e n. refl) tt h }
   good (dropping {d = d} t x) = record { replays = stop; inv = inv-desk b d closed (inLog past) _ (λ e n. refl) tt h }
   good (striking {r = r} f n) =
-      record { replays = one (rw f); inv = inv-places b (inLog past) _ (keeps-other b r free (λ d q opened worked. not-open (b .desks) r d q opened worked n)) h }
+      record {
+        replays = one (rw f);
+        inv = inv-places b (inLog past) _ (keeps-other b r free (λ d q opened worked. not-open (b .desks) r d q opened worked n)) h;
+      }
 
 -- ---- the whole list
 

@@ -12,12 +12,14 @@ use lib.Seq.{getD-set-other, append-snoc}
 use borrow.Author.Tests.{ne-eqb, eq-eqb}
 use Rattle.ledger_model.specs.Positions.{Positions, same}
 use Rattle.ledger_model.specs.Book.{Place, free, Desk, closed, working, Book, fresh, place, desk, ticksOf, isDesk}
-use Rattle.ledger_model.specs.Step.{Call, Enrol, Ask, Open, Mark, Save, Drop, Strike, Answer, done, refused, accepted, Reply, step, Entry, _⇒_, callOf, run, bookAfter}
+use Rattle.ledger_model.specs.Step.{Call, Enrol, Ask, Open, Mark, Save, Drop, Strike, Answer, done}
+use Rattle.ledger_model.specs.Step.{refused, accepted, Reply, step, Entry, _⇒_, callOf, run, bookAfter}
 use Rattle.ledger_model.specs.Stale.{openedBy, later, lastOpened, LastOpen, Overtaken}
 use Rattle.ledger_model.specs.Claim.{AsOpened}
 use Rattle.ledger_model.proofs.Basics.{by-test, same-true, same-refl, not-open, put-all, idle-desk}
 use Rattle.ledger_model.proofs.Steps.{save-step}
-use Rattle.ledger_model.proofs.Outcome.{Outcome, refusal, enrolment, asking, opening, unopened, unmarked, marking, saving, stale, dropping, striking, outcome}
+use Rattle.ledger_model.proofs.Outcome.{Outcome, refusal, enrolment, asking, opening, unopened, unmarked}
+use Rattle.ledger_model.proofs.Outcome.{marking, saving, stale, dropping, striking, outcome}
 use Rattle.ledger_model.proofs.Replay.{inLog, Inv, NotOpen, free-not-open, transaction-snoc, good, fresh-inv}
 
 -- ---- one more entry in a log
@@ -205,7 +207,8 @@ watch-run [] past b is h w = rw append-nil w
 watch-run (c ∷ calls) past b is h w =
     rw
     (← append-snoc past (c ⇒ step c b .answer) (run (step c b .book) calls .log))
-    (watch-run calls _ _ (ap (λ x. step c x .book) is ∙ sym (book-snoc past fresh c _)) (λ d. rw (transaction-snoc d [] past) (good b past h (outcome c b) .inv d)) (watch past b is h w (outcome c b)))
+    (watch-run calls _ _ (ap (λ x. step c x .book) is ∙ sym (book-snoc past fresh c _))
+    (λ d. rw (transaction-snoc d [] past) (good b past h (outcome c b) .inv d)) (watch past b is h w (outcome c b)))
 
 fresh-is : fresh ≡ bookAfter []
 unfolding run

@@ -14,15 +14,18 @@ use Rattle.keys.specs.Key.{validKey}
 use Rattle.keys.specs.Numbers.{modulus}
 use Rattle.ledger_model.specs.Lists.{only}
 use Rattle.ledger_model.specs.Positions.{position, Positions, noTicks, same, size}
-use Rattle.ledger_model.specs.Book.{Place, free, row, Desk, closed, working, Book, fresh, place, desk, ticksOf, withTicks, hasKey, allUsed, lowestFree, anyHasOpen}
-use Rattle.ledger_model.specs.Step.{Call, Enrol, Ask, Open, Mark, Save, Drop, Strike, Tick, Untick, Answer, done, refused, Reply, refusals, effect, afterRefusal, step, Entry, _⇒_, callOf, run}
+use Rattle.ledger_model.specs.Book.{Place, free, row, Desk, closed, working, Book, fresh}
+use Rattle.ledger_model.specs.Book.{place, desk, ticksOf, withTicks, hasKey, allUsed, lowestFree, anyHasOpen}
+use Rattle.ledger_model.specs.Step.{Call, Enrol, Ask, Open, Mark, Save, Drop, Strike, Tick, Untick, Answer}
+use Rattle.ledger_model.specs.Step.{done, refused, Reply, refusals, effect, afterRefusal, step, Entry, _⇒_, callOf, run}
 use Rattle.ledger_model.specs.History.{noted, transactionFrom, transaction}
 use Rattle.ledger_model.specs.Stale.{openedBy, lastOpened}
 use Rattle.ledger_model.specs.WellFormed.{WellFormed}
 use Rattle.ledger_model.specs.Chain.{Chain}
 use Rattle.ledger_model.specs.Tally.{marked, markCount, strikes, struckIn, counted, savedFrom, savedTicks, savedUnticks, ticked, Tallies}
 use Rattle.ledger_model.proofs.Basics.{by-test, same-true, row-in, HasRow, has-row, put-all, idle-desk}
-use Rattle.ledger_model.proofs.Outcome.{Outcome, refusal, enrolment, asking, opening, unopened, unmarked, marking, saving, stale, dropping, striking, outcome}
+use Rattle.ledger_model.proofs.Outcome.{Outcome, refusal, enrolment, asking, opening, unopened, unmarked}
+use Rattle.ledger_model.proofs.Outcome.{marking, saving, stale, dropping, striking, outcome}
 use Rattle.ledger_model.proofs.WellFormed.{well-formed, fresh-well-formed}
 use Rattle.ledger_model.proofs.Replay.{transaction-snoc}
 use Rattle.ledger_model.proofs.Stale.{lastOpened-append, refused-opens}

@@ -13,11 +13,13 @@ use lib.Seq.{getD-set-same, getD-set-other}
 use borrow.Author.Tests.{eqb-false, ltb-true}
 use Rattle.keys.specs.Numbers.{modulus}
 use Rattle.ledger_model.specs.Positions.{rowLength, Positions, noTicks}
-use Rattle.ledger_model.specs.Book.{Place, free, row, Desk, closed, working, Book, fresh, place, desk, putPlace, putDesk, isFree, withTicks, hasKey, lowestFree, anyHasOpen}
+use Rattle.ledger_model.specs.Book.{Place, free, row, Desk, closed, working, Book, fresh, place}
+use Rattle.ledger_model.specs.Book.{desk, putPlace, putDesk, isFree, withTicks, hasKey, lowestFree, anyHasOpen}
 use Rattle.ledger_model.specs.Step.{Call, Reply, step, run}
 use Rattle.ledger_model.specs.WellFormed.{IsSet, PlaceOk, DeskOk, keyOf, WellFormed}
 use Rattle.ledger_model.proofs.Basics.{or-false, not-open, put-all, put-same, read-replicate}
-use Rattle.ledger_model.proofs.Outcome.{Admitted, Outcome, refusal, enrolment, asking, opening, unopened, unmarked, marking, saving, stale, dropping, striking, outcome}
+use Rattle.ledger_model.proofs.Outcome.{Admitted, Outcome, refusal, enrolment, asking, opening, unopened}
+use Rattle.ledger_model.proofs.Outcome.{unmarked, marking, saving, stale, dropping, striking, outcome}
 
 -- A key that is new is the key of no place.
 absent : (ps : List Place) (key r : ℕ) → hasKey key ps ≡ false → keyOf (getD ps r free) ≢ some key
@@ -65,7 +67,9 @@ module _ (b : Book) (s : WellFormed b) where
       record {
         places-count = rw length-set (s .places-count);
         desks-count = s .desks-count;
-        place-ok = put-all free (λ q. PlaceOk) (b .places) r new tt (a .is-valid, ltb-true first (modulus key) (a .is-number), noTicks-length) (λ q n. s .place-ok q);
+        place-ok =
+            put-all free (λ q. PlaceOk) (b .places) r new tt (a .is-valid, ltb-true first (modulus key) (a .is-number), noTicks-length)
+            (λ q n. s .place-ok q);
         desk-ok = λ d. desks-keep (b .places) _ (desk b d) (λ q opened worked x. row-stays (b .places) r q new refl) (s .desk-ok d);
         keys-differ = λ q₁ q₂ k e₁ e₂. differ q₁ q₂ k (read q₁ k e₁) (read q₂ k e₂);
       }

@@ -9,7 +9,9 @@ use Rattle.refusals.specs.Judge.{Rule, _when_, verdict}
 use Rattle.keys.specs.Key.{validKey}
 use Rattle.keys.specs.Numbers.{isNumber}
 use Rattle.ledger_model.specs.Positions.{noTicks, has, same, inRow}
-use Rattle.ledger_model.specs.Book.{free, row, closed, working, Book, fresh, place, desk, putPlace, putDesk, isFree, ticksOf, withTicks, isDesk, isOpen, placeOf, openedOf, workedOf, withWorked, openPlace, hasKey, placeWith, allUsed, lowestFree, anyHasOpen, positionAt}
+use Rattle.ledger_model.specs.Book.{free, row, closed, working, Book, fresh, place, desk, putPlace}
+use Rattle.ledger_model.specs.Book.{putDesk, isFree, ticksOf, withTicks, isDesk, isOpen, placeOf, openedOf, workedOf}
+use Rattle.ledger_model.specs.Book.{withWorked, openPlace, hasKey, placeWith, allUsed, lowestFree, anyHasOpen, positionAt}
 use Rattle.ledger_model.specs.Counts.{placeReport, firstGapFrom}
 
 -- ---- calls and answers

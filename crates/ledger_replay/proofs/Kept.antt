@@ -14,7 +14,8 @@ use Rattle.keys.proofs.Laws.{below-valid}
 use Rattle.keys.proofs.Numbers.{modulus-fits}
 use Rattle.ledger_model.specs.Positions.{Positions, inRow, position}
 use Rattle.ledger_model.specs.Book.{Place, free, row, Book, place, isDesk, positionAt, lowestFree}
-use Rattle.ledger_model.specs.Step.{Find, RowReport, FirstGap, Call, Enrol, Ask, Open, Mark, Save, Drop, Strike, Answer, gave, done, refused, Reply, reply, refusals, effect, afterRefusal, judged, step}
+use Rattle.ledger_model.specs.Step.{Find, RowReport, FirstGap, Call, Enrol, Ask, Open, Mark, Save, Drop, Strike}
+use Rattle.ledger_model.specs.Step.{Answer, gave, done, refused, Reply, reply, refusals, effect, afterRefusal, judged, step}
 use Rattle.ledger_model.specs.WellFormed.{WellFormed}
 use Rattle.ledger_model.proofs.Basics.{row-in, HasRow, has-row}
 use Rattle.ledger_model.proofs.Numbers.{outside}

@@ -14,7 +14,8 @@ use Rattle.octets.proofs.Parts.{number-first, number-second, number-bytes}
 use Rattle.ledger_model.specs.Step.{Call, Enrol, Ask, Open, Mark, Save, Drop, Strike, Answer, gave, done, atRow, refused, Entry, _⇒_}
 use Rattle.ledger_layout.proofs.Parts.{number-within}
 use Rattle.ledger_replay.specs.declared.Line.{Line}
-use Rattle.ledger_replay.specs.Trace.{numberSize, recordAt, keyAt, keySize, entrySize, lineAt, isCall, deskRight, rowRight, numberRight, keyRight, lineRight, callIn, answerIn, entryIn}
+use Rattle.ledger_replay.specs.Trace.{numberSize, recordAt, keyAt, keySize, entrySize, lineAt, isCall, deskRight}
+use Rattle.ledger_replay.specs.Trace.{rowRight, numberRight, keyRight, lineRight, callIn, answerIn, entryIn}
 use Rattle.ledger_replay.specs.Record.{isKept, answerNumber, answeredRow, markCall, lineOf, lineBytes}
 use Rattle.ledger_replay.specs.Laws.{isRefusal, rowFits, nothingFits, answerFits, fits}
 

@@ -11,7 +11,8 @@ use Rattle.refusals.specs.Judge.{judge}
 use Rattle.octets.proofs.Laws.{and-split}
 use Rattle.ledger_model.specs.Lists.{only}
 use Rattle.ledger_model.specs.Book.{Book, fresh}
-use Rattle.ledger_model.specs.Step.{Call, Enrol, Open, Tick, Untick, Save, Drop, Strike, Answer, gave, done, refused, answerWords, step, Entry, _⇒_, callOf, Run, run, bookAfter}
+use Rattle.ledger_model.specs.Step.{Call, Enrol, Open, Tick, Untick, Save, Drop, Strike, Answer, gave}
+use Rattle.ledger_model.specs.Step.{done, refused, answerWords, step, Entry, _⇒_, callOf, Run, run, bookAfter}
 use Rattle.ledger_model.specs.WellFormed.{WellFormed}
 use Rattle.ledger_model.proofs.Outcome.{outcome}
 use Rattle.ledger_model.proofs.WellFormed.{well-formed, fresh-well-formed}
@@ -23,7 +24,8 @@ use Rattle.ledger.specs.Private.{Night}
 use Rattle.ledger.proofs.Demand3.{demand-3}
 use Rattle.ledger_replay.specs.declared.Line.{Line}
 use Rattle.ledger_replay.specs.declared.Told.{Told}
-use Rattle.ledger_replay.specs.Trace.{enrolCall, openCall, tickCall, untickCall, saveCall, dropCall, mostEntries, entryAt, lineAt, isTrace, callIn, answerIn, entriesFrom, entriesOf, count}
+use Rattle.ledger_replay.specs.Trace.{enrolCall, openCall, tickCall, untickCall, saveCall, dropCall, mostEntries, entryAt}
+use Rattle.ledger_replay.specs.Trace.{lineAt, isTrace, callIn, answerIn, entriesFrom, entriesOf, count}
 use Rattle.ledger_replay.specs.Record.{isKept, recorded, traceOf}
 use Rattle.ledger_replay.specs.Replay.{told, sameTold, differs, replayFrom, replayOn}
 use Rattle.ledger_replay.specs.Making.{written}

@@ -16,7 +16,8 @@ use Rattle.octets.specs.Lists.{laid}
 use Rattle.ledger_layout.proofs.Parts.{number-within}
 use Rattle.octets.proofs.Lists.{length-laid, part-laid}
 use Rattle.ledger_replay.specs.declared.Line.{Line}
-use Rattle.ledger_replay.specs.Trace.{numberSize, headerSize, mostEntries, keySize, entrySize, headerNumber, count, entryAt, lineAt, headerRight, lineRight, linesRight, isTrace, entryIn, entriesFrom, entriesOf}
+use Rattle.ledger_replay.specs.Trace.{numberSize, headerSize, mostEntries, keySize, entrySize, headerNumber, count, entryAt}
+use Rattle.ledger_replay.specs.Trace.{lineAt, headerRight, lineRight, linesRight, isTrace, entryIn, entriesFrom, entriesOf}
 use Rattle.ledger_replay.specs.Record.{lineOf, lineBytes, traceHeader, traceOf}
 use Rattle.ledger_replay.specs.Laws.{fits, allFit, ReadsBack, WrittenReadsBack}
 use Rattle.ledger_replay.proofs.Lines.{length-line, Held, line-back, line-within, Good, good}

@@ -1,13 +1,8 @@
 // The call of an entry, made on a right sheet, which it leaves right; and whether it answers as is written. So the sheet is not checked again for each
 // call.
-use crate::DROP;
-use crate::ENROL;
+use crate as replay;
 use crate::Line;
-use crate::OPEN;
-use crate::SAVE;
-use crate::TICK;
 use crate::Told;
-use crate::UNTICK;
 use ledger_sheet::Answer;
 use ledger_sheet::RowAnswer;
 use refusals::number;
@@ -24,7 +19,7 @@ pub fn make(s: &mut [u8], x: Line) -> Told
     requires { ⌜ right (now s) ≡ true ⌝ }
     ensures { λ r. ⌜ (r, now (s .exit)) ≡ made (callIn x) (now (s .entry)) ⌝ }
 {
-    if x.call == ENROL {
+    if x.call == replay::ENROL {
         return tell_row(ledger::judged::enrol(s, true, x.key, x.number));
     }
     tell(make_plain(s, x))
@@ -34,13 +29,13 @@ fn make_plain(s: &mut [u8], x: Line) -> Answer
     requires { ⌜ right (now s) ≡ true ⌝ }
     ensures { λ r. ⌜ (answerWords r, now (s .exit)) ≡ onSheet (call (plainIn x)) (now (s .entry)) ⌝ }
 {
-    if x.call == OPEN {
+    if x.call == replay::OPEN {
         return ledger::judged::open(s, true, x.desk as u32, x.row as u32);
     }
-    if x.call == TICK {
+    if x.call == replay::TICK {
         return ledger::judged::mark(s, true, x.desk as u32, x.number, true);
     }
-    if x.call == UNTICK {
+    if x.call == replay::UNTICK {
         return ledger::judged::mark(s, true, x.desk as u32, x.number, false);
     }
     make_last(s, x)
@@ -50,10 +45,10 @@ fn make_last(s: &mut [u8], x: Line) -> Answer
     requires { ⌜ right (now s) ≡ true ⌝ }
     ensures { λ r. ⌜ (answerWords r, now (s .exit)) ≡ onSheet (call (lastIn x)) (now (s .entry)) ⌝ }
 {
-    if x.call == SAVE {
+    if x.call == replay::SAVE {
         return ledger::judged::save(s, true, x.desk as u32);
     }
-    if x.call == DROP {
+    if x.call == replay::DROP {
         return ledger::judged::drop(s, true, x.desk as u32);
     }
     ledger::judged::strike(s, true, x.row as u32)
@@ -95,7 +90,7 @@ pub fn is_written(x: Line, answered: Told) -> bool
 fn written_row(x: Line) -> u8
     ensures { λ r. ⌜ r ≡ written x .row ⌝ }
 {
-    if x.call != ENROL {
+    if x.call != replay::ENROL {
         return 0;
     }
     if x.answer != 0 {

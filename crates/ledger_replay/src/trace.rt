@@ -1,23 +1,6 @@
 // Whether a slice is a trace, and its entries.
-use crate::ANSWER_AT;
-use crate::COUNT_AT;
-use crate::DESK_AT;
-use crate::DROP;
-use crate::ENROL;
-use crate::ENTRY;
-use crate::HEADER;
-use crate::KEY;
-use crate::KEY_AT;
-use crate::LENGTH_AT;
+use crate as replay;
 use crate::Line;
-use crate::MOST_ENTRIES;
-use crate::OPEN;
-use crate::RECORD_AT;
-use crate::ROW_AT;
-use crate::START_AT;
-use crate::STRIKE;
-use crate::TICK;
-use crate::UNTICK;
 use octets::read_be;
 use octets::read_u32;
 ghost use mathlib.Core.Path.{_≡_};
@@ -28,7 +11,7 @@ ghost use Rattle.ledger_replay.specs.Trace.{headerSize, entrySize, count
 pub fn is_trace(t: &[u8]) -> bool
     ensures { λ r. ⌜ r ≡ isTrace (now (t .entry)) ⌝ }
 {
-    if t.len() < HEADER {
+    if t.len() < replay::HEADER {
         return false;
     }
     if !is_header(t) {
@@ -41,11 +24,11 @@ fn is_header(t: &[u8]) -> bool
     requires { ⌜ headerSize ≤ length (now t) ⌝ }
     ensures { λ r. ⌜ r ≡ headerRight (now (t .entry)) ⌝ }
 {
-    let entries = read_u32(t, COUNT_AT);
-    let size = read_u32(t, LENGTH_AT) as usize == t.len();
-    let few = entries <= MOST_ENTRIES;
-    let filled = t.len() == HEADER + ENTRY * entries as usize;
-    let start = read_u32(t, START_AT) as usize == HEADER;
+    let entries = read_u32(t, replay::COUNT_AT);
+    let size = read_u32(t, replay::LENGTH_AT) as usize == t.len();
+    let few = entries <= replay::MOST_ENTRIES;
+    let filled = t.len() == replay::HEADER + replay::ENTRY * entries as usize;
+    let start = read_u32(t, replay::START_AT) as usize == replay::HEADER;
     size & few & filled & start
 }
 
@@ -54,7 +37,7 @@ pub fn entry_count(t: &[u8]) -> usize
     requires { ⌜ headerSize ≤ length (now t) ⌝ }
     ensures { λ r. ⌜ r ≡ count (now (t .entry)) ⌝ }
 {
-    read_u32(t, COUNT_AT) as usize
+    read_u32(t, replay::COUNT_AT) as usize
 }
 
 fn are_lines(t: &[u8]) -> bool
@@ -64,7 +47,7 @@ fn are_lines(t: &[u8]) -> bool
     let entries = entry_count(t);
     let mut right = true;
     for i in 0..entries {
-        right &= is_line(read_line(t, HEADER + ENTRY * i));
+        right &= is_line(read_line(t, replay::HEADER + replay::ENTRY * i));
     }
     right
 }
@@ -74,13 +57,13 @@ pub fn read_line(t: &[u8], a: usize) -> Line
     requires { ⌜ a + entrySize ≤ length (now t) ⌝ }
     ensures { λ r. ⌜ r ≡ lineAt (now (t .entry)) a ⌝ }
 {
-    let number = read_u32(t, a + RECORD_AT);
-    let key = read_be(t, a + KEY_AT, KEY);
+    let number = read_u32(t, a + replay::RECORD_AT);
+    let key = read_be(t, a + replay::KEY_AT, replay::KEY);
     Line {
         call: t[a],
-        desk: t[a + DESK_AT],
-        row: t[a + ROW_AT],
-        answer: t[a + ANSWER_AT],
+        desk: t[a + replay::DESK_AT],
+        row: t[a + replay::ROW_AT],
+        answer: t[a + replay::ANSWER_AT],
         number,
         key,
     }
@@ -89,13 +72,16 @@ pub fn read_line(t: &[u8], a: usize) -> Line
 fn is_line(x: Line) -> bool
     ensures { λ r. ⌜ r ≡ lineRight x ⌝ }
 {
-    let call = (ENROL <= x.call) & (x.call <= STRIKE);
-    let desk = (x.desk == 0) | ((OPEN <= x.call) & (x.call <= DROP));
+    let call = (replay::ENROL <= x.call) & (x.call <= replay::STRIKE);
+    let desk = (x.desk == 0) | ((replay::OPEN <= x.call) & (x.call <= replay::DROP));
     let row = (x.row == 0)
-        | (x.call == OPEN)
-        | (x.call == STRIKE)
-        | ((x.call == ENROL) & (x.answer == 0));
-    let number = (x.number == 0) | (x.call == ENROL) | (x.call == TICK) | (x.call == UNTICK);
-    let key = (x.key == 0) | (x.call == ENROL);
+        | (x.call == replay::OPEN)
+        | (x.call == replay::STRIKE)
+        | ((x.call == replay::ENROL) & (x.answer == 0));
+    let number = (x.number == 0)
+        | (x.call == replay::ENROL)
+        | (x.call == replay::TICK)
+        | (x.call == replay::UNTICK);
+    let key = (x.key == 0) | (x.call == replay::ENROL);
     call & desk & row & number & key
 }

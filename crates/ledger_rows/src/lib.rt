@@ -1,14 +1,5 @@
 // What is read of a sheet and changes nothing: the row with a key, a free row, a desk's row, a tick.
-use ledger_sheet::BYTE_BITS;
-use ledger_sheet::CLOSED;
-use ledger_sheet::DESK;
-use ledger_sheet::DESK_ROW_AT;
-use ledger_sheet::DESKS;
-use ledger_sheet::DESKS_AT;
-use ledger_sheet::ROW;
-use ledger_sheet::ROWS;
-use ledger_sheet::ROWS_AT;
-use ledger_sheet::TICKS_AT;
+use ledger_sheet as sheet;
 use ledger_sheet::right::is_used;
 use ledger_sheet::right::key_at;
 ghost use mathlib.Core.Path.{_≡_};
@@ -24,12 +15,12 @@ pub fn find_row(s: &[u8], key: u64) -> usize
     requires { ⌜ length (now s) ≡ sheetSize ⌝ }
     ensures { λ r. ⌜ r ≡ rowWith (now (s .entry)) key ⌝ }
 {
-    for i in 0..ROWS {
+    for i in 0..sheet::ROWS {
         if is_row_of(s, key, i) {
             return i;
         }
     }
-    ROWS
+    sheet::ROWS
 }
 
 // Whether row i is used and has the key.
@@ -40,7 +31,7 @@ fn is_row_of(s: &[u8], key: u64, i: usize) -> bool
     if !is_used(s, i) {
         return false;
     }
-    key_at(s, ROWS_AT + ROW * i) == key
+    key_at(s, sheet::ROWS_AT + sheet::ROW * i) == key
 }
 
 // Whether a used row has the key.
@@ -48,7 +39,7 @@ pub fn has_key(s: &[u8], key: u64) -> bool
     requires { ⌜ length (now s) ≡ sheetSize ⌝ }
     ensures { λ r. ⌜ r ≡ hasKey (now (s .entry)) key ⌝ }
 {
-    find_row(s, key) < ROWS
+    find_row(s, key) < sheet::ROWS
 }
 
 // The lowest free row, or 32 where there is none.
@@ -56,12 +47,12 @@ pub fn free_row(s: &[u8]) -> usize
     requires { ⌜ length (now s) ≡ sheetSize ⌝ }
     ensures { λ r. ⌜ r ≡ freeRow (now (s .entry)) ⌝ }
 {
-    for i in 0..ROWS {
+    for i in 0..sheet::ROWS {
         if !is_used(s, i) {
             return i;
         }
     }
-    ROWS
+    sheet::ROWS
 }
 
 // Whether desk d is closed.
@@ -69,7 +60,7 @@ pub fn is_closed(s: &[u8], d: usize) -> bool
     requires { ⌜ (length (now s) ≡ sheetSize) × (d < deskCount) ⌝ }
     ensures { λ r. ⌜ r ≡ isClosed (now (s .entry)) d ⌝ }
 {
-    s[DESKS_AT + DESK * d] == CLOSED
+    s[sheet::DESKS_AT + sheet::DESK * d] == sheet::CLOSED
 }
 
 // Whether no desk has the row open.
@@ -78,7 +69,7 @@ pub fn is_idle(s: &[u8], row: usize) -> bool
     ensures { λ r. ⌜ r ≡ noneHasOpen (now (s .entry)) row ⌝ }
 {
     let mut idle = true;
-    for d in 0..DESKS {
+    for d in 0..sheet::DESKS {
         idle &= is_closed(s, d) | (desk_row(s, d) != row);
     }
     idle
@@ -89,7 +80,7 @@ pub fn desk_row(s: &[u8], d: usize) -> usize
     requires { ⌜ (length (now s) ≡ sheetSize) × (d < deskCount) ⌝ }
     ensures { λ r. ⌜ r ≡ deskRow (now (s .entry)) d ⌝ }
 {
-    s[DESKS_AT + DESK * d + DESK_ROW_AT] as usize
+    s[sheet::DESKS_AT + sheet::DESK * d + sheet::DESK_ROW_AT] as usize
 }
 
 // Whether position i of the row or the copy at offset a is ticked.
@@ -97,7 +88,7 @@ pub fn is_ticked(s: &[u8], a: usize, i: usize) -> bool
     requires { ⌜ (a + rowSize ≤ length (now s)) × (i < rowLength) ⌝ }
     ensures { λ r. ⌜ r ≡ tickedAt (now (s .entry)) a i ⌝ }
 {
-    s[a + TICKS_AT + i / BYTE_BITS] / tick_bit(i % BYTE_BITS) % 2 == 1
+    s[a + sheet::TICKS_AT + i / sheet::BYTE_BITS] / tick_bit(i % sheet::BYTE_BITS) % 2 == 1
 }
 
 // The bit of position k of a tick byte.

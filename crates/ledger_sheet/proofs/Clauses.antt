@@ -12,7 +12,10 @@ use lib.ListN.{length}
 use borrow.Author.Tests.{eq-eqb, ne-eqb, lt-leb, le-leb, eqb-true, eqb-false, ltb-true}
 use Rattle.octets.specs.Octets.{all, zeroAt}
 use Rattle.octets.proofs.Laws.{and-split, and-true, and-assoc, all-at, all-next, zero-join}
-use Rattle.ledger_sheet.specs.Sheet.{sheetSize, rowSize, rowCount, rowsStart, deskSize, deskCount, deskZerosAt, deskZerosSize, openedAt, workedAt, desksStart, rowAt, deskAt, used, isUsed, isRow, deskByte, deskRow, isClosed, carries, count, headerRight, countRight, validKeys, differentKeys, firstNumbers, freeZero, closedZero, deskMarked, openNames, deskRight, right}
+use Rattle.ledger_sheet.specs.Sheet.{sheetSize, rowSize, rowCount, rowsStart, deskSize, deskCount, deskZerosAt, deskZerosSize}
+use Rattle.ledger_sheet.specs.Sheet.{openedAt, workedAt, desksStart, rowAt, deskAt, used, isUsed, isRow}
+use Rattle.ledger_sheet.specs.Sheet.{deskByte, deskRow, isClosed, carries, count, headerRight, countRight, validKeys}
+use Rattle.ledger_sheet.specs.Sheet.{differentKeys, firstNumbers, freeZero, closedZero, deskMarked, openNames, deskRight, right}
 use Rattle.ledger_sheet.specs.Judging.{rowsRight, Zeros}
 use Rattle.ledger_sheet.proofs.Desks.{closed-is, open-is, UpTo, longer, ended}
 

@@ -15,7 +15,8 @@ use Rattle.octets.specs.Octets.{all, numberAt, zeroAt}
 use Rattle.octets.proofs.Laws.{and-true, and-false, and-assoc, all-none, all-next, all-both, all-each, zero-join}
 use Rattle.keys.specs.Key.{validKey}
 use Rattle.keys.specs.Numbers.{isNumber}
-use Rattle.ledger_sheet.specs.Sheet.{usedWordSize, rowSize, rowCount, rowAt, desksStart, used, isUsed, keyAt, firstNumberAt, count, countRight, isNew, validKeys, differentKeys, firstNumbers, freeZero}
+use Rattle.ledger_sheet.specs.Sheet.{usedWordSize, rowSize, rowCount, rowAt, desksStart, used, isUsed, keyAt}
+use Rattle.ledger_sheet.specs.Sheet.{firstNumberAt, count, countRight, isNew, validKeys, differentKeys, firstNumbers, freeZero}
 use Rattle.ledger_sheet.specs.Judging.{rowsRight, Zeros, Marked, markCount}
 use Rattle.ledger_sheet.proofs.Clauses.{count-none, count-next}
 use Rattle.ledger_sheet.proofs.Ranges.{Read, none-read, read-more, read-past, zero-within, zero-number}
@@ -45,7 +46,9 @@ module _ (keys marks : List ℕ) (n key : ℕ) (h : Marked keys marks n) where
         where
           by : (b : Bool) → eqb (key % markCount) (getD keys j 0 % markCount) ≡ b → getD (set marks (key % markCount) 1) (getD keys j 0 % markCount) 0 ≡ 1
           by true e = rw (← eqb-true (key % markCount) (getD keys j 0 % markCount) e) (getD-set-same marks (key % markCount) 1 0 place)
-          by false e = getD-set-other marks (key % markCount) (getD keys j 0 % markCount) 1 0 (λ q'. eqb-false (key % markCount) (getD keys j 0 % markCount) e (sym q')) ∙ h j q
+          by false e =
+              let apart = eqb-false (key % markCount) (getD keys j 0 % markCount) e in
+              getD-set-other marks (key % markCount) (getD keys j 0 % markCount) 1 0 (λ q'. apart (sym q')) ∙ h j q
 
 -- ---- the first i rows
 
@@ -202,7 +205,8 @@ module _ (s : List ℕ) (i found : ℕ) (right : Bool) (counted : found ≡ coun
   unfolding countRight validKeys differentKeys firstNumbers freeZero
   counted-all =
       rw (rows-all s rowCount)
-      (move (eqb (count rowCount (isUsed s)) (used s)) (all rowCount (validRow s)) (all rowCount (newRow s)) (all rowCount (numberedRow s)) (all rowCount (zeroRow s)))
+      (move (eqb (count rowCount (isUsed s)) (used s)) (all rowCount (validRow s)) (all rowCount (newRow s)) (all rowCount (numberedRow s))
+      (all rowCount (zeroRow s)))
 
   -- the header's count is reached
   pub rows-found : i ≤ rowCount → found ≡ used s → Zeros s (right && eqb found (used s)) (rowAt i)

@@ -1,33 +1,6 @@
 // Whether a slice is a right sheet. Every call judges the whole sheet, so bytes and keys are gathered with no early exit
 // and LLVM vectorizes the loops.
-use crate::CLOSED;
-use crate::DESK;
-use crate::DESK_COUNT_AT;
-use crate::DESK_ROW_AT;
-use crate::DESK_ZEROS;
-use crate::DESK_ZEROS_AT;
-use crate::DESKS;
-use crate::DESKS_AT;
-use crate::DESKS_START_AT;
-use crate::FIRST;
-use crate::FIRST_AT;
-use crate::KEY;
-use crate::KEY_AT;
-use crate::LENGTH_AT;
-use crate::NUMBER;
-use crate::OPEN;
-use crate::OPENED_AT;
-use crate::ROW;
-use crate::ROW_COUNT_AT;
-use crate::ROWS;
-use crate::ROWS_AT;
-use crate::ROWS_START_AT;
-use crate::SHEET;
-use crate::TICKS_AT;
-use crate::USED;
-use crate::USED_AT;
-use crate::USED_WORD;
-use crate::WORKED_AT;
+use crate as sheet;
 use octets::is_long_zero;
 use octets::is_same;
 use octets::is_zero;
@@ -40,13 +13,17 @@ ghost use lib.ListN.{length, getD};
 ghost use Rattle.octets.specs.Octets.{all};
 ghost use Rattle.keys.specs.Key.{validKey};
 ghost use Rattle.keys.specs.Numbers.{isNumber};
-ghost use Rattle.ledger_sheet.specs.Sheet.{sheetSize, rowSize, rowCount, deskCount, used, isUsed, isRow, keyAt, firstNumberAt, deskByte, headerRight, deskRight, right};
+ghost use Rattle.ledger_sheet.specs.Sheet.{sheetSize, rowSize, rowCount, deskCount, used, isUsed, isRow};
+ghost use Rattle.ledger_sheet.specs.Sheet.{keyAt, firstNumberAt, deskByte, headerRight, deskRight, right};
 ghost use Rattle.ledger_sheet.specs.Judging.{rowsRight, Zeros, Marked};
 
 // A key leaves its mark at its remainder by this number: a key whose place has none is not among those before it.
 const MARKS: usize = 64;
 
 const MARKED: u8 = 1;
+
+// What a desk's copy carries of its row: all before the ticks.
+const CARRIED: usize = sheet::TICKS_AT;
 
 // What has been judged of the bytes before an index, and where the range of zeros begins that ends there and has yet to be looked at.
 struct Judged {
@@ -58,7 +35,7 @@ struct Judged {
 pub fn is_sheet(s: &[u8]) -> bool
     ensures { λ r. ⌜ r ≡ right (now (s .entry)) ⌝ }
 {
-    if s.len() != SHEET {
+    if s.len() != sheet::SHEET {
         return false;
     }
     if !is_header(s) {
@@ -72,11 +49,11 @@ fn is_header(s: &[u8]) -> bool
     requires { ⌜ length (now s) ≡ sheetSize ⌝ }
     ensures { λ r. ⌜ r ≡ headerRight (now (s .entry)) ⌝ }
 {
-    let size = read_be(s, LENGTH_AT, NUMBER) == SHEET as u64;
-    let rows = read_be(s, ROW_COUNT_AT, NUMBER) == ROWS as u64;
-    let rows_start = read_be(s, ROWS_START_AT, NUMBER) == ROWS_AT as u64;
-    let desks = read_be(s, DESK_COUNT_AT, NUMBER) == DESKS as u64;
-    let desks_start = read_be(s, DESKS_START_AT, NUMBER) == DESKS_AT as u64;
+    let size = read_be(s, sheet::LENGTH_AT, sheet::NUMBER) == sheet::SHEET as u64;
+    let rows = read_be(s, sheet::ROW_COUNT_AT, sheet::NUMBER) == sheet::ROWS as u64;
+    let rows_start = read_be(s, sheet::ROWS_START_AT, sheet::NUMBER) == sheet::ROWS_AT as u64;
+    let desks = read_be(s, sheet::DESK_COUNT_AT, sheet::NUMBER) == sheet::DESKS as u64;
+    let desks_start = read_be(s, sheet::DESKS_START_AT, sheet::NUMBER) == sheet::DESKS_AT as u64;
     size & rows & rows_start & desks & desks_start
 }
 
@@ -85,7 +62,7 @@ pub fn rows_used(s: &[u8]) -> usize
     requires { ⌜ length (now s) ≡ sheetSize ⌝ }
     ensures { λ r. ⌜ r ≡ used (now (s .entry)) ⌝ }
 {
-    read_be(s, USED_AT, NUMBER) as usize
+    read_be(s, sheet::USED_AT, sheet::NUMBER) as usize
 }
 
 // Whether the row at place i is used.
@@ -93,7 +70,7 @@ pub fn is_used(s: &[u8], i: usize) -> bool
     requires { ⌜ (length (now s) ≡ sheetSize) × (i < rowCount) ⌝ }
     ensures { λ r. ⌜ r ≡ isUsed (now (s .entry)) i ⌝ }
 {
-    read_be(s, ROWS_AT + ROW * i, USED_WORD) == USED
+    read_be(s, sheet::ROWS_AT + sheet::ROW * i, sheet::USED_WORD) == sheet::USED
 }
 
 // Whether there is a row with the number i.
@@ -101,7 +78,7 @@ pub fn is_row(s: &[u8], i: usize) -> bool
     requires { ⌜ length (now s) ≡ sheetSize ⌝ }
     ensures { λ r. ⌜ r ≡ isRow (now (s .entry)) i ⌝ }
 {
-    if i >= ROWS {
+    if i >= sheet::ROWS {
         return false;
     }
     is_used(s, i)
@@ -112,7 +89,7 @@ pub fn key_at(s: &[u8], a: usize) -> u64
     requires { ⌜ a + rowSize ≤ length (now s) ⌝ }
     ensures { λ r. ⌜ r ≡ keyAt (now (s .entry)) a ⌝ }
 {
-    read_be(s, a + KEY_AT, KEY)
+    read_be(s, a + sheet::KEY_AT, sheet::KEY)
 }
 
 // The first number of the row or the copy at offset a.
@@ -120,7 +97,7 @@ pub fn first_at(s: &[u8], a: usize) -> u32
     requires { ⌜ a + rowSize ≤ length (now s) ⌝ }
     ensures { λ r. ⌜ r ≡ firstNumberAt (now (s .entry)) a ⌝ }
 {
-    read_be(s, a + FIRST_AT, FIRST) as u32
+    read_be(s, a + sheet::FIRST_AT, sheet::FIRST) as u32
 }
 
 // The rows, up to the last that the header counts: used ones with valid, different keys and first numbers of their streams, and free
@@ -130,16 +107,16 @@ fn are_rows(s: &[u8]) -> Judged
     ensures { λ r. ⌜ Zeros (now (s .entry)) (r .right) (r .zeros) ⌝ }
 {
     let used = rows_used(s);
-    let mut keys = [0u64; ROWS];
+    let mut keys = [0u64; sheet::ROWS];
     let mut marks = [0u8; MARKS];
     let mut found = 0;
     let mut right = true;
     let mut i = 0;
-    while i < ROWS {
+    while i < sheet::ROWS {
         if found == used {
             break;
         }
-        let row = ROWS_AT + ROW * i;
+        let row = sheet::ROWS_AT + sheet::ROW * i;
         if is_used(s, i) {
             let key = key_at(s, row);
             right &= is_stream(key, first_at(s, row));
@@ -148,13 +125,13 @@ fn are_rows(s: &[u8]) -> Judged
             marks[(key % MARKS as u64) as usize] = MARKED;
             found += 1;
         } else {
-            right &= is_zero(s, row, ROW);
+            right &= is_zero(s, row, sheet::ROW);
         }
         i += 1;
     }
     Judged {
         right: right & (found == used),
-        zeros: ROWS_AT + ROW * i,
+        zeros: sheet::ROWS_AT + sheet::ROW * i,
     }
 }
 
@@ -166,7 +143,7 @@ fn is_stream(key: u64, first: u32) -> bool
 }
 
 // Whether none of the first n keys, which have left their marks, is the key given.
-fn is_new(keys: &[u64; ROWS], marks: &[u8; MARKS], n: usize, key: u64) -> bool
+fn is_new(keys: &[u64; sheet::ROWS], marks: &[u8; MARKS], n: usize, key: u64) -> bool
     requires { ⌜ (n ≤ rowCount) × Marked (now keys) (now marks) n ⌝ }
     ensures { λ r. ⌜ r ≡ all n (λ j. not (eqb (getD (now (keys .entry)) j 0) key)) ⌝ }
 {
@@ -177,7 +154,7 @@ fn is_new(keys: &[u64; ROWS], marks: &[u8; MARKS], n: usize, key: u64) -> bool
 }
 
 // The same by looking at each. (Public for the converter of old sheets.)
-pub fn is_other(keys: &[u64; ROWS], n: usize, key: u64) -> bool
+pub fn is_other(keys: &[u64; sheet::ROWS], n: usize, key: u64) -> bool
     requires { ⌜ n ≤ rowCount ⌝ }
     ensures { λ r. ⌜ r ≡ all n (λ j. not (eqb (getD (now (keys .entry)) j 0) key)) ⌝ }
 {
@@ -196,15 +173,15 @@ fn are_desks(s: &[u8], judged: Judged) -> bool
 {
     let mut right = judged.right;
     let mut zeros = judged.zeros;
-    for d in 0..DESKS {
-        let desk = DESKS_AT + DESK * d;
-        if s[desk] != CLOSED {
+    for d in 0..sheet::DESKS {
+        let desk = sheet::DESKS_AT + sheet::DESK * d;
+        if s[desk] != sheet::CLOSED {
             right &= is_long_zero(s, zeros, desk - zeros);
             right &= is_open_desk(s, d);
-            zeros = desk + DESK;
+            zeros = desk + sheet::DESK;
         }
     }
-    right & is_long_zero(s, zeros, SHEET - zeros)
+    right & is_long_zero(s, zeros, sheet::SHEET - zeros)
 }
 
 // Whether a desk that is not closed is marked open, has its two zeros, names a used row, and both its copies carry that row's word, key
@@ -214,14 +191,26 @@ fn is_open_desk(s: &[u8], d: usize) -> bool
     requires { ⌜ (d < deskCount) × (deskByte (now s) d ≡ 0 → ⊥) ⌝ }
     ensures { λ r. ⌜ r ≡ deskRight (now (s .entry)) d ⌝ }
 {
-    let a = DESKS_AT + DESK * d;
-    let row = s[a + DESK_ROW_AT] as usize;
+    let a = sheet::DESKS_AT + sheet::DESK * d;
+    let row = s[a + sheet::DESK_ROW_AT] as usize;
     if !is_row(s, row) {
         return false;
     }
-    let open = s[a] == OPEN;
-    let zeros = is_zero(s, a + DESK_ZEROS_AT, DESK_ZEROS);
-    let opened = is_same(s, ROWS_AT + ROW * row, s, a + OPENED_AT, TICKS_AT);
-    let worked = is_same(s, ROWS_AT + ROW * row, s, a + WORKED_AT, TICKS_AT);
+    let open = s[a] == sheet::OPEN;
+    let zeros = is_zero(s, a + sheet::DESK_ZEROS_AT, sheet::DESK_ZEROS);
+    let opened = is_same(
+        s,
+        sheet::ROWS_AT + sheet::ROW * row,
+        s,
+        a + sheet::OPENED_AT,
+        CARRIED,
+    );
+    let worked = is_same(
+        s,
+        sheet::ROWS_AT + sheet::ROW * row,
+        s,
+        a + sheet::WORKED_AT,
+        CARRIED,
+    );
     open & zeros & opened & worked
 }

@@ -16,8 +16,11 @@ write-be-requires c κs = search needs
 
 write-rows-requires : tie.Need-write-rows-requires
 write-rows-requires c κs =
-    let used = c .before .before .before .before .before .before .before .before .before .rows-used .ensures in
-    ((c .before .before .before .before .before .before .before .before .before .before .before .before .pre .1, used), fresh-laid _ (c .before .before .before .before .before .before .before .make-fresh .ensures) (rw used at (c .before .before .before .write-be .ensures)))
+    let counted = c .before .before .before in
+    let made = counted .before .before .before .before in
+    let read = made .before .before in
+    let used = read .rows-used .ensures in
+    ((read .before .before .before .pre .1, used), fresh-laid _ (made .make-fresh .ensures) (rw used at (counted .write-be .ensures)))
 
 write-desks-requires : tie.Need-write-desks-requires
 write-desks-requires c κs = search needs
@@ -26,7 +29,11 @@ same-length : tie.Need-same-length
 same-length c = search needs
 
 returns : tie.Need-returns
-returns c = all-laid _ (c .before .before .before .before .before .before .before .before .before .before .before .before .before .before .before .before .before .before .before .pre .1) _ (c .before .before .write-desks .ensures)
+returns c =
+    let desks = c .before .before in
+    let counted = desks .before .before .before .before .before .before .before .before in
+    let start = counted .before .before .before .before .before .before .before .before .before in
+    all-laid _ (start .pre .1) _ (desks .write-desks .ensures)
 
 pub lay-out-spec : {M : Type 1} → statement M
 lay-out-spec =

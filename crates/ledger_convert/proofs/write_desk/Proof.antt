@@ -56,7 +56,8 @@ returns c =
     let start = c .before .before .before .before .before .before .before .before .before .before .before .before .before in
     let g = start .args in
     desk-written _ _ _ _ _ (start .pre .0 .0) (start .pre .0 .1) (length-row _ _ _ (start .pre .1 .0)) (length-row _ _ _ (start .pre .1 .1))
-    (c .before .before .before .before .before .before .before .before .before .before .clear .ensures) (c .before .before .before .before .before .before .write-row .ensures) (c .before .before .write-row2 .ensures)
+    (c .before .before .before .before .before .before .before .before .before .before .clear .ensures)
+    (c .before .before .before .before .before .before .write-row .ensures) (c .before .before .write-row2 .ensures)
 
 pub write-desk-spec : {M : Type 1} → statement M
 write-desk-spec =

@@ -38,7 +38,9 @@ sub-read-row : tie.Need-sub-read-row Inv-loop μ-loop
 sub-read-row c = omega arith
 
 read-row-requires : tie.Need-read-row-requires Inv-loop μ-loop
-read-row-requires c κs = omega (arith, long (c .before .before .before .before .before .before .args .old .now) (c .before .before .before .before .before .before .pre .0))
+read-row-requires c κs =
+    let start = c .before .before .before .before .before .before in
+    omega (arith, long (start .args .old .now) (start .pre .0))
 
 add-read-row-2 : tie.Need-add-read-row-2 Inv-loop μ-loop
 add-read-row-2 c = omega arith
@@ -47,13 +49,17 @@ sub-read-row-2 : tie.Need-sub-read-row-2 Inv-loop μ-loop
 sub-read-row-2 c = omega arith
 
 read-row-requires-2 : tie.Need-read-row-requires-2 Inv-loop μ-loop
-read-row-requires-2 c κs = omega (arith, long (c .before .before .before .before .before .before .before .args .old .now) (c .before .before .before .before .before .before .before .pre .0))
+read-row-requires-2 c κs =
+    let start = c .before .before .before .before .before .before .before in
+    omega (arith, long (start .args .old .now) (start .pre .0))
 
 add-write-desk : tie.Need-add-write-desk Inv-loop μ-loop
 add-write-desk c = omega arith
 
 shared-slice-read-write-desk : tie.Need-shared-slice-read-write-desk Inv-loop μ-loop
-shared-slice-read-write-desk c = omega (arith, long (c .before .before .before .before .before .before .before .before .before .before .args .old .now) (c .before .before .before .before .before .before .before .before .before .before .pre .0))
+shared-slice-read-write-desk c =
+    let start = c .before .before .before .before .before .before .before .before .before .before in
+    omega (arith, long (start .args .old .now) (start .pre .0))
 
 write-desk-requires : tie.Need-write-desk-requires Inv-loop μ-loop
 write-desk-requires c κs =
@@ -81,12 +87,14 @@ loop-again c =
     let turn = c .before .before .before .loop in
     let d = turn .d in
     let from = Old.desksStart + Old.deskSize * d in
+    let bytes = c .before .before .before .before .before .shared-slice-known .given in
     ⊎-elim
     (λ w. (
       omega arith,
       rw (w .8)
           (desk-laid old (turn .new) rowCount d (turn .inv .1) _ _ (omega arith)
-          (desk-copied old right (c .before .before .before .before .before .shared-slice-known .given) d (from + openedAt - usedWordSize) (from + Old.workedAt - usedWordSize) (omega arith) (ne-eqb _ _ (w .0 .taken)) (omega arith) (omega arith) _ _ (w .1 .ensures) (w .2 .ensures))
+          (desk-copied old right bytes d (from + openedAt - usedWordSize) (from + Old.workedAt - usedWordSize) (omega arith) (ne-eqb _ _ (w .0 .taken))
+          (omega arith) (omega arith) _ _ (w .1 .ensures) (w .2 .ensures))
           (w .5 .ensures)),
     ))
     (λ w. (omega arith, rw (w .1) (closed-laid old (turn .new) rowCount d (turn .inv .1) (eq-eqb _ _ (w .0 .left)))))

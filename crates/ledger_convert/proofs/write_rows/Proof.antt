@@ -21,29 +21,42 @@ loop-holds : tie.Need-loop-holds Inv-loop μ-loop
 loop-holds c = (omega arith, c .before .before .pre .1)
 
 mul-read-row : tie.Need-mul-read-row Inv-loop μ-loop
-mul-read-row c = omega (arith, few (c .before .before .before .before .args .old .now) (c .before .before .before .before .pre .0 .0), long (c .before .before .before .before .args .old .now) (c .before .before .before .before .pre .0 .0), c .before .before .before .before .pre .0 .1)
+mul-read-row c =
+    let start = c .before .before .before .before in
+    omega (arith, few (start .args .old .now) (start .pre .0 .0), long (start .args .old .now) (start .pre .0 .0), start .pre .0 .1)
 
 add-read-row : tie.Need-add-read-row Inv-loop μ-loop
-add-read-row c = omega (arith, few (c .before .before .before .before .args .old .now) (c .before .before .before .before .pre .0 .0), long (c .before .before .before .before .args .old .now) (c .before .before .before .before .pre .0 .0), c .before .before .before .before .pre .0 .1)
+add-read-row c =
+    let start = c .before .before .before .before in
+    omega (arith, few (start .args .old .now) (start .pre .0 .0), long (start .args .old .now) (start .pre .0 .0), start .pre .0 .1)
 
 sub-read-row : tie.Need-sub-read-row Inv-loop μ-loop
 sub-read-row c = omega arith
 
 read-row-requires : tie.Need-read-row-requires Inv-loop μ-loop
-read-row-requires c κs = omega (arith, few (c .before .before .before .before .args .old .now) (c .before .before .before .before .pre .0 .0), long (c .before .before .before .before .args .old .now) (c .before .before .before .before .pre .0 .0), c .before .before .before .before .pre .0 .1)
+read-row-requires c κs =
+    let start = c .before .before .before .before in
+    omega (arith, few (start .args .old .now) (start .pre .0 .0), long (start .args .old .now) (start .pre .0 .0), start .pre .0 .1)
 
 mul-write-row : tie.Need-mul-write-row Inv-loop μ-loop
-mul-write-row c = omega (arith, few (c .before .before .before .before .before .before .args .old .now) (c .before .before .before .before .before .before .pre .0 .0), long (c .before .before .before .before .before .before .args .old .now) (c .before .before .before .before .before .before .pre .0 .0), c .before .before .before .before .before .before .pre .0 .1)
+mul-write-row c =
+    let start = c .before .before .before .before .before .before in
+    omega (arith, few (start .args .old .now) (start .pre .0 .0), long (start .args .old .now) (start .pre .0 .0), start .pre .0 .1)
 
 add-write-row : tie.Need-add-write-row Inv-loop μ-loop
-add-write-row c = omega (arith, few (c .before .before .before .before .before .before .args .old .now) (c .before .before .before .before .before .before .pre .0 .0), long (c .before .before .before .before .before .before .args .old .now) (c .before .before .before .before .before .before .pre .0 .0), c .before .before .before .before .before .before .pre .0 .1)
+add-write-row c =
+    let start = c .before .before .before .before .before .before in
+    omega (arith, few (start .args .old .now) (start .pre .0 .0), long (start .args .old .now) (start .pre .0 .0), start .pre .0 .1)
 
 write-row-requires : tie.Need-write-row-requires Inv-loop μ-loop
 write-row-requires c κs =
     let turn = c .before .before .before .loop in
-    let old = c .before .before .before .before .before .before .args .old .now in (
-      omega (arith, turn .inv .1 .long, few (c .before .before .before .before .before .before .args .old .now) (c .before .before .before .before .before .before .pre .0 .0), long (c .before .before .before .before .before .before .args .old .now) (c .before .before .before .before .before .before .pre .0 .0), c .before .before .before .before .before .before .pre .0 .1),
-      value-ticks old _ _ (omega (arith, few (c .before .before .before .before .before .before .args .old .now) (c .before .before .before .before .before .before .pre .0 .0), long (c .before .before .before .before .before .before .args .old .now) (c .before .before .before .before .before .before .pre .0 .0), c .before .before .before .before .before .before .pre .0 .1)) (c .before .read-row .ensures),
+    let start = c .before .before .before .before .before .before in
+    let old = start .args .old .now in
+    let rows = few old (start .pre .0 .0) in
+    let bytes = long old (start .pre .0 .0) in (
+      omega (arith, turn .inv .1 .long, rows, bytes, start .pre .0 .1),
+      value-ticks old _ _ (omega (arith, rows, bytes, start .pre .0 .1)) (c .before .read-row .ensures),
     )
 
 add-i : tie.Need-add-i Inv-loop μ-loop
@@ -58,10 +71,12 @@ loop-again c =
     let turn = c .before .before .before .before .before .before .loop in
     let old = start .args .old .now in
     let right = start .pre .0 .0 in
+    let bytes = c .before .before .before .before .before .before .before .before .shared-slice-known .given in
     let i = turn .i in (
       omega arith,
       row-laid old (turn .new) i 0 (turn .inv .1) _ _ (omega (arith, few old right, start .pre .0 .1))
-          (row-copied old right (c .before .before .before .before .before .before .before .before .shared-slice-known .given) i (rowsStart + Old.rowSize * i - usedWordSize) (omega (arith, start .pre .0 .1)) (omega arith) _ (c .before .before .before .before .read-row .ensures))
+          (row-copied old right bytes i (rowsStart + Old.rowSize * i - usedWordSize) (omega (arith, start .pre .0 .1)) (omega arith) _
+          (c .before .before .before .before .read-row .ensures))
           (c .before .before .write-row .ensures),
     )
 

@@ -19,11 +19,17 @@ is-closed-requires c κs = (right-parts _ (passed (c .before .before .before .pr
 
 returns-3 : tie.Need-returns-3
 unfolding judge
-returns-3 c = rw (passed (c .before .before .before .before .before .pre) (c .before .before .before .if1 .left), lt-ltb _ _ (c .before .before .if2 .left), ← c .before .is-closed .ensures, c .if3 .taken)
+returns-3 c =
+    let there = c .before .before in
+    let right = there .before in
+    rw (passed (right .before .before .pre) (right .if1 .left), lt-ltb _ _ (there .if2 .left), ← c .before .is-closed .ensures, c .if3 .taken)
 
 returns-4 : tie.Need-returns-4
 unfolding judge
-returns-4 c = rw (passed (c .before .before .before .before .before .pre) (c .before .before .before .if1 .left), lt-ltb _ _ (c .before .before .if2 .left), ← c .before .is-closed .ensures, c .if3 .left)
+returns-4 c =
+    let there = c .before .before in
+    let right = there .before in
+    rw (passed (right .before .before .pre) (right .if1 .left), lt-ltb _ _ (there .if2 .left), ← c .before .is-closed .ensures, c .if3 .left)
 
 pub desk-verdict-spec : {M : Type 1} → statement M
 desk-verdict-spec = tie.close (tie.spec returns returns-2 is-closed-requires returns-3 returns-4)

@@ -25,11 +25,25 @@ has-key-requires c κs = right-parts _ (passed (c .before .before .before .is-sh
 
 returns-3 : tie.Need-returns-3
 unfolding judge
-returns-3 c = rw (passed (c .before .before .before .before .before .is-sheet .ensures) (c .before .before .before .before .if1 .left), passed (c .before .before .before .valid .ensures) (c .before .before .if2 .left), failed (c .before .has-key .ensures) (c .if3 .taken))
+returns-3 c =
+    let valid = c .before .before in
+    let right = valid .before .before in
+    rw (
+      passed (right .before .is-sheet .ensures) (right .if1 .left),
+      passed (valid .before .valid .ensures) (valid .if2 .left),
+      failed (c .before .has-key .ensures) (c .if3 .taken),
+    )
 
 returns-4 : tie.Need-returns-4
 unfolding judge
-returns-4 c = rw (passed (c .before .before .before .before .before .is-sheet .ensures) (c .before .before .before .before .if1 .left), passed (c .before .before .before .valid .ensures) (c .before .before .if2 .left), passed (c .before .has-key .ensures) (c .if3 .left))
+returns-4 c =
+    let valid = c .before .before in
+    let right = valid .before .before in
+    rw (
+      passed (right .before .is-sheet .ensures) (right .if1 .left),
+      passed (valid .before .valid .ensures) (valid .if2 .left),
+      passed (c .before .has-key .ensures) (c .if3 .left),
+    )
 
 pub find-verdict-spec : {M : Type 1} → statement M
 find-verdict-spec = tie.close (tie.spec is-sheet-requires returns valid-requires returns-2 has-key-requires returns-3 returns-4)

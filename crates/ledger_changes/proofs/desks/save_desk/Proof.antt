@@ -33,7 +33,11 @@ returns-2 : tie.Need-returns-2
 unfolding saveAt
 returns-2 c =
     let current = c .before .before .before .before .before .before .before .before in
-    rw (passed (current .before .is-current .ensures) (current .if1 .left), c .before .before .clear-desk2 .ensures, c .before .before .before .before .before .before .store .ensures)
+    rw (
+      passed (current .before .is-current .ensures) (current .if1 .left),
+      c .before .before .clear-desk2 .ensures,
+      c .before .before .before .before .before .before .store .ensures,
+    )
 
 pub save-desk-spec : {M : Type 1} → statement M
 save-desk-spec =

@@ -33,7 +33,8 @@ returns c =
     let c3 = c4 .before .before .before .before in
     let c2 = c3 .before .before .before .before in
     let c1 = c2 .before .before .before .before in
-    header-written _ _ (c1 .before .before .before .pre) (c1 .write-be .ensures) (c2 .write-be2 .ensures) (c3 .write-be3 .ensures) (c4 .write-be4 .ensures) (c5 .write-be5 .ensures) (c6 .write-be6 .ensures)
+    header-written _ _ (c1 .before .before .before .pre) (c1 .write-be .ensures) (c2 .write-be2 .ensures) (c3 .write-be3 .ensures)
+    (c4 .write-be4 .ensures) (c5 .write-be5 .ensures) (c6 .write-be6 .ensures)
 
 pub write-header-spec : {M : Type 1} → statement M
 write-header-spec =

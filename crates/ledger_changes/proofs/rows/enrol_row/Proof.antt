@@ -27,7 +27,9 @@ write-row-requires c κs = search needs
 
 add-write-be : tie.Need-add-write-be
 add-write-be c =
-    omega (arith, number-lt (c .before .before .before .before .before .before .before .before .before .before .before .args .s .now) usedAt headerNumberSize (c .before .before .before .before .before .before .before .before .before .before .slice-known .given), c .before .before .before .before .before .before .rows-used .ensures)
+    let counted = c .before .before .before .before .before .before in
+    let known = counted .before .before .before .before in
+    omega (arith, number-lt (known .before .args .s .now) usedAt headerNumberSize (known .slice-known .given), counted .rows-used .ensures)
 
 write-be-requires : tie.Need-write-be-requires
 write-be-requires c κs = search needs
@@ -43,7 +45,8 @@ returns c =
     let row = c .before .before .before .before .before .before in
     let found = row .before .before .before .before .before .free-row .ensures in
     let used = row .before .before .before .rows-used .ensures in
-    (found, rw (← found) (enrol-written _ _ _ _ (row .before .blank-row .ensures) (row .write-row .ensures) (rw used at (c .before .before .write-be .ensures))))
+    let counted = rw used at (c .before .before .write-be .ensures) in
+    (found, rw (← found) (enrol-written _ _ _ _ (row .before .blank-row .ensures) (row .write-row .ensures) counted))
 
 pub enrol-row-spec : {M : Type 1} → statement M
 enrol-row-spec =

@@ -31,7 +31,9 @@ same-length : tie.Need-same-length
 same-length c = search needs
 
 returns-2 : tie.Need-returns-2
-returns-2 c = rw (c .before .if2 .taken) (mark-same _ _ true (c .before .before .before .before .before .if1 .left) (sym (c .before .before .before .is-ticked .ensures) ∙ c .if3 .taken))
+returns-2 c =
+    let asked = c .before .before .before in
+    rw (c .before .if2 .taken) (mark-same _ _ true (asked .before .before .if1 .left) (sym (asked .is-ticked .ensures) ∙ c .if3 .taken))
 
 slice-read-row : tie.Need-slice-read-row
 slice-read-row c = search needs
@@ -42,7 +44,8 @@ add-row c =
     let g = c .before .before .before .before .before .before .before .before .args in
     let at = ticksAt + g .i / byteBits in
     let clear = eqb-false _ _ (sym (c .before .before .before .before .is-ticked .ensures) ∙ c .before .if3 .left) in
-    rw (c .before .before .before .tick-bit .ensures) (record { fits = bit-room (getD (g .row .now) at 0) (omega (arith, c .slice-known2 .given at)) (g .i % byteBits) (omega arith) clear })
+    let room = bit-room (getD (g .row .now) at 0) (omega (arith, c .slice-known2 .given at)) (g .i % byteBits) (omega arith) clear in
+    rw (c .before .before .before .tick-bit .ensures) (record { fits = room })
 
 slice-write-row : tie.Need-slice-write-row
 slice-write-row c = search needs
@@ -54,13 +57,17 @@ returns-3 : tie.Need-returns-3
 unfolding setTick
 returns-3 c =
     let bit = c .before .before .before .tick-bit .ensures in
-    rw (c .before .before .if2 .taken, bit) (mark-changed _ _ true (c .before .before .before .before .before .before .if1 .left) (sym (c .before .before .before .before .is-ticked .ensures) ∙ c .before .if3 .left))
+    let asked = c .before .before .before .before in
+    rw (c .before .before .if2 .taken, bit)
+    (mark-changed _ _ true (asked .before .before .if1 .left) (sym (asked .is-ticked .ensures) ∙ c .before .if3 .left))
 
 same-length-3 : tie.Need-same-length-3
 same-length-3 c = search needs
 
 returns-4 : tie.Need-returns-4
-returns-4 c = rw (c .before .if2 .left) (mark-same _ _ false (c .before .before .before .before .before .if1 .left) (failed (c .before .before .before .is-ticked .ensures) (c .if4 .taken)))
+returns-4 c =
+    let asked = c .before .before .before in
+    rw (c .before .if2 .left) (mark-same _ _ false (asked .before .before .if1 .left) (failed (asked .is-ticked .ensures) (c .if4 .taken)))
 
 slice-read-row-2 : tie.Need-slice-read-row-2
 slice-read-row-2 c = search needs
@@ -82,7 +89,9 @@ returns-5 : tie.Need-returns-5
 unfolding clearTick
 returns-5 c =
     let bit = c .before .before .before .tick-bit .ensures in
-    rw (c .before .before .if2 .left, bit) (mark-changed _ _ false (c .before .before .before .before .before .before .if1 .left) (passed (c .before .before .before .before .is-ticked .ensures) (c .before .if4 .left)))
+    let asked = c .before .before .before .before in
+    rw (c .before .before .if2 .left, bit)
+    (mark-changed _ _ false (asked .before .before .if1 .left) (passed (asked .is-ticked .ensures) (c .before .if4 .left)))
 
 pub mark-position-spec : {M : Type 1} → statement M
 mark-position-spec =

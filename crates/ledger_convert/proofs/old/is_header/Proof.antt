@@ -24,7 +24,15 @@ read-be-requires-6 c κs = search needs
 
 returns : tie.Need-returns
 unfolding headerRight
-returns c = rw (c .before .before .before .before .before .read-be .ensures, c .before .before .before .before .read-be2 .ensures, c .before .before .before .read-be3 .ensures, c .before .before .read-be4 .ensures, c .before .read-be5 .ensures, c .read-be6 .ensures)
+returns c =
+    rw (
+      c .before .before .before .before .before .read-be .ensures,
+      c .before .before .before .before .read-be2 .ensures,
+      c .before .before .before .read-be3 .ensures,
+      c .before .before .read-be4 .ensures,
+      c .before .read-be5 .ensures,
+      c .read-be6 .ensures,
+    )
 
 pub is-header-spec : {M : Type 1} → statement M
 is-header-spec =

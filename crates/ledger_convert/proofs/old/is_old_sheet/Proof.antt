@@ -29,7 +29,13 @@ returns-3 : tie.Need-returns-3
 unfolding right
 returns-3 c =
     let header = c .before .before in
-    rw (eq-eqb _ _ (header .before .before .if1 .left), passed (header .before .is-header .ensures) (header .if2 .left), ← c .before .are-rows .ensures, ← and-assoc, ← c .is-rest .ensures)
+    rw (
+      eq-eqb _ _ (header .before .before .if1 .left),
+      passed (header .before .is-header .ensures) (header .if2 .left),
+      ← c .before .are-rows .ensures,
+      ← and-assoc,
+      ← c .is-rest .ensures,
+    )
 
 pub is-old-sheet-spec : {M : Type 1} → statement M
 is-old-sheet-spec =

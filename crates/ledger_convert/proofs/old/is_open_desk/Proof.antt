@@ -67,7 +67,14 @@ returns-2 : tie.Need-returns-2
 returns-2 c =
     let start = c .before .before .before .before .before .before .before in
     let used-row = lt-ltb _ _ (rw (c .before .before .before .before .before .rows-used .ensures) at (c .before .before .before .before .if1 .left)) in
-    rw (← open-desk _ _ (start .before .pre .1 .1), used-row, ← c .before .before .is-zero .ensures, ← c .before .is-same .ensures, ← c .is-same2 .ensures, and-assoc)
+    rw (
+      ← open-desk _ _ (start .before .pre .1 .1),
+      used-row,
+      ← c .before .before .is-zero .ensures,
+      ← c .before .is-same .ensures,
+      ← c .is-same2 .ensures,
+      and-assoc,
+    )
 
 pub is-open-desk-spec : {M : Type 1} → statement M
 is-open-desk-spec =

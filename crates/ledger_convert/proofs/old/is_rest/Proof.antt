@@ -59,8 +59,16 @@ loop-again : tie.Need-loop-again Inv-loop μ-loop
 loop-again c =
     let turn = c .before .before .before .loop in
     ⊎-elim
-    (λ w. (omega arith, rw (w .4) (omega arith), rw (w .3, w .4, w .1 .ensures, w .2 .ensures) (open-judged _ (turn .right) (turn .zeros) (turn .d) (turn .inv .2) (turn .inv .1))))
-    (λ w. (omega arith, rw (w .2) (omega arith), rw (w .1, w .2) (closed-judged _ (turn .right) (turn .zeros) (turn .d) (turn .inv .2) (turn .inv .1) (w .0 .left))))
+    (λ w. (
+      omega arith,
+      rw (w .4) (omega arith),
+      rw (w .3, w .4, w .1 .ensures, w .2 .ensures) (open-judged _ (turn .right) (turn .zeros) (turn .d) (turn .inv .2) (turn .inv .1)),
+    ))
+    (λ w. (
+      omega arith,
+      rw (w .2) (omega arith),
+      rw (w .1, w .2) (closed-judged _ (turn .right) (turn .zeros) (turn .d) (turn .inv .2) (turn .inv .1) (w .0 .left)),
+    ))
     (c .if1 .came)
 
 sub-is-long-zero-2 : tie.Need-sub-is-long-zero-2 Inv-loop μ-loop

@@ -1,4 +1,5 @@
--- `right::are_desks` meets its contract. The invariant: the bytes from `zeros` up to desk d are to be zero, and the others before desk d have been judged. Assumes nothing.
+-- `right::are_desks` meets its contract. The invariant: the bytes from `zeros` up to desk d are to be zero, and the others before
+-- desk d have been judged. Assumes nothing.
 use Prim.Native.Nat.{_≤_, _-_}
 use mathlib.Core.Path.{_≡_}
 use mathlib.Core.Logic.{⊎-elim}
@@ -49,8 +50,16 @@ loop-again : tie.Need-loop-again Inv-loop μ-loop
 loop-again c =
     let turn = c .before .before .before .loop in
     ⊎-elim
-    (λ w. (omega arith, rw (w .4) (omega arith), rw (w .3, w .4, w .1 .ensures, w .2 .ensures) (open-judged _ (turn .right) (turn .zeros) (turn .d) (turn .inv .2) (turn .inv .1))))
-    (λ w. (omega arith, rw (w .2) (omega arith), rw (w .1, w .2) (closed-judged _ (turn .right) (turn .zeros) (turn .d) (turn .inv .2) (turn .inv .1) (w .0 .left))))
+    (λ w. (
+      omega arith,
+      rw (w .4) (omega arith),
+      rw (w .3, w .4, w .1 .ensures, w .2 .ensures) (open-judged _ (turn .right) (turn .zeros) (turn .d) (turn .inv .2) (turn .inv .1)),
+    ))
+    (λ w. (
+      omega arith,
+      rw (w .2) (omega arith),
+      rw (w .1, w .2) (closed-judged _ (turn .right) (turn .zeros) (turn .d) (turn .inv .2) (turn .inv .1) (w .0 .left)),
+    ))
     (c .if1 .came)
 
 sub-is-long-zero-2 : tie.Need-sub-is-long-zero-2 Inv-loop μ-loop

@@ -1,4 +1,5 @@
--- `right::are_rows` meets its contract. The invariant: the array has the keys of the used rows among the first i, and what is gathered says it of them. Assumes nothing.
+-- `right::are_rows` meets its contract. The invariant: the array has the keys of the used rows among the first i, and what is
+-- gathered says it of them. Assumes nothing.
 use Prim.Native.Nat.{_≤_, _-_}
 use mathlib.Core.Path.{_≡_, refl, sym, _∙_}
 use mathlib.Core.Logic.{⊎-elim}
@@ -48,7 +49,9 @@ is-stream-requires c κs = omega arith
 
 -- src/right.rt:146:22
 is-new-requires : tie.Need-is-new-requires Inv-loop μ-loop
-is-new-requires c κs = let turn = c .before .before .before .before .before .before .before .before .before .loop in (omega (arith, turn .inv .1 .few), turn .inv .1 .marked)
+is-new-requires c κs =
+    let turn = c .before .before .before .before .before .before .before .before .before .loop in
+    (omega (arith, turn .inv .1 .few), turn .inv .1 .marked)
 
 -- src/right.rt:147:13
 mul-keys : tie.Need-mul-keys Inv-loop μ-loop

@@ -45,34 +45,59 @@ is-zero-requires : tie.Need-is-zero-requires
 is-zero-requires c κs = search needs
 
 mul-is-same : tie.Need-mul-is-same
-mul-is-same c = omega (arith, named (c .before .before .before .before .before .before .args .s .now) (c .before .before .before .before .before .before .args .d) (passed (c .before .before .before .is-row .ensures) (c .before .before .if1 .left)))
+mul-is-same c =
+    let used = c .before .before in
+    let g = used .before .before .before .before .args in
+    omega (arith, named (g .s .now) (g .d) (passed (used .before .is-row .ensures) (used .if1 .left)))
 
 add-is-same : tie.Need-add-is-same
-add-is-same c = omega (arith, named (c .before .before .before .before .before .before .args .s .now) (c .before .before .before .before .before .before .args .d) (passed (c .before .before .before .is-row .ensures) (c .before .before .if1 .left)))
+add-is-same c =
+    let used = c .before .before in
+    let g = used .before .before .before .before .args in
+    omega (arith, named (g .s .now) (g .d) (passed (used .before .is-row .ensures) (used .if1 .left)))
 
 add-is-same-2 : tie.Need-add-is-same-2
 add-is-same-2 c = search needs
 
 is-same-requires : tie.Need-is-same-requires
-is-same-requires c κs = omega (arith, named (c .before .before .before .before .before .before .args .s .now) (c .before .before .before .before .before .before .args .d) (passed (c .before .before .before .is-row .ensures) (c .before .before .if1 .left)))
+is-same-requires c κs =
+    let used = c .before .before in
+    let g = used .before .before .before .before .args in
+    omega (arith, named (g .s .now) (g .d) (passed (used .before .is-row .ensures) (used .if1 .left)))
 
 mul-is-same-2 : tie.Need-mul-is-same-2
-mul-is-same-2 c = omega (arith, named (c .before .before .before .before .before .before .before .args .s .now) (c .before .before .before .before .before .before .before .args .d) (passed (c .before .before .before .before .is-row .ensures) (c .before .before .before .if1 .left)))
+mul-is-same-2 c =
+    let used = c .before .before .before in
+    let g = used .before .before .before .before .args in
+    omega (arith, named (g .s .now) (g .d) (passed (used .before .is-row .ensures) (used .if1 .left)))
 
 add-is-same-3 : tie.Need-add-is-same-3
-add-is-same-3 c = omega (arith, named (c .before .before .before .before .before .before .before .args .s .now) (c .before .before .before .before .before .before .before .args .d) (passed (c .before .before .before .before .is-row .ensures) (c .before .before .before .if1 .left)))
+add-is-same-3 c =
+    let used = c .before .before .before in
+    let g = used .before .before .before .before .args in
+    omega (arith, named (g .s .now) (g .d) (passed (used .before .is-row .ensures) (used .if1 .left)))
 
 add-is-same-4 : tie.Need-add-is-same-4
 add-is-same-4 c = search needs
 
 is-same-requires-2 : tie.Need-is-same-requires-2
-is-same-requires-2 c κs = omega (arith, named (c .before .before .before .before .before .before .before .args .s .now) (c .before .before .before .before .before .before .before .args .d) (passed (c .before .before .before .before .is-row .ensures) (c .before .before .before .if1 .left)))
+is-same-requires-2 c κs =
+    let used = c .before .before .before in
+    let g = used .before .before .before .before .args in
+    omega (arith, named (g .s .now) (g .d) (passed (used .before .is-row .ensures) (used .if1 .left)))
 
 returns-2 : tie.Need-returns-2
 returns-2 c =
     let start = c .before .before .before .before .before .before .before in
     let row = passed (c .before .before .before .before .before .is-row .ensures) (c .before .before .before .before .if1 .left) in
-    rw (← open-desk _ _ (start .before .pre .1 .1), row, ← c .before .before .is-zero .ensures, ← c .before .is-same .ensures, ← c .is-same2 .ensures, and-assoc)
+    rw (
+      ← open-desk _ _ (start .before .pre .1 .1),
+      row,
+      ← c .before .before .is-zero .ensures,
+      ← c .before .is-same .ensures,
+      ← c .is-same2 .ensures,
+      and-assoc,
+    )
 
 pub is-open-desk-spec : {M : Type 1} → statement M
 is-open-desk-spec =

@@ -1,0 +1,18 @@
+-- Every list of calls can be made on a sheet that `fresh` made, each call keeping its contract: what demand 3 says is said of all of
+-- them. Assumes nothing.
+use Prim.Native.Nat.{ℕ}
+use mathlib.Core.Path.{_≡_}
+use mathlib.Core.List.{List, map}
+use Rattle.ledger_model.specs.Step.{Call, Entry, callOf}
+use Rattle.ledger_model.specs.Chain.{Chain}
+use Rattle.ledger.specs.Demand3.{MadeFresh, Promised}
+
+-- The calls with what they answered, and the sheet that they left.
+pub record CanBeMade (start : List ℕ) (calls : List Call) : Type 0 where
+  pub log : List Entry
+  pub last : List ℕ
+  pub of-these : map callOf log ≡ calls
+  pub made : Chain Promised start log last
+
+abbrev pub EveryListOfCalls : Type 0
+EveryListOfCalls = (s start : List ℕ) → MadeFresh s start → (calls : List Call) → CanBeMade start calls
