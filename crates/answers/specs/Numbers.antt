@@ -8,6 +8,8 @@ use lib.Dec.{eqb}
 use lib.IntN.{ℤ, pos, negsuc}
 use lib.ListN.{length, getD, replicate}
 use Rattle.sfdu_headers.specs.Words.{Word, number, signed, none}
+use Rattle.idr.specs.declared.Count.{Count}
+use Rattle.idr.specs.declared.Count.the-variants.{Samples, Unknown}
 
 -- How many numbers an answer has.
 abbrev pub numberCount : ℕ
@@ -27,9 +29,12 @@ valueOf (number n) = n
 valueOf (signed z) = twosComplement z
 valueOf none = allOnes
 
--- The numbers of an answer's words.
+-- The numbers of an answer's words, and zeros up to so many; and of an answer that is exported.
+abbrev pub numbersIn : ℕ → List Word → List ℕ
+numbersIn size words = map valueOf words ++ replicate (size - length words) 0
+
 abbrev pub numbersOf : List Word → List ℕ
-numbersOf words = map valueOf words ++ replicate (numberCount - length words) 0
+numbersOf words = numbersIn numberCount words
 
 -- The words of an answer that no none stands in.
 abbrev pub plain : List ℕ → List Word
@@ -38,6 +43,15 @@ plain words = map number words
 -- The words of an answer that, accepted, has so many numbers: those of a none, which the ledger's words leave out, stand last.
 abbrev pub withNone : ℕ → List ℕ → List Word
 withNone size words = plain words ++ cond (eqb (getD words 0 0) 0) (replicate (size - length words) none) []
+
+-- How many numbers a medium band record's fields have with the 0 before them. Where its time tag is not valid each of them is a none.
+abbrev pub tapeCount : ℕ
+tapeCount = 34
+
+-- The number of a sample count: a none where it is unknown.
+abbrev pub countNumber : Count → ℕ
+countNumber (Samples n) = n
+countNumber Unknown = allOnes
 
 -- A list is the numbers of these words, and the first, which a call returns, is one of 32 bits.
 abbrev pub Numbers : List ℕ → List Word → Type 0

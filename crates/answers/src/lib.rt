@@ -7,6 +7,7 @@ pub mod places;
 pub mod receivers;
 pub mod records;
 pub mod seasons;
+pub mod tapes;
 
 use dates::DateAnswer;
 use keys::KeyAnswer;

@@ -87,8 +87,8 @@ fn expected(signal: RsrSignal) -> u64
     two(signal.expected)
 }
 
-// What both kinds begin with.
-fn record(kind: Kind, size: usize, primary: Primary) -> [u64; NUMBERS]
+// What both kinds begin with, and all that reading one record finds.
+pub fn record(kind: Kind, size: usize, primary: Primary) -> [u64; NUMBERS]
     ensures { λ r. ⌜ r ≡ numbersOf (number 0 ∷ number (kindNumber kind) ∷ number size ∷ map number (primaryWords primary)) ⌝ }
 {
     let mut numbers = [0u64; NUMBERS];

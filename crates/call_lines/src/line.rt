@@ -1,125 +1,107 @@
-// The words of a line.
-use refusals::Refusal;
+// The words of a line, laid out as text in a lent slice. Each function lays its words out from index `at` on, a space behind each, and
+// answers where they end. The slice has room for the longest line; a word that finds none is left out.
+use answers::FEW;
+use answers::NONE;
+use answers::places;
 
-// The most numbers of a list, and of words: the call that answers lists has four, behind four words.
-pub const MOST_LIST: usize = 64;
+const SPACE: u8 = b' ';
 
-pub const MOST_WORDS: usize = 4 + 4 * MOST_LIST;
+const MOST_DIGITS: usize = 20;
 
-// The number of an accepted call.
-pub const ACCEPTED: u32 = 0;
+// The highest number of 64 bits that is not below zero in two's complement.
+const MOST_POSITIVE: u64 = 9223372036854775807;
 
-// What a word says: a number, which may have a minus sign, or something that is no number.
-pub enum Form {
-    Number,
-    Minus,
-    Nothing,
-    Done,
-    Same,
-    BadFrame,
+// The highest refusal that goes with another number, which stands behind it.
+const LAST_PLACED: u64 = 12;
+
+pub fn letters(out: &mut [u8], at: usize, text: &[u8]) -> usize {
+    if out.len() <= at {
+        return at;
+    }
+    let room = out.len() - at;
+    if room <= text.len() {
+        return at;
+    }
+    bytes::copy(text, &mut out[at..]);
+    let end = at + text.len();
+    out[end] = SPACE;
+    end + 1
 }
 
-pub struct Word {
-    pub form: Form,
-    pub n: u64,
+pub fn number(out: &mut [u8], at: usize, n: u64) -> usize {
+    let mut digits = [0u8; MOST_DIGITS];
+    let k = io::decimal(n, &mut digits);
+    letters(out, at, &digits[..k])
 }
 
-pub struct Line {
-    pub words: [Word; MOST_WORDS],
-    pub count: usize,
+// A number in two's complement. Its digits overwrite the space behind the sign.
+pub fn signed(out: &mut [u8], at: usize, n: u64) -> usize {
+    if n <= MOST_POSITIVE {
+        return number(out, at, n);
+    }
+    let sign = before(letters(out, at, b"-"));
+    number(out, sign, NONE - n + 1)
 }
 
-impl Line {
-    pub fn empty() -> Line {
-        let blank = Word {
-            form: Form::Nothing,
-            n: 0,
-        };
-        Line {
-            words: [blank; MOST_WORDS],
-            count: 0,
-        }
+pub fn before(at: usize) -> usize {
+    if at == 0 {
+        return 0;
     }
-
-    pub fn accepted() -> Line {
-        Line::empty().number32(ACCEPTED)
-    }
-
-    pub fn refused(why: Refusal) -> Line {
-        Line::empty().number32(refusals::number(why))
-    }
-
-    pub fn bad_frame() -> Line {
-        Line::empty().put(Form::BadFrame, 0)
-    }
-
-    // A line has room for the words of any call; a word that finds none is left out.
-    fn put(mut self, form: Form, n: u64) -> Line {
-        let i = self.count;
-        if MOST_WORDS <= i {
-            return self;
-        }
-        self.words[i] = Word { form, n };
-        self.count = i + 1;
-        self
-    }
-
-    pub fn nothing(self) -> Line {
-        self.put(Form::Nothing, 0)
-    }
-
-    pub fn done(self) -> Line {
-        self.put(Form::Done, 0)
-    }
-
-    pub fn same(self) -> Line {
-        self.put(Form::Same, 0)
-    }
-
-    pub fn number(self, n: u64) -> Line {
-        self.put(Form::Number, n)
-    }
-
-    // The same for the narrower numbers.
-    pub fn number32(self, n: u32) -> Line {
-        self.number(n as u64)
-    }
-
-    pub fn number16(self, n: u16) -> Line {
-        self.number(n as u64)
-    }
-
-    pub fn number8(self, n: u8) -> Line {
-        self.number(n as u64)
-    }
-
-    pub fn size(self, n: usize) -> Line {
-        self.number(n as u64)
-    }
-
-    pub fn signed(self, n: i8) -> Line {
-        if n >= 0 {
-            return self.number(magnitude(n));
-        }
-        self.put(Form::Minus, magnitude(n))
-    }
-
-    // The first n numbers of a list.
-    pub fn list(self, list: [u64; MOST_LIST], n: usize) -> Line {
-        let mut line = self;
-        for i in 0..MOST_LIST {
-            if n <= i {
-                return line;
-            }
-            line = line.number(list[i]);
-        }
-        line
-    }
+    at - 1
 }
 
-fn magnitude(n: i8) -> u64 {
-    if n >= 0 {
-        return n as u64;
+// A number, or none.
+pub fn maybe(out: &mut [u8], at: usize, n: u64) -> usize {
+    if n == NONE {
+        return letters(out, at, b"none");
     }
-    (0 - n as i16) as u64
+    number(out, at, n)
+}
+
+// The numbers of a list from index `from` up to `to`.
+pub fn numbers(out: &mut [u8], at: usize, list: &[u64], from: usize, to: usize) -> usize {
+    let mut end = at;
+    for i in from..to {
+        if list.len() <= i {
+            return end;
+        }
+        end = number(out, end, list[i]);
+    }
+    end
+}
+
+// How many numbers of an answer are told, by the first: so many where it is accepted.
+pub fn told_count(first: u64, accepted: usize) -> usize {
+    if first == 0 {
+        return accepted;
+    }
+    if first <= LAST_PLACED {
+        return 2;
+    }
+    1
+}
+
+// The first numbers of an answer: so many where it is accepted.
+pub fn told(out: &mut [u8], at: usize, answer: [u64; FEW], accepted: usize) -> usize {
+    let n = told_count(answer[places::REFUSAL], accepted);
+    numbers(out, at, &answer, 0, n)
+}
+
+// The same of an answer whose numbers from index i on can be a none, for which a word stands.
+pub fn told_or(
+    out: &mut [u8],
+    at: usize,
+    answer: [u64; FEW],
+    accepted: usize,
+    i: usize,
+    word: &[u8],
+) -> usize {
+    if FEW <= i {
+        return at;
+    }
+    if answer[i] == NONE {
+        let end = numbers(out, at, &answer, 0, i);
+        return letters(out, end, word);
+    }
+    told(out, at, answer, accepted)
 }

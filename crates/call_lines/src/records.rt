@@ -1,27 +1,39 @@
-// The lines of the calls on records, keys and streams.
+// The lines of the calls on records and streams.
 use crate::Frame;
 use crate::crc::crc;
-use crate::line::ACCEPTED;
-use crate::line::Line;
-use dates::DateAnswer;
-use keys::KeyAnswer;
-use refusals::Refusal;
-use sfdu::Fault;
+use crate::line::letters;
+use crate::line::maybe;
+use crate::line::number;
+use crate::line::numbers;
+use crate::line::signed;
+use crate::line::told;
+use crate::line::told_count;
+use answers::NUMBERS;
+use answers::places;
+use answers::records::headers;
+use answers::records::record;
+use answers::wrong;
 use sfdu::Kind;
 use sfdu::Primary;
 use sfdu::Read;
-use sfdu_headers::Band;
-use sfdu_headers::Headers;
-use sfdu_headers::ReceivedTime;
-use sfdu_headers::RsrSignal;
-use sfdu_headers::RsrSource;
-use sfdu_headers::RsrTime;
-use sfdu_headers::TelemetryFields;
 use sfdu_stream::Cursor;
 use sfdu_stream::Step;
 use sfdu_stream::Stop;
 use sfdu_stream::Walked;
 use sfdu_write::Write;
+
+// How many numbers the answers have where they are accepted: reading one record, its headers.
+const RECORD: usize = 7;
+
+const TELEMETRY: usize = 19;
+
+const RSR: usize = 30;
+
+// The kind that is no telemetry, by its number.
+const RSR_KIND: u64 = 2;
+
+// The number of an accepted call.
+const ACCEPTED: u64 = 0;
 
 // The most bytes that write one is lent, and what they hold before.
 const MOST_SLICE: usize = 70000;
@@ -30,146 +42,74 @@ const SLICE_FILL: u8 = 165;
 
 const BYTE_VALUES: u32 = 256;
 
-pub fn read_one(s: &[u8]) -> Line {
+pub fn read_one(s: &[u8], out: &mut [u8], at: usize) -> usize {
     let found = sfdu::read_one(s);
     match found {
         Read::Record {
             kind,
             size,
             primary,
-        } => record(kind, size, primary),
-        Read::Refused(fault) => refused(fault),
+        } => one(out, at, kind, size, primary),
+        Read::Refused(fault) => told(out, at, wrong(fault), 0),
     }
 }
 
-// The number that goes with a refusal stands behind it.
-fn refused(fault: Fault) -> Line {
-    let refusal = fault.refusal;
-    Line::refused(refusal).size(fault.at)
+fn one(out: &mut [u8], at: usize, kind: Kind, size: usize, primary: Primary) -> usize {
+    let answer = record(kind, size, primary);
+    numbers(out, at, &answer, 0, RECORD)
 }
 
-fn record(kind: Kind, size: usize, primary: Primary) -> Line {
-    Line::accepted()
-        .number32(sfdu::kind_number(kind))
-        .size(size)
-        .number8(primary.major)
-        .number8(primary.minor)
-        .number8(primary.mission)
-        .number8(primary.format)
+pub fn part(part: &[u8], out: &mut [u8], at: usize) -> usize {
+    let end = number(out, at, part.len() as u64);
+    number(out, end, crc(part) as u64)
 }
 
-pub fn part(part: &[u8]) -> Line {
-    Line::empty().size(part.len()).number32(crc(part))
-}
-
-pub fn read_headers(s: &[u8], wanted: u32) -> Line {
-    let found = sfdu_headers::read_headers(s, wanted);
-    match found {
-        Headers::Telemetry {
-            size,
-            primary,
-            fields,
-            key,
-            received,
-        } => received_time(telemetry(size, primary, fields, key), received),
-        Headers::Rsr {
-            size,
-            primary,
-            source,
-            signal,
-            time,
-            key,
-            day_count,
-        } => rsr(size, primary, source, signal, time, key).number32(day_count),
-        Headers::Refused(fault) => refused(fault),
-        Headers::WrongKind => Line::refused(Refusal::WrongKind),
+pub fn read_headers(s: &[u8], wanted: u32, out: &mut [u8], at: usize) -> usize {
+    let answer = headers(sfdu_headers::read_headers(s, wanted));
+    if answer[places::REFUSAL] != ACCEPTED {
+        let n = told_count(answer[places::REFUSAL], 0);
+        return numbers(out, at, &answer, 0, n);
     }
-}
-
-fn telemetry(size: usize, primary: Primary, fields: TelemetryFields, key: u64) -> Line {
-    let uplink = fields.uplink;
-    let received = record(Kind::Telemetry, size, primary)
-        .number16(fields.spacecraft)
-        .number8(fields.source)
-        .number(fields.received)
-        .number32(fields.number);
-    band(received, uplink).number8(fields.mode)
-        .number8(fields.stream)
-        .number16(fields.equipment)
-        .number(key)
-}
-
-fn received_time(line: Line, received: ReceivedTime) -> Line {
-    line.number16(received.days)
-        .number32(received.milliseconds)
-        .number16(received.extended)
-}
-
-fn band(line: Line, band: Band) -> Line {
-    match band {
-        Band::Letter(letter) => line.number8(letter),
-        Band::Unused => line.nothing(),
+    if answer[places::KIND] == RSR_KIND {
+        return rsr(out, at, answer);
     }
+    telemetry(out, at, answer)
 }
 
-fn rsr(
-    size: usize,
-    primary: Primary,
-    source: RsrSource,
-    signal: RsrSignal,
-    time: RsrTime,
-    key: u64,
-) -> Line {
-    let sent = from(record(Kind::Rsr, size, primary), source);
-    times(held(sent, signal), time).number(key)
+// The uplink band can be a none.
+fn telemetry(out: &mut [u8], at: usize, answer: [u64; NUMBERS]) -> usize {
+    let begun = numbers(out, at, &answer, 0, places::TELEMETRY_UPLINK);
+    let banded = maybe(out, begun, answer[places::TELEMETRY_UPLINK]);
+    numbers(out, banded, &answer, places::TELEMETRY_MODE, TELEMETRY)
 }
 
-fn from(line: Line, source: RsrSource) -> Line {
-    line.number16(source.software)
-        .number16(source.number)
-        .number8(source.complex)
-        .number8(source.station)
-        .number8(source.receiver)
-        .number8(source.subchannel)
-        .number8(source.spacecraft)
-        .number16(source.pass)
-}
-
-fn held(line: Line, signal: RsrSignal) -> Line {
-    line.number8(signal.uplink)
-        .number8(signal.downlink)
-        .number8(signal.mode)
-        .number8(signal.uplink_station)
-        .signed(signal.expected)
-        .number8(signal.bandwidth)
-        .number8(signal.overridden)
-        .number8(signal.attenuation)
-        .number8(signal.rms)
-        .number8(signal.peak)
-}
-
-fn times(line: Line, time: RsrTime) -> Line {
-    line.number16(time.year)
-        .number16(time.day)
-        .number(time.frequency)
+// Px/No can be below zero.
+fn rsr(out: &mut [u8], at: usize, answer: [u64; NUMBERS]) -> usize {
+    let begun = numbers(out, at, &answer, 0, places::RSR_EXPECTED);
+    let expected = signed(out, begun, answer[places::RSR_EXPECTED]);
+    numbers(out, expected, &answer, places::RSR_BANDWIDTH, RSR)
 }
 
 // All of the bytes that are lent go into the crc.
-pub fn write_one(f: Frame, a: &[u8], b: &[u8]) -> Line {
+pub fn write_one(f: Frame, a: &[u8], b: &[u8], out: &mut [u8], at: usize) -> usize {
     let z = f.z as usize;
     if MOST_SLICE < z {
-        return Line::empty();
+        return at;
     }
     let mut room = [SLICE_FILL; MOST_SLICE];
     let lent = &mut room[..z];
     let answer = sfdu_write::write_one(f.x, primary_of(f.y), a, b, lent);
-    written(answer).number32(crc(lent))
+    let end = written(out, at, answer);
+    number(out, end, crc(lent) as u64)
 }
 
-fn written(answer: Write) -> Line {
+fn written(out: &mut [u8], at: usize, answer: Write) -> usize {
     match answer {
-        Write::Written(n) => Line::accepted().size(n),
-        Write::Refused(why) => Line::refused(why),
+        Write::Written(n) => {
+            let end = number(out, at, ACCEPTED);
+            number(out, end, n as u64)
+        }
+        Write::Refused(why) => number(out, at, refusals::number(why) as u64),
     }
 }
 
@@ -190,32 +130,17 @@ fn low_byte(n: u32) -> u8 {
     (n % BYTE_VALUES) as u8
 }
 
-pub fn key(answer: KeyAnswer) -> Line {
-    match answer {
-        KeyAnswer::Key(key) => Line::accepted().number(key),
-        KeyAnswer::Refused(why) => Line::refused(why),
-    }
-}
-
-pub fn date(answer: DateAnswer) -> Line {
-    match answer {
-        DateAnswer::Date { year, day } => Line::accepted().number16(year).number16(day),
-        DateAnswer::Refused(why) => Line::refused(why),
-    }
-}
-
-pub fn stopped(walked: Walked) -> Line {
+pub fn stopped(out: &mut [u8], at: usize, walked: Walked) -> usize {
     let stop = walked.stop;
-    Line::empty()
-        .size(walked.count)
-        .size(walked.place)
-        .number32(stop_number(stop))
-        .size(beside(stop))
+    let counted = number(out, at, walked.count as u64);
+    let placed = number(out, counted, walked.place as u64);
+    let stopped = number(out, placed, stop_number(stop) as u64);
+    number(out, stopped, beside(stop) as u64)
 }
 
 fn stop_number(stop: Stop) -> u32 {
     match stop {
-        Stop::End => ACCEPTED,
+        Stop::End => ACCEPTED as u32,
         Stop::Refused(fault) => {
             let refusal = fault.refusal;
             refusals::number(refusal)
@@ -231,7 +156,7 @@ fn beside(stop: Stop) -> usize {
     }
 }
 
-pub fn step(s: &[u8], place: u64) -> Line {
+pub fn step(s: &[u8], place: u64, out: &mut [u8], at: usize) -> usize {
     let cursor = Cursor { at: place as usize };
     let found = cursor.step(s);
     match found {
@@ -240,8 +165,17 @@ pub fn step(s: &[u8], place: u64) -> Line {
             size,
             primary,
             next,
-        } => record(kind, size, primary).size(next.at),
-        Step::Done(cursor) => Line::empty().done().size(cursor.at),
-        Step::Refused(fault, cursor) => refused(fault).size(cursor.at),
+        } => {
+            let end = one(out, at, kind, size, primary);
+            number(out, end, next.at as u64)
+        }
+        Step::Done(cursor) => {
+            let end = letters(out, at, b"done");
+            number(out, end, cursor.at as u64)
+        }
+        Step::Refused(fault, cursor) => {
+            let end = told(out, at, wrong(fault), 0);
+            number(out, end, cursor.at as u64)
+        }
     }
 }

@@ -3,17 +3,20 @@ ghost use Prim.Native.Nat.{_*_, _≤_};
 ghost use lib.ListN.{length};
 use crate::Frame;
 use crate::crc::crc;
-use crate::line::Line;
-use idr::Count;
+use crate::line::maybe;
+use crate::line::number;
+use crate::line::numbers;
+use answers::NONE;
+use answers::tapes::COUNT;
+use answers::tapes::FIELDS;
+use answers::tapes::FIRST;
+use answers::tapes::record;
 use idr::HEADER;
-use idr::Origin;
 use idr::Outcome;
-use idr::Read;
-use idr::Recorder;
-use idr::Reduction;
-use idr::Status;
-use idr::Time;
 use idr::WORD;
+
+// The number of an accepted call.
+const ACCEPTED: u64 = 0;
 
 // The most header words that a frame has room for; the most bytes that the writer is lent, and what they hold before.
 const MOST_HEADER: usize = 65536;
@@ -23,115 +26,57 @@ const MOST_SLICE: usize = 8192;
 const SLICE_FILL: u8 = 165;
 
 // The words, the fields where there are any, and the crc of the samples.
-pub fn read(s: &[u8]) -> Line {
+pub fn read(s: &[u8], out: &mut [u8], at: usize) -> usize {
     let mut words = [0u16; HEADER];
     let judged = idr::read_words(s, &mut words);
     match judged {
         Outcome::Accepted => {
-            fields(all_words(words), idr::read_record(s)).number32(crc(idr::samples(s)))
+            let begun = all_words(out, at, &words);
+            let end = fields(out, begun, record(idr::read_record(s)));
+            number(out, end, crc(idr::samples(s)) as u64)
         }
-        Outcome::Refused(why) => Line::refused(why),
+        Outcome::Refused(why) => number(out, at, refusals::number(why) as u64),
     }
 }
 
-fn all_words(words: [u16; HEADER]) -> Line {
-    let mut line = Line::accepted();
-    for i in 0..HEADER {
-        line = line.number16(words[i]);
+fn all_words(out: &mut [u8], at: usize, words: &[u16]) -> usize {
+    let mut end = number(out, at, ACCEPTED);
+    for i in 0..words.len() {
+        end = number(out, end, wide(words[i]));
     }
-    line
+    end
 }
 
-fn fields(line: Line, read: Read) -> Line {
-    match read {
-        Read::Tagged {
-            origin,
-            time,
-            recorder,
-            reduction,
-            status,
-            count,
-        } => {
-            let timed = timed(source(line, origin), time);
-            let reduced = reduced(recorded(timed, recorder), reduction);
-            counted(stated(reduced, status), count)
-        }
-        Read::Untagged => line,
-        Read::Refused(_) => line,
+fn wide(n: u16) -> u64 {
+    n as u64
+}
+
+// Where there is no valid time tag, each field is a none, and none is told.
+fn fields(out: &mut [u8], at: usize, answer: [u64; FIELDS]) -> usize {
+    if answer[FIRST] == NONE {
+        return at;
     }
-}
-
-fn source(line: Line, origin: Origin) -> Line {
-    line.number16(origin.first)
-        .number16(origin.source_error)
-        .number16(origin.tape)
-        .number16(origin.number)
-        .number16(origin.spacecraft)
-        .number16(origin.station)
-        .number16(origin.dra_tape)
-}
-
-fn timed(line: Line, time: Time) -> Line {
-    line.number16(time.day)
-        .number16(time.hour)
-        .number16(time.minute)
-        .number16(time.second)
-        .number32(time.micros)
-}
-
-fn recorded(line: Line, recorder: Recorder) -> Line {
-    line.number16(recorder.input)
-        .number16(recorder.pps_absent)
-        .number16(recorder.clock_unsynced)
-        .number16(recorder.recorder_b)
-        .number16(recorder.micros_abnormal)
-        .number16(recorder.track_synced)
-}
-
-fn reduced(line: Line, reduction: Reduction) -> Line {
-    line.number32(reduction.playback)
-        .number32(reduction.sampling)
-        .number16(reduction.bypass)
-        .number16(reduction.decimation)
-        .number16(reduction.pps_track)
-        .number16(reduction.time_track)
-        .number16(reduction.channel)
-        .number32(reduction.block)
-}
-
-fn stated(line: Line, status: Status) -> Line {
-    line.number16(status.day)
-        .number32(status.second)
-        .number16(status.overflow)
-        .number16(status.pps_unsynced)
-        .number16(status.bit_slip)
-        .number16(status.counter)
-}
-
-fn counted(line: Line, count: Count) -> Line {
-    match count {
-        Count::Samples(n) => line.number32(n),
-        Count::Unknown => line.nothing(),
-    }
+    let end = numbers(out, at, &answer, FIRST, COUNT);
+    maybe(out, end, answer[COUNT])
 }
 
 // No words where the first run is no whole number of header words, or there is to be too much of either.
-pub fn write(f: Frame, a: &[u8], b: &[u8]) -> Line {
+pub fn write(f: Frame, a: &[u8], b: &[u8], out: &mut [u8], at: usize) -> usize {
     let z = f.z as usize;
     if MOST_SLICE < z {
-        return Line::empty();
+        return at;
     }
     let n = a.len() / WORD;
     if n * WORD != a.len() {
-        return Line::empty();
+        return at;
     }
     if MOST_HEADER < n {
-        return Line::empty();
+        return at;
     }
     let mut header = [0u16; MOST_HEADER];
     let words = &mut header[..n];
     fill(a, words);
-    write_into(words, b, z)
+    write_into(words, b, z, out, at)
 }
 
 fn fill(a: &[u8], words: &mut [u16])
@@ -143,18 +88,19 @@ fn fill(a: &[u8], words: &mut [u16])
 }
 
 // All of the bytes that are lent go into the crc.
-fn write_into(words: &[u16], samples: &[u8], z: usize) -> Line
+fn write_into(words: &[u16], samples: &[u8], z: usize, out: &mut [u8], at: usize) -> usize
     requires { ⌜ z ≤ 8192 ⌝ }
 {
     let mut room = [SLICE_FILL; MOST_SLICE];
     let lent = &mut room[..z];
     let answer = idr_write::write_record(words, samples, lent);
-    written(answer).number32(crc(lent))
+    let end = number(out, at, written(answer));
+    number(out, end, crc(lent) as u64)
 }
 
-fn written(answer: Outcome) -> Line {
+fn written(answer: Outcome) -> u64 {
     match answer {
-        Outcome::Accepted => Line::accepted(),
-        Outcome::Refused(why) => Line::refused(why),
+        Outcome::Accepted => ACCEPTED,
+        Outcome::Refused(why) => refusals::number(why) as u64,
     }
 }

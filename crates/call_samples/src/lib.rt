@@ -1,14 +1,15 @@
 // The lines of a script's calls on RSR records: their samples, unpacked and packed, and the gain multiplier.
 ghost use Prim.Native.Nat.{_*_, _≤_};
 ghost use lib.ListN.{length};
+use answers::places;
+use answers::receivers;
 use call_lines::Frame;
 use call_lines::crc::crc;
-use call_lines::line::Line;
+use call_lines::line::number;
+use call_lines::line::told;
+use call_lines::line::told_or;
 use octets::read_u32;
 use octets::write_be;
-use sfdu::Fault;
-use sfdu_gain::GainAnswer;
-use sfdu_samples::Answer;
 use sfdu_samples::from_bits;
 use sfdu_samples::to_bits;
 
@@ -31,30 +32,48 @@ const NUMBER: usize = 4;
 
 const MOST_PACKED: usize = 32768;
 
-pub fn line(f: Frame, a: &[u8]) -> Line {
+// How many numbers the answers have where they are accepted: of samples, and of the gain.
+const COUNTED: usize = 2;
+
+const GAIN: usize = 2;
+
+pub fn line(f: Frame, a: &[u8], out: &mut [u8], at: usize) -> usize {
     let op = f.op;
     match op {
-        13 => unpack(f, a),
-        14 => pack(f, a),
-        15 => gain(sfdu_gain::gain(a, f.x)),
-        _ => Line::empty(),
+        13 => unpack(f, a, out, at),
+        14 => pack(f, a, out, at),
+        15 => gain(a, f.x, out, at),
+        _ => at,
     }
 }
 
-fn unpack(f: Frame, a: &[u8]) -> Line {
+fn gain(a: &[u8], edition: u32, out: &mut [u8], at: usize) -> usize {
+    let answer = receivers::gain(sfdu_gain::gain(a, edition));
+    told_or(out, at, answer, GAIN, places::GAIN, b"none")
+}
+
+fn unpack(f: Frame, a: &[u8], out: &mut [u8], at: usize) -> usize {
     let mut numbers = [NUMBER_FILL; MOST_NUMBERS];
     let mut bytes = [0u8; NUMBER * MOST_NUMBERS];
-    unpack_into(a, f.z as usize, &mut numbers, &mut bytes)
+    unpack_into(a, f.z as usize, &mut numbers, &mut bytes, out, at)
 }
 
 // Into the first z of the numbers: all of these go into the crc. No words where there are fewer.
-fn unpack_into(a: &[u8], z: usize, numbers: &mut [i32], bytes: &mut [u8]) -> Line {
+fn unpack_into(
+    a: &[u8],
+    z: usize,
+    numbers: &mut [i32],
+    bytes: &mut [u8],
+    out: &mut [u8],
+    at: usize,
+) -> usize {
     if numbers.len() < z {
-        return Line::empty();
+        return at;
     }
     let lent = &mut numbers[..z];
-    let answer = sfdu_samples::unpack(a, lent);
-    counted(answer).number32(crc_of(lent, bytes))
+    let answer = receivers::samples(sfdu_samples::unpack(a, lent));
+    let end = told(out, at, answer, COUNTED);
+    number(out, end, crc_of(lent, bytes) as u64)
 }
 
 // The crc of numbers laid out as bytes, for which there is room.
@@ -75,39 +94,32 @@ fn lay_out(numbers: &[i32], bytes: &mut [u8])
     }
 }
 
-fn counted(answer: Answer) -> Line {
-    match answer {
-        Answer::Count(n) => Line::accepted().size(n),
-        Answer::Header(fault) => refused(fault),
-        Answer::Refused(why) => Line::refused(why),
-    }
-}
-
-// The number that goes with a refusal stands behind it.
-fn refused(fault: Fault) -> Line {
-    let refusal = fault.refusal;
-    Line::refused(refusal).size(fault.at)
-}
-
-fn pack(f: Frame, a: &[u8]) -> Line {
+fn pack(f: Frame, a: &[u8], out: &mut [u8], at: usize) -> usize {
     let mut numbers = [0i32; MOST_PACKED];
     let mut slice = [SLICE_FILL; MOST_SLICE];
-    pack_from(f, a, &mut numbers, &mut slice)
+    pack_from(f, a, &mut numbers, &mut slice, out, at)
 }
 
 // The numbers are read from the run; all of the bytes that are lent go into the crc. No words where the run is no whole number of
 // numbers, or there is no room for them or for the bytes.
-fn pack_from(f: Frame, a: &[u8], numbers: &mut [i32], slice: &mut [u8]) -> Line {
+fn pack_from(
+    f: Frame,
+    a: &[u8],
+    numbers: &mut [i32],
+    slice: &mut [u8],
+    out: &mut [u8],
+    at: usize,
+) -> usize {
     let n = a.len() / NUMBER;
     if n * NUMBER != a.len() {
-        return Line::empty();
+        return at;
     }
     if numbers.len() < n {
-        return Line::empty();
+        return at;
     }
     let samples = &mut numbers[..n];
     fill(a, samples);
-    pack_into(f.x, f.y, samples, f.z as usize, slice)
+    pack_into(f, samples, slice, out, at)
 }
 
 fn fill(a: &[u8], numbers: &mut [i32])
@@ -118,20 +130,13 @@ fn fill(a: &[u8], numbers: &mut [i32])
     }
 }
 
-fn pack_into(size: u32, rate: u32, numbers: &[i32], z: usize, slice: &mut [u8]) -> Line {
+fn pack_into(f: Frame, numbers: &[i32], slice: &mut [u8], out: &mut [u8], at: usize) -> usize {
+    let z = f.z as usize;
     if slice.len() < z {
-        return Line::empty();
+        return at;
     }
     let lent = &mut slice[..z];
-    let answer = sfdu_samples::pack(size, rate, numbers, lent);
-    counted(answer).number32(crc(lent))
-}
-
-fn gain(answer: GainAnswer) -> Line {
-    match answer {
-        GainAnswer::Multiplier(n) => Line::accepted().number32(n),
-        GainAnswer::Nothing => Line::accepted().nothing(),
-        GainAnswer::Header(fault) => refused(fault),
-        GainAnswer::Refused(why) => Line::refused(why),
-    }
+    let answer = receivers::samples(sfdu_samples::pack(f.x, f.y, numbers, lent));
+    let end = told(out, at, answer, COUNTED);
+    number(out, end, crc(lent) as u64)
 }

@@ -2,7 +2,6 @@
 use crate::seasons;
 use crate::sheets;
 use call_lines::Frame;
-use call_lines::line::Line;
 
 // The first op on the sheet. After it the sheet is as long as the frame's first run.
 pub const NEW_SHEET: u32 = 19;
@@ -16,28 +15,36 @@ const SEASON: u32 = 33;
 // The op that plays a trace again over the sheet.
 const REPLAY: u32 = 32;
 
-pub fn call(f: Frame, a: &[u8], b: &[u8], sheet: &mut [u8], n: usize) -> Line {
+pub fn call(
+    f: Frame,
+    a: &[u8],
+    b: &[u8],
+    sheet: &mut [u8],
+    n: usize,
+    out: &mut [u8],
+    at: usize,
+) -> usize {
     if f.op < NEW_SHEET {
-        return on_bytes(f, a, b);
+        return on_bytes(f, a, b, out, at);
     }
     if f.op == NEW_SHEET {
-        return sheets::new_sheet(a, sheet);
+        return sheets::new_sheet(a, sheet, out, at);
     }
     if f.op == CONVERT {
-        return sheets::converted(a, sheet, f.z as usize);
+        return sheets::converted(a, sheet, f.z as usize, out, at);
     }
     if f.op == SEASON {
-        return seasons::season(a);
+        return seasons::season(a, out, at);
     }
     if f.op == REPLAY {
-        return sheets::replayed(a, sheet, n);
+        return sheets::replayed(a, sheet, n, out, at);
     }
-    sheets::on_sheet(f, sheet, n)
+    sheets::on_sheet(f, sheet, n, out, at)
 }
 
-fn on_bytes(f: Frame, a: &[u8], b: &[u8]) -> Line {
+fn on_bytes(f: Frame, a: &[u8], b: &[u8], out: &mut [u8], at: usize) -> usize {
     if (call_samples::FIRST <= f.op) & (f.op <= call_samples::LAST) {
-        return call_samples::line(f, a);
+        return call_samples::line(f, a, out, at);
     }
-    call_lines::on_bytes(f, a, b)
+    call_lines::on_bytes(f, a, b, out, at)
 }

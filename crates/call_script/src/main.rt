@@ -6,10 +6,10 @@ mod frame;
 mod missions;
 mod seasons;
 mod sheets;
-mod text;
 
 use call_lines::Frame;
-use call_lines::line::Line;
+use call_lines::line::before;
+use call_lines::line::letters;
 use frame::MOST_RUNS;
 use frame::Next;
 use frame::behind;
@@ -26,6 +26,8 @@ const MOST_TEXT: usize = 65536;
 // Text is written once there is more of it than this: then there is room for the longest line.
 const ENOUGH: usize = 32768;
 
+const LINE_END: u8 = b'\n';
+
 // A proved loop has to end, and nothing says that a script does: so the loop counts its frames down, from 2^47, which no run uses
 // up.
 const FRAMES: u64 = 140737488355328;
@@ -40,13 +42,6 @@ struct Lengths {
 struct State {
     kept: Lengths,
     text: usize,
-    on: bool,
-}
-
-// What a frame makes: its line, what is kept after it, and whether the run goes on.
-struct Turn {
-    line: Line,
-    kept: Lengths,
     on: bool,
 }
 
@@ -69,11 +64,31 @@ fn run(runs: &mut [u8], sheet: &mut [u8], settings: &mut [u8], out: &mut [u8]) {
     };
     let mut frames = FRAMES;
     while 0 < frames {
-        let kept = s.kept;
-        s = lay_out(out, s.text, take_frame(runs, sheet, settings, kept));
+        s = turn(runs, sheet, settings, out, s);
         frames = frames_left(s, frames);
     }
     flush(out, s);
+}
+
+// One frame, its line, and the text written once there is enough of it.
+fn turn(runs: &mut [u8], sheet: &mut [u8], settings: &mut [u8], out: &mut [u8], s: State) -> State {
+    let next = take_frame(runs, sheet, settings, out, s);
+    end_line(out, s.text, next.text);
+    if next.text <= ENOUGH {
+        return next;
+    }
+    flush(out, next)
+}
+
+// The last space of a line, if it has words, becomes its end.
+fn end_line(out: &mut [u8], at: usize, end: usize) {
+    if end <= at {
+        return;
+    }
+    let last = before(end);
+    if last < out.len() {
+        out[last] = LINE_END;
+    }
 }
 
 // How many frames more may be read: none once the run has ended.
@@ -88,37 +103,57 @@ fn frames_left(s: State, frames: u64) -> u64
 }
 
 // Reads a frame and makes its call.
-fn take_frame(runs: &mut [u8], sheet: &mut [u8], settings: &mut [u8], kept: Lengths) -> Turn {
+fn take_frame(
+    runs: &mut [u8],
+    sheet: &mut [u8],
+    settings: &mut [u8],
+    out: &mut [u8],
+    s: State,
+) -> State {
     let next = frame::read(runs);
     match next {
-        Next::End => Turn {
-            line: Line::empty(),
-            kept,
-            on: false,
-        },
-        Next::Bad => bad_frame(kept),
-        Next::Frame(f) => answer(f, runs, sheet, settings, kept),
+        Next::End => ended(s),
+        Next::Bad => bad_frame(out, s),
+        Next::Frame(f) => answer(f, runs, sheet, settings, out, s),
     }
 }
 
-fn bad_frame(kept: Lengths) -> Turn {
-    Turn {
-        line: Line::bad_frame(),
+fn ended(s: State) -> State {
+    let kept = s.kept;
+    State {
         kept,
+        text: s.text,
         on: false,
     }
 }
 
-fn answer(f: Frame, runs: &[u8], sheet: &mut [u8], settings: &mut [u8], kept: Lengths) -> Turn {
+fn bad_frame(out: &mut [u8], s: State) -> State {
+    let kept = s.kept;
+    State {
+        kept,
+        text: letters(out, s.text, b"bad frame"),
+        on: false,
+    }
+}
+
+fn answer(
+    f: Frame,
+    runs: &[u8],
+    sheet: &mut [u8],
+    settings: &mut [u8],
+    out: &mut [u8],
+    s: State,
+) -> State {
     let a = first(runs, f.a);
     let b = first(behind(runs, f.a), f.b);
-    let line = line_of(f, a, b, sheet, settings, kept);
-    if line.count == 0 {
-        return bad_frame(kept);
+    let kept = s.kept;
+    let end = line_of(f, a, b, sheet, settings, kept, out, s.text);
+    if end == s.text {
+        return bad_frame(out, s);
     }
-    Turn {
-        line,
+    State {
         kept: kept_after(f, kept),
+        text: end,
         on: true,
     }
 }
@@ -130,11 +165,13 @@ fn line_of(
     sheet: &mut [u8],
     settings: &mut [u8],
     kept: Lengths,
-) -> Line {
+    out: &mut [u8],
+    at: usize,
+) -> usize {
     if f.op < missions::NEW_SETTINGS {
-        return calls::call(f, a, b, sheet, kept.sheet);
+        return calls::call(f, a, b, sheet, kept.sheet, out, at);
     }
-    missions::call(f, a, settings, kept.settings)
+    missions::call(f, a, settings, kept.settings, out, at)
 }
 
 // What is kept after a frame.
@@ -155,21 +192,6 @@ fn kept_after(f: Frame, kept: Lengths) -> Lengths {
         },
         _ => kept,
     }
-}
-
-// Lays out the line of a frame, and writes the text once there is enough of it.
-fn lay_out(out: &mut [u8], at: usize, turn: Turn) -> State {
-    let line = turn.line;
-    let kept = turn.kept;
-    let s = State {
-        kept,
-        text: text::lay_out(out, at, line),
-        on: turn.on,
-    };
-    if s.text <= ENOUGH {
-        return s;
-    }
-    flush(out, s)
 }
 
 // Writes the text that is laid out. A run whose text cannot be written ends.

@@ -1,71 +1,73 @@
 // The lines of the calls on mission settings.
 use crate::sheets::new_sheet;
+use answers::FEW;
+use answers::agreements;
 use call_lines::Frame;
 use call_lines::crc::crc;
-use call_lines::line::Line;
-use settings::Answer;
-use settings::Asked;
+use call_lines::line::number;
+use call_lines::line::told;
 
 // The first op on the settings. After it they are as long as the frame's first run.
 pub const NEW_SETTINGS: u32 = 39;
 
 const MAKE_EMPTY: u32 = 40;
 
+const ADD: u32 = 41;
+
+const ASK: u32 = 42;
+
 const MOST_MISSION: u32 = 255;
 
-pub fn call(f: Frame, a: &[u8], room: &mut [u8], n: usize) -> Line {
+// How many numbers the answers have where they are accepted: of one that has nothing to tell, and of asking.
+const DONE: usize = 1;
+
+const SETTING: usize = 4;
+
+pub fn call(f: Frame, a: &[u8], room: &mut [u8], n: usize, out: &mut [u8], at: usize) -> usize {
     if f.op == NEW_SETTINGS {
-        return new_sheet(a, room);
+        return new_sheet(a, room, out, at);
     }
-    on_settings(f, room, n)
+    if !is_call(f) {
+        return at;
+    }
+    on_settings(f, room, n, out, at)
+}
+
+fn is_call(f: Frame) -> bool {
+    if f.op == MAKE_EMPTY {
+        return true;
+    }
+    ((f.op == ADD) | (f.op == ASK)) & (f.x <= MOST_MISSION)
 }
 
 // A call on the settings, which are the first n bytes of their room. The crc of all of them after the call ends its line.
-fn on_settings(f: Frame, room: &mut [u8], n: usize) -> Line {
+fn on_settings(f: Frame, room: &mut [u8], n: usize, out: &mut [u8], at: usize) -> usize {
     if room.len() < n {
-        return Line::empty();
+        return at;
     }
     let s = &mut room[..n];
-    let line = made(f, s);
-    if line.count == 0 {
-        return line;
-    }
-    line.number32(crc(s))
+    let end = told(out, at, made(f, s), told_count(f));
+    number(out, end, crc(s) as u64)
 }
 
-fn made(f: Frame, s: &mut [u8]) -> Line {
+fn told_count(f: Frame) -> usize {
+    if f.op == ASK {
+        return SETTING;
+    }
+    DONE
+}
+
+fn made(f: Frame, s: &mut [u8]) -> [u64; FEW] {
     if f.op == MAKE_EMPTY {
-        return done(settings::make_empty(s));
+        return agreements::answer(settings::make_empty(s));
     }
-    if MOST_MISSION < f.x {
-        return Line::empty();
+    let mission = low_byte(f.x);
+    if f.op == ADD {
+        return agreements::answer(settings::add(s, mission, f.y, f.z, f.w));
     }
-    let mission = f.x as u8;
-    let op = f.op;
-    match op {
-        41 => done(settings::add(s, mission, f.y, f.z, f.w)),
-        42 => told(settings::ask(s, mission, f.y)),
-        _ => Line::empty(),
-    }
+    agreements::asked(settings::ask(s, mission, f.y))
 }
 
-fn done(answer: Answer) -> Line {
-    match answer {
-        Answer::Done => Line::accepted(),
-        Answer::Refused(why) => Line::refused(why),
-    }
-}
-
-fn told(answer: Asked) -> Line {
-    match answer {
-        Asked::Given {
-            edition,
-            day,
-            frame,
-        } => Line::accepted()
-            .number32(edition)
-            .number32(day)
-            .number32(frame),
-        Asked::Refused(why) => Line::refused(why),
-    }
+fn low_byte(n: u32) -> u8 {
+    (n % (MOST_MISSION + 1)) as u8
 }

@@ -1,49 +1,55 @@
 // The line of the season's report.
-use call_lines::line::Line;
+use answers::NONE;
+use answers::places;
+use answers::seasons::in_all;
+use call_lines::line::letters;
+use call_lines::line::number;
+use call_lines::line::numbers;
 use ledger_season::MOST_SHEETS;
-use ledger_season::SeasonGap;
 use ledger_season::SeasonReport;
 use ledger_season::SheetCounts;
-use ledger_sheet::Answer;
 
-pub fn season(a: &[u8]) -> Line {
+// How many numbers the season in all has, where it is accepted.
+const IN_ALL: usize = 8;
+
+// Those of each sheet stand between the count of sheets and the counts in all.
+pub fn season(a: &[u8], out: &mut [u8], at: usize) -> usize {
     let report = ledger_season::season(a);
     let answer = report.answer;
-    match answer {
-        Answer::Done => told(report),
-        Answer::Refused(why) => Line::refused(why),
-    }
-}
-
-fn told(report: SeasonReport) -> Line {
-    let sheets = each(Line::accepted().number32(report.count), report);
     let total = report.total;
     let gap = report.gap;
-    gap_of(counts(sheets, total), gap)
+    let whole = in_all(answer, report.count, total, gap);
+    if whole[places::REFUSAL] != 0 {
+        return number(out, at, whole[places::REFUSAL]);
+    }
+    let begun = numbers(out, at, &whole, 0, places::SEASON_TICKED);
+    let listed = each(out, begun, report);
+    let counted = numbers(
+        out,
+        listed,
+        &whole,
+        places::SEASON_TICKED,
+        places::SEASON_GAP_SHEET,
+    );
+    if whole[places::SEASON_GAP_SHEET] == NONE {
+        return letters(out, counted, b"none");
+    }
+    numbers(out, counted, &whole, places::SEASON_GAP_SHEET, IN_ALL)
 }
 
-fn each(line: Line, report: SeasonReport) -> Line {
-    let mut end = line;
+fn each(out: &mut [u8], at: usize, report: SeasonReport) -> usize {
+    let mut end = at;
     for i in 0..MOST_SHEETS {
         if report.count <= i as u32 {
             return end;
         }
-        end = counts(end, report.sheets[i]);
+        end = counts(out, end, report.sheets[i]);
     }
     end
 }
 
-fn counts(line: Line, c: SheetCounts) -> Line {
-    line.number32(c.ticked)
-        .number32(c.missing)
-        .number32(c.per_million)
-}
-
-fn gap_of(line: Line, gap: SeasonGap) -> Line {
-    match gap {
-        SeasonGap::Nothing => line.nothing(),
-        SeasonGap::Gap { sheet, row, number } => {
-            line.number32(sheet).number32(row).number32(number)
-        }
-    }
+fn counts(out: &mut [u8], at: usize, c: SheetCounts) -> usize {
+    let ticked = number(out, at, c.ticked as u64);
+    let missing = number(out, ticked, c.missing as u64);
+    number(out, missing, c.per_million as u64)
 }

@@ -1,59 +1,56 @@
 // The lines of the calls on the ledger sheet.
+use answers::FEW;
+use answers::ledgers;
+use answers::nights;
+use answers::places;
 use call_lines::Frame;
 use call_lines::crc::crc;
-use call_lines::line::Line;
-use ledger_replay::Replayed;
+use call_lines::line::number;
+use call_lines::line::told;
+use call_lines::line::told_or;
 use ledger_sheet::Answer;
-use ledger_sheet::GapAnswer;
-use ledger_sheet::ReportAnswer;
-use ledger_sheet::RowAnswer;
 
-// The sheet becomes the bytes of a.
-pub fn new_sheet(a: &[u8], room: &mut [u8]) -> Line {
-    if room.len() < a.len() {
-        return Line::empty();
-    }
-    bytes::copy(a, room);
-    Line::accepted().number32(crc(a))
-}
+// The number of an accepted call.
+const ACCEPTED: u64 = 0;
+
+// How many numbers the answers have where they are accepted.
+const DONE: usize = 1;
+
+const ROW: usize = 2;
+
+const REPORT: usize = 4;
+
+const GAP: usize = 3;
+
+const REPLAYED: usize = 4;
 
 // What a slice that is lent to be written holds before.
 const BEFORE: u8 = 165;
 
+// The sheet becomes the bytes of a.
+pub fn new_sheet(a: &[u8], room: &mut [u8], out: &mut [u8], at: usize) -> usize {
+    if room.len() < a.len() {
+        return at;
+    }
+    bytes::copy(a, room);
+    let end = number(out, at, ACCEPTED);
+    number(out, end, crc(a) as u64)
+}
+
 // The old sheet a converted into n bytes, which become the sheet.
-pub fn converted(a: &[u8], room: &mut [u8], n: usize) -> Line {
+pub fn converted(a: &[u8], room: &mut [u8], n: usize, out: &mut [u8], at: usize) -> usize {
     if room.len() < n {
-        return Line::empty();
+        return at;
     }
     let s = &mut room[..n];
     fill(s);
-    let line = done(ledger_convert::convert(a, s));
-    line.number32(crc(s))
-}
-
-// The trace t played again over the sheet, which is the first n bytes of its room.
-pub fn replayed(t: &[u8], room: &mut [u8], n: usize) -> Line {
-    if room.len() < n {
-        return Line::empty();
-    }
-    let s = &mut room[..n];
-    let line = played(ledger_replay::replay(t, s));
-    line.number32(crc(s))
-}
-
-fn played(answer: Replayed) -> Line {
-    match answer {
-        Replayed::Same => Line::accepted().same(),
-        Replayed::Differs { entry, number, row } => differing(entry, number, row),
-        Replayed::Refused(why) => Line::refused(why),
-    }
-}
-
-fn differing(entry: u32, number: u32, row: u32) -> Line {
-    Line::accepted()
-        .number32(entry)
-        .number32(number)
-        .number32(row)
+    let end = told(
+        out,
+        at,
+        ledgers::answer(ledger_convert::convert(a, s)),
+        DONE,
+    );
+    number(out, end, crc(s) as u64)
 }
 
 fn fill(s: &mut [u8]) {
@@ -62,25 +59,36 @@ fn fill(s: &mut [u8]) {
     }
 }
 
-// A call on the sheet, which is the first n bytes of its room. The crc of the whole sheet after the call ends its line.
-pub fn on_sheet(f: Frame, room: &mut [u8], n: usize) -> Line {
+// The trace t played again over the sheet, which is the first n bytes of its room.
+pub fn replayed(t: &[u8], room: &mut [u8], n: usize, out: &mut [u8], at: usize) -> usize {
     if room.len() < n {
-        return Line::empty();
+        return at;
     }
     let s = &mut room[..n];
-    let line = call(f, s);
-    if line.count == 0 {
-        return line;
-    }
-    line.number32(crc(s))
+    let answer = nights::replayed(ledger_replay::replay(t, s));
+    let end = told_or(out, at, answer, REPLAYED, places::ENTRY, b"same");
+    number(out, end, crc(s) as u64)
 }
 
-fn call(f: Frame, s: &mut [u8]) -> Line {
+// A call on the sheet, which is the first n bytes of its room. The crc of the whole sheet after the call ends its line.
+pub fn on_sheet(f: Frame, room: &mut [u8], n: usize, out: &mut [u8], at: usize) -> usize {
+    if room.len() < n {
+        return at;
+    }
+    let s = &mut room[..n];
+    let end = call(f, s, out, at);
+    if end == at {
+        return at;
+    }
+    number(out, end, crc(s) as u64)
+}
+
+fn call(f: Frame, s: &mut [u8], out: &mut [u8], at: usize) -> usize {
     let op = f.op;
     match op {
-        20 | 23..=27 | 30 => done(change(f, s)),
-        21 => row(ledger::enrol(s, f.key, f.x)),
-        _ => ask(f, s),
+        20 | 23..=27 | 30 => told(out, at, ledgers::answer(change(f, s)), DONE),
+        21 => told(out, at, ledgers::row(ledger::enrol(s, f.key, f.x)), ROW),
+        _ => ask(f, s, out, at),
     }
 }
 
@@ -99,50 +107,20 @@ fn change(f: Frame, s: &mut [u8]) -> Answer {
 }
 
 // The calls that change nothing.
-fn ask(f: Frame, s: &[u8]) -> Line {
+fn ask(f: Frame, s: &[u8], out: &mut [u8], at: usize) -> usize {
     let op = f.op;
     match op {
-        22 => row(ledger::find(s, f.key)),
-        28 => report(ledger::row_report(s, f.x)),
-        29 => gap(ledger::first_gap(s)),
-        _ => Line::empty(),
+        22 => told(out, at, ledgers::row(ledger::find(s, f.key)), ROW),
+        28 => report(ledgers::report(ledger::row_report(s, f.x)), out, at),
+        29 => gap(ledgers::gap(ledger::first_gap(s)), out, at),
+        _ => at,
     }
 }
 
-fn done(answer: Answer) -> Line {
-    match answer {
-        Answer::Done => Line::accepted(),
-        Answer::Refused(why) => Line::refused(why),
-    }
+fn report(answer: [u64; FEW], out: &mut [u8], at: usize) -> usize {
+    told_or(out, at, answer, REPORT, places::LOWEST, b"none")
 }
 
-fn row(answer: RowAnswer) -> Line {
-    match answer {
-        RowAnswer::Row(row) => Line::accepted().number32(row),
-        RowAnswer::Refused(why) => Line::refused(why),
-    }
-}
-
-fn report(answer: ReportAnswer) -> Line {
-    match answer {
-        ReportAnswer::Whole { ticked } => counts(ticked, 0).nothing(),
-        ReportAnswer::Gaps {
-            ticked,
-            missing,
-            lowest,
-        } => counts(ticked, missing).number32(lowest),
-        ReportAnswer::Refused(why) => Line::refused(why),
-    }
-}
-
-fn counts(ticked: u32, missing: u32) -> Line {
-    Line::accepted().number32(ticked).number32(missing)
-}
-
-fn gap(answer: GapAnswer) -> Line {
-    match answer {
-        GapAnswer::Nothing => Line::accepted().nothing(),
-        GapAnswer::Gap { number, row } => Line::accepted().number32(number).number32(row),
-        GapAnswer::Refused(why) => Line::refused(why),
-    }
+fn gap(answer: [u64; FEW], out: &mut [u8], at: usize) -> usize {
+    told_or(out, at, answer, GAP, places::GAP_NUMBER, b"none")
 }

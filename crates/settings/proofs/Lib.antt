@@ -9,3 +9,4 @@ pub mod Order
 pub mod Answers
 pub mod Contracts
 pub mod Examples
+pub mod Known

@@ -48,10 +48,15 @@ module _ (sheet s : List ℕ) where
   unfolding agreedGain
   agreed-refused g f = headed s _ _ g f
 
+  pub agreed-past : NoneHolds (rsrRules s)
+      → agreedGain sheet s ≡ judge (map number) (askedRules sheet s) (number 0 ∷ gainOf (editionOf (agreed sheet s)) s ∷ [])
+  unfolding agreedGain
+  agreed-past h = past s (askedRules sheet s) _ h
+
   pub agreed-told : NoneHolds (rsrRules s) → (asked : Asked)
       → askedWords asked ≡ onSheet (ask (mission s) (dayCount (year s) (day s))) sheet .0 → toldGain asked s ≡ agreedGain sheet s
-  unfolding agreedGain judge onSheet ask
-  agreed-told h asked e = by asked (right sheet) (agreed sheet s) refl refl e ∙ sym (past s (askedRules sheet s) _ h)
+  unfolding judge onSheet ask
+  agreed-told h asked e = by asked (right sheet) (agreed sheet s) refl refl e ∙ sym (agreed-past h)
     where
       by : (asked : Asked) (b : Bool) (f : Found) → right sheet ≡ b → agreed sheet s ≡ f
           → askedWords asked ≡ onSheet (ask (mission s) (dayCount (year s) (day s))) sheet .0

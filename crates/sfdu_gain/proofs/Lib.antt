@@ -1,2 +1,4 @@
 pub mod Judged
 pub mod Words
+pub mod Agreed
+pub mod Contracts

@@ -1,2 +1,3 @@
 pub mod Gain
 pub mod Inner
+pub mod Agreed

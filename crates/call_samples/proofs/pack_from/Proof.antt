@@ -1,6 +1,6 @@
 -- `call_samples::pack_from` is safe. Assumes nothing.
-use native.Mathlib.Omega.{arith}
 use Prim.Native.Nat.{_/_}
+use native.Mathlib.Omega.{arith}
 use mathlib.Core.Path.{sym}
 use lib.ListN.{length}
 use lib.Seq.{length-take-le}
@@ -11,14 +11,8 @@ use Rattle.call_samples.proofs.pack_from.Tie as tie
 mul-if1 : tie.Need-mul-if1
 mul-if1 c = search needs
 
-empty-requires : tie.Need-empty-requires
-empty-requires c κs = search needs
-
 returns : tie.Need-returns
 returns c = search needs
-
-empty-requires-2 : tie.Need-empty-requires-2
-empty-requires-2 c κs = search needs
 
 returns-2 : tie.Need-returns-2
 returns-2 c = search needs
@@ -31,11 +25,8 @@ slice-aggregate-samples c = sym (length-take-le _ _ (omega arith))
 
 fill-requires : tie.Need-fill-requires
 fill-requires c κs =
-    let g = c .before .before .before .before .before .before .args in
+    let g = c .before .before .before .before .before .before .before .args in
     omega (arith, length-take-le (length (g .a .now) / 4) (g .numbers .now) (omega arith))
-
-cast-pack-into : tie.Need-cast-pack-into
-cast-pack-into c = search needs
 
 pack-into-requires : tie.Need-pack-into-requires
 pack-into-requires c κs = search needs
@@ -46,6 +37,9 @@ same-length c = search needs
 same-length-2 : tie.Need-same-length-2
 same-length-2 c = search needs
 
+same-length-3 : tie.Need-same-length-3
+same-length-3 c = search needs
+
 returns-3 : tie.Need-returns-3
 returns-3 c = search needs
 
@@ -54,15 +48,13 @@ pack-from-spec =
     tie.close
     (tie.spec
     mul-if1
-    empty-requires
     returns
-    empty-requires-2
     returns-2
     slice-relend-prefix-samples
     slice-aggregate-samples
     fill-requires
-    cast-pack-into
     pack-into-requires
     same-length
     same-length-2
+    same-length-3
     returns-3)

@@ -6,8 +6,8 @@ use borrow.Author.Needs.{needs}
 use Rattle.call_samples.proofs.pack_into.Statement.{statement}
 use Rattle.call_samples.proofs.pack_into.Tie as tie
 
-empty-requires : tie.Need-empty-requires
-empty-requires c κs = search needs
+cast-z : tie.Need-cast-z
+cast-z c = search needs
 
 returns : tie.Need-returns
 returns c = search needs
@@ -21,17 +21,26 @@ slice-aggregate-lent c = sym (length-take-le _ _ (omega arith))
 pack-requires : tie.Need-pack-requires
 pack-requires c κs = search needs
 
-counted-requires : tie.Need-counted-requires
-counted-requires c κs = search needs
+samples-requires : tie.Need-samples-requires
+samples-requires c κs = search needs
+
+told-requires : tie.Need-told-requires
+told-requires c κs = search needs
 
 crc-requires : tie.Need-crc-requires
 crc-requires c κs = search needs
 
-number32-requires : tie.Need-number32-requires
-number32-requires c κs = search needs
+cast-number : tie.Need-cast-number
+cast-number c = search needs
+
+number-requires : tie.Need-number-requires
+number-requires c κs = search needs
 
 same-length : tie.Need-same-length
 same-length c = search needs
+
+same-length-2 : tie.Need-same-length-2
+same-length-2 c = search needs
 
 returns-2 : tie.Need-returns-2
 returns-2 c = search needs
@@ -40,13 +49,16 @@ pub pack-into-spec : {M : Type 1} → statement M
 pack-into-spec =
     tie.close
     (tie.spec
-    empty-requires
+    cast-z
     returns
     slice-relend-prefix-lent
     slice-aggregate-lent
     pack-requires
-    counted-requires
+    samples-requires
+    told-requires
     crc-requires
-    number32-requires
+    cast-number
+    number-requires
     same-length
+    same-length-2
     returns-2)

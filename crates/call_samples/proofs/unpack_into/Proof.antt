@@ -6,9 +6,6 @@ use borrow.Author.Needs.{needs}
 use Rattle.call_samples.proofs.unpack_into.Statement.{statement}
 use Rattle.call_samples.proofs.unpack_into.Tie as tie
 
-empty-requires : tie.Need-empty-requires
-empty-requires c κs = search needs
-
 returns : tie.Need-returns
 returns c = search needs
 
@@ -21,20 +18,29 @@ slice-aggregate-lent c = sym (length-take-le _ _ (omega arith))
 unpack-requires : tie.Need-unpack-requires
 unpack-requires c κs = search needs
 
-counted-requires : tie.Need-counted-requires
-counted-requires c κs = search needs
+samples-requires : tie.Need-samples-requires
+samples-requires c κs = search needs
+
+told-requires : tie.Need-told-requires
+told-requires c κs = search needs
 
 crc-of-requires : tie.Need-crc-of-requires
 crc-of-requires c κs = search needs
 
-number32-requires : tie.Need-number32-requires
-number32-requires c κs = search needs
+cast-number : tie.Need-cast-number
+cast-number c = search needs
+
+number-requires : tie.Need-number-requires
+number-requires c κs = search needs
 
 same-length : tie.Need-same-length
 same-length c = search needs
 
 same-length-2 : tie.Need-same-length-2
 same-length-2 c = search needs
+
+same-length-3 : tie.Need-same-length-3
+same-length-3 c = search needs
 
 returns-2 : tie.Need-returns-2
 returns-2 c = search needs
@@ -43,14 +49,16 @@ pub unpack-into-spec : {M : Type 1} → statement M
 unpack-into-spec =
     tie.close
     (tie.spec
-    empty-requires
     returns
     slice-relend-prefix-lent
     slice-aggregate-lent
     unpack-requires
-    counted-requires
+    samples-requires
+    told-requires
     crc-of-requires
-    number32-requires
+    cast-number
+    number-requires
     same-length
     same-length-2
+    same-length-3
     returns-2)

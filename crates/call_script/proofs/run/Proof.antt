@@ -15,11 +15,8 @@ abbrev μ-loop : tie.MeasureT-loop
 loop-holds : tie.Need-loop-holds Inv-loop μ-loop
 loop-holds c = (refl, refl, refl, refl)
 
-take-frame-requires : tie.Need-take-frame-requires Inv-loop μ-loop
-take-frame-requires c κs = tt
-
-lay-out-requires : tie.Need-lay-out-requires Inv-loop μ-loop
-lay-out-requires c κs = tt
+turn-requires : tie.Need-turn-requires Inv-loop μ-loop
+turn-requires c κs = tt
 
 frames-left-requires : tie.Need-frames-left-requires Inv-loop μ-loop
 frames-left-requires c κs = omega arith
@@ -55,8 +52,7 @@ run-spec =
     Inv-loop
     μ-loop
     loop-holds
-    take-frame-requires
-    lay-out-requires
+    turn-requires
     frames-left-requires
     loop-less
     loop-again

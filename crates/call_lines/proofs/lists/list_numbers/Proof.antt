@@ -17,9 +17,6 @@ cast-z c = search needs
 cast-w : tie.Need-cast-w
 cast-w c = search needs
 
-empty-requires : tie.Need-empty-requires
-empty-requires c κs = search needs
-
 returns : tie.Need-returns
 returns c = search needs
 
@@ -41,11 +38,11 @@ array-borrow-prefix-kinds c = search needs
 slice-aggregate-list-numbers-3 : tie.Need-slice-aggregate-list-numbers-3
 slice-aggregate-list-numbers-3 c = sym (length-take-le _ _ (array-borrow-prefix-kinds (c .before)))
 
-array-borrow-prefix-numbers : tie.Need-array-borrow-prefix-numbers
-array-borrow-prefix-numbers c = search needs
+array-borrow-prefix-record-numbers : tie.Need-array-borrow-prefix-record-numbers
+array-borrow-prefix-record-numbers c = search needs
 
 slice-aggregate-list-numbers-4 : tie.Need-slice-aggregate-list-numbers-4
-slice-aggregate-list-numbers-4 c = sym (length-take-le _ _ (array-borrow-prefix-numbers (c .before)))
+slice-aggregate-list-numbers-4 c = sym (length-take-le _ _ (array-borrow-prefix-record-numbers (c .before)))
 
 list-numbers-requires : tie.Need-list-numbers-requires
 list-numbers-requires c κs = search needs
@@ -53,23 +50,20 @@ list-numbers-requires c κs = search needs
 stopped-requires : tie.Need-stopped-requires
 stopped-requires c κs = search needs
 
-list-requires : tie.Need-list-requires
-list-requires c κs = search needs
+long-numbers-requires : tie.Need-long-numbers-requires
+long-numbers-requires c κs = search needs
 
-list-requires-2 : tie.Need-list-requires-2
-list-requires-2 c κs = search needs
+long-numbers-requires-2 : tie.Need-long-numbers-requires-2
+long-numbers-requires-2 c κs = search needs
 
-wide-list-requires : tie.Need-wide-list-requires
-wide-list-requires c κs = search needs
+short-numbers-requires : tie.Need-short-numbers-requires
+short-numbers-requires c κs = search needs
 
-list-requires-3 : tie.Need-list-requires-3
-list-requires-3 c κs = search needs
+short-numbers-requires-2 : tie.Need-short-numbers-requires-2
+short-numbers-requires-2 c κs = search needs
 
-wide-list-requires-2 : tie.Need-wide-list-requires-2
-wide-list-requires-2 c κs = search needs
-
-list-requires-4 : tie.Need-list-requires-4
-list-requires-4 c κs = search needs
+same-length : tie.Need-same-length
+same-length c = search needs
 
 returns-2 : tie.Need-returns-2
 returns-2 c = search needs
@@ -82,7 +76,6 @@ list-numbers-spec =
     cast-y
     cast-z
     cast-w
-    empty-requires
     returns
     array-borrow-prefix-places
     slice-aggregate-list-numbers
@@ -90,14 +83,13 @@ list-numbers-spec =
     slice-aggregate-list-numbers-2
     array-borrow-prefix-kinds
     slice-aggregate-list-numbers-3
-    array-borrow-prefix-numbers
+    array-borrow-prefix-record-numbers
     slice-aggregate-list-numbers-4
     list-numbers-requires
     stopped-requires
-    list-requires
-    list-requires-2
-    wide-list-requires
-    list-requires-3
-    wide-list-requires-2
-    list-requires-4
+    long-numbers-requires
+    long-numbers-requires-2
+    short-numbers-requires
+    short-numbers-requires-2
+    same-length
     returns-2)

@@ -7,9 +7,6 @@ use Rattle.call_lines.proofs.records.write_one.Tie as tie
 cast-z : tie.Need-cast-z
 cast-z c = search needs
 
-empty-requires : tie.Need-empty-requires
-empty-requires c κs = search needs
-
 returns : tie.Need-returns
 returns c = search needs
 
@@ -31,8 +28,14 @@ written-requires c κs = search needs
 crc-requires : tie.Need-crc-requires
 crc-requires c κs = search needs
 
-number32-requires : tie.Need-number32-requires
-number32-requires c κs = search needs
+cast-number : tie.Need-cast-number
+cast-number c = search needs
+
+number-requires : tie.Need-number-requires
+number-requires c κs = search needs
+
+same-length : tie.Need-same-length
+same-length c = search needs
 
 returns-2 : tie.Need-returns-2
 returns-2 c = search needs
@@ -42,7 +45,6 @@ write-one-spec =
     tie.close
     (tie.spec
     cast-z
-    empty-requires
     returns
     array-borrow-prefix-room
     slice-aggregate-lent
@@ -50,5 +52,7 @@ write-one-spec =
     write-one-requires
     written-requires
     crc-requires
-    number32-requires
+    cast-number
+    number-requires
+    same-length
     returns-2)

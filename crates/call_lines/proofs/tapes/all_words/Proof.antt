@@ -1,41 +1,49 @@
 -- `call_lines::tapes::all_words` is safe and ends. Assumes nothing.
-use borrow.Author.Needs.{needs}
-use Prim.Native.Nat.{_-_, _≤_}
+use Prim.Native.Nat.{_≤_, _-_}
+use native.Mathlib.Omega.{arith}
+use lib.ListN.{length}
+use mathlib.Core.Path.{_≡_, refl}
 use Rattle.call_lines.proofs.tapes.all_words.Statement.{statement}
 use Rattle.call_lines.proofs.tapes.all_words.Tie as tie
 
 abbrev Inv-loop : tie.InvT-loop
-Inv-loop words line₀ i₀ line i = i ≤ 28
+Inv-loop out₀ at words end₀ i₀ i-end out end i = (i ≤ i-end) × (i-end ≡ length words) × (length out ≡ length out₀)
 
 abbrev μ-loop : tie.MeasureT-loop
-μ-loop words line₀ i₀ line i = 28 - i
+μ-loop out₀ at words end₀ i₀ i-end out end i = i-end - i
 
-accepted-requires : tie.Need-accepted-requires Inv-loop μ-loop
-accepted-requires c κs = search needs
+number-requires : tie.Need-number-requires Inv-loop μ-loop
+number-requires c κs = tt
 
 loop-holds : tie.Need-loop-holds Inv-loop μ-loop
-loop-holds c = search needs
+loop-holds c = (omega arith, refl, omega arith)
 
-mul-number16 : tie.Need-mul-number16 Inv-loop μ-loop
-mul-number16 c = search needs
+mul-wide : tie.Need-mul-wide Inv-loop μ-loop
+mul-wide c = omega arith
 
-array-read-number16 : tie.Need-array-read-number16 Inv-loop μ-loop
-array-read-number16 c = search needs
+shared-slice-read-wide : tie.Need-shared-slice-read-wide Inv-loop μ-loop
+shared-slice-read-wide c = omega arith
 
-number16-requires : tie.Need-number16-requires Inv-loop μ-loop
-number16-requires c κs = search needs
+wide-requires : tie.Need-wide-requires Inv-loop μ-loop
+wide-requires c κs = tt
+
+number-requires-2 : tie.Need-number-requires-2 Inv-loop μ-loop
+number-requires-2 c κs = tt
 
 add-i : tie.Need-add-i Inv-loop μ-loop
-add-i c = search needs
+add-i c = omega arith
 
 loop-less : tie.Need-loop-less Inv-loop μ-loop
-loop-less c = search needs
+loop-less c = omega arith
 
 loop-again : tie.Need-loop-again Inv-loop μ-loop
-loop-again c = search needs
+loop-again c = (omega arith, omega arith, omega arith)
+
+same-length : tie.Need-same-length Inv-loop μ-loop
+same-length c = omega arith
 
 returns : tie.Need-returns Inv-loop μ-loop
-returns c = search needs
+returns c = tt
 
 pub all-words-spec : {M : Type 1} → statement M
 all-words-spec =
@@ -43,12 +51,14 @@ all-words-spec =
     (tie.spec
     Inv-loop
     μ-loop
-    accepted-requires
+    number-requires
     loop-holds
-    mul-number16
-    array-read-number16
-    number16-requires
+    mul-wide
+    shared-slice-read-wide
+    wide-requires
+    number-requires-2
     add-i
     loop-less
     loop-again
+    same-length
     returns)

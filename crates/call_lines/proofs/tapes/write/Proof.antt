@@ -10,23 +10,14 @@ use Rattle.call_lines.proofs.tapes.write.Tie as tie
 cast-z : tie.Need-cast-z
 cast-z c = search needs
 
-empty-requires : tie.Need-empty-requires
-empty-requires c κs = search needs
-
 returns : tie.Need-returns
 returns c = search needs
 
 mul-if2 : tie.Need-mul-if2
 mul-if2 c = search needs
 
-empty-requires-2 : tie.Need-empty-requires-2
-empty-requires-2 c κs = search needs
-
 returns-2 : tie.Need-returns-2
 returns-2 c = search needs
-
-empty-requires-3 : tie.Need-empty-requires-3
-empty-requires-3 c κs = search needs
 
 returns-3 : tie.Need-returns-3
 returns-3 c = search needs
@@ -39,12 +30,15 @@ slice-aggregate-words c = first-length _ 0 _ (c .before .if3 .left)
 
 fill-requires : tie.Need-fill-requires
 fill-requires c κs =
-    let n = length (c .before .before .before .before .before .before .before .before .args .a .now) / 2 in
+    let n = length (c .before .before .before .before .before .before .before .before .before .args .a .now) / 2 in
     let l = first-length 65536 0 n (c .before .before .if3 .left) in
     rw (← l) (omega arith)
 
 write-into-requires : tie.Need-write-into-requires
 write-into-requires c κs = search needs
+
+same-length : tie.Need-same-length
+same-length c = search needs
 
 returns-4 : tie.Need-returns-4
 returns-4 c = search needs
@@ -54,15 +48,13 @@ write-spec =
     tie.close
     (tie.spec
     cast-z
-    empty-requires
     returns
     mul-if2
-    empty-requires-2
     returns-2
-    empty-requires-3
     returns-3
     array-borrow-prefix-header
     slice-aggregate-words
     fill-requires
     write-into-requires
+    same-length
     returns-4)

@@ -6,9 +6,6 @@ use borrow.Author.Needs.{needs}
 use Rattle.call_script.proofs.missions.on_settings.Statement.{statement}
 use Rattle.call_script.proofs.missions.on_settings.Tie as tie
 
-empty-requires : tie.Need-empty-requires
-empty-requires c κs = search needs
-
 returns : tie.Need-returns
 returns c = search needs
 
@@ -21,36 +18,43 @@ slice-aggregate-s c = sym (length-take-le _ _ (omega arith))
 made-requires : tie.Need-made-requires
 made-requires c κs = search needs
 
-same-length : tie.Need-same-length
-same-length c = search needs
+told-count-requires : tie.Need-told-count-requires
+told-count-requires c κs = search needs
 
-returns-2 : tie.Need-returns-2
-returns-2 c = search needs
+told-requires : tie.Need-told-requires
+told-requires c κs = search needs
 
 crc-requires : tie.Need-crc-requires
 crc-requires c κs = search needs
 
-number32-requires : tie.Need-number32-requires
-number32-requires c κs = search needs
+cast-number : tie.Need-cast-number
+cast-number c = search needs
+
+number-requires : tie.Need-number-requires
+number-requires c κs = search needs
+
+same-length : tie.Need-same-length
+same-length c = search needs
 
 same-length-2 : tie.Need-same-length-2
 same-length-2 c = search needs
 
-returns-3 : tie.Need-returns-3
-returns-3 c = search needs
+returns-2 : tie.Need-returns-2
+returns-2 c = search needs
 
 pub on-settings-spec : {M : Type 1} → statement M
 on-settings-spec =
     tie.close
     (tie.spec
-    empty-requires
     returns
     slice-relend-prefix-s
     slice-aggregate-s
     made-requires
-    same-length
-    returns-2
+    told-count-requires
+    told-requires
     crc-requires
-    number32-requires
+    cast-number
+    number-requires
+    same-length
     same-length-2
-    returns-3)
+    returns-2)

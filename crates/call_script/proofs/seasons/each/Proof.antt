@@ -1,20 +1,25 @@
 -- `call_script::seasons::each` is safe and ends. Assumes nothing.
 use Prim.Native.Nat.{_≤_, _-_}
 use native.Mathlib.Omega.{arith}
+use lib.ListN.{length}
+use mathlib.Core.Path.{_≡_, refl}
 use Rattle.call_script.proofs.seasons.each.Statement.{statement}
 use Rattle.call_script.proofs.seasons.each.Tie as tie
 
 abbrev Inv-loop : tie.InvT-loop
-Inv-loop report end₀ i₀ end i = i ≤ 16
+Inv-loop out₀ at report end₀ i₀ out end i = (i ≤ 16) × (length out ≡ length out₀)
 
 abbrev μ-loop : tie.MeasureT-loop
-μ-loop report end₀ i₀ end i = 16 - i
+μ-loop out₀ at report end₀ i₀ out end i = 16 - i
 
 loop-holds : tie.Need-loop-holds Inv-loop μ-loop
-loop-holds c = omega arith
+loop-holds c = (omega arith, refl)
 
 cast-if1 : tie.Need-cast-if1 Inv-loop μ-loop
 cast-if1 c = omega arith
+
+same-length : tie.Need-same-length Inv-loop μ-loop
+same-length c = omega arith
 
 returns : tie.Need-returns Inv-loop μ-loop
 returns c = tt
@@ -35,7 +40,10 @@ loop-less : tie.Need-loop-less Inv-loop μ-loop
 loop-less c = omega arith
 
 loop-again : tie.Need-loop-again Inv-loop μ-loop
-loop-again c = omega arith
+loop-again c = (omega arith, omega arith)
+
+same-length-2 : tie.Need-same-length-2 Inv-loop μ-loop
+same-length-2 c = omega arith
 
 returns-2 : tie.Need-returns-2 Inv-loop μ-loop
 returns-2 c = tt
@@ -48,6 +56,7 @@ each-spec =
     μ-loop
     loop-holds
     cast-if1
+    same-length
     returns
     mul-counts
     element-copy-out-counts
@@ -55,4 +64,5 @@ each-spec =
     add-i
     loop-less
     loop-again
+    same-length-2
     returns-2)

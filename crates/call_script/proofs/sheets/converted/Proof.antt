@@ -6,9 +6,6 @@ use borrow.Author.Needs.{needs}
 use Rattle.call_script.proofs.sheets.converted.Statement.{statement}
 use Rattle.call_script.proofs.sheets.converted.Tie as tie
 
-empty-requires : tie.Need-empty-requires
-empty-requires c κs = search needs
-
 returns : tie.Need-returns
 returns c = search needs
 
@@ -24,17 +21,26 @@ fill-requires c κs = search needs
 convert-requires : tie.Need-convert-requires
 convert-requires c κs = search needs
 
-done-requires : tie.Need-done-requires
-done-requires c κs = search needs
+answer-requires : tie.Need-answer-requires
+answer-requires c κs = search needs
+
+told-requires : tie.Need-told-requires
+told-requires c κs = search needs
 
 crc-requires : tie.Need-crc-requires
 crc-requires c κs = search needs
 
-number32-requires : tie.Need-number32-requires
-number32-requires c κs = search needs
+cast-number : tie.Need-cast-number
+cast-number c = search needs
+
+number-requires : tie.Need-number-requires
+number-requires c κs = search needs
 
 same-length : tie.Need-same-length
 same-length c = search needs
+
+same-length-2 : tie.Need-same-length-2
+same-length-2 c = search needs
 
 returns-2 : tie.Need-returns-2
 returns-2 c = search needs
@@ -43,14 +49,16 @@ pub converted-spec : {M : Type 1} → statement M
 converted-spec =
     tie.close
     (tie.spec
-    empty-requires
     returns
     slice-relend-prefix-s
     slice-aggregate-s
     fill-requires
     convert-requires
-    done-requires
+    answer-requires
+    told-requires
     crc-requires
-    number32-requires
+    cast-number
+    number-requires
     same-length
+    same-length-2
     returns-2)

@@ -6,9 +6,6 @@ use borrow.Author.Needs.{needs}
 use Rattle.call_script.proofs.sheets.on_sheet.Statement.{statement}
 use Rattle.call_script.proofs.sheets.on_sheet.Tie as tie
 
-empty-requires : tie.Need-empty-requires
-empty-requires c κs = search needs
-
 returns : tie.Need-returns
 returns c = search needs
 
@@ -24,17 +21,26 @@ call-requires c κs = search needs
 same-length : tie.Need-same-length
 same-length c = search needs
 
+same-length-2 : tie.Need-same-length-2
+same-length-2 c = search needs
+
 returns-2 : tie.Need-returns-2
 returns-2 c = search needs
 
 crc-requires : tie.Need-crc-requires
 crc-requires c κs = search needs
 
-number32-requires : tie.Need-number32-requires
-number32-requires c κs = search needs
+cast-number : tie.Need-cast-number
+cast-number c = search needs
 
-same-length-2 : tie.Need-same-length-2
-same-length-2 c = search needs
+number-requires : tie.Need-number-requires
+number-requires c κs = search needs
+
+same-length-3 : tie.Need-same-length-3
+same-length-3 c = search needs
+
+same-length-4 : tie.Need-same-length-4
+same-length-4 c = search needs
 
 returns-3 : tie.Need-returns-3
 returns-3 c = search needs
@@ -43,14 +49,16 @@ pub on-sheet-spec : {M : Type 1} → statement M
 on-sheet-spec =
     tie.close
     (tie.spec
-    empty-requires
     returns
     slice-relend-prefix-s
     slice-aggregate-s
     call-requires
     same-length
+    same-length-2
     returns-2
     crc-requires
-    number32-requires
-    same-length-2
+    cast-number
+    number-requires
+    same-length-3
+    same-length-4
     returns-3)

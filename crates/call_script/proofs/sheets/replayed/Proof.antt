@@ -6,9 +6,6 @@ use borrow.Author.Needs.{needs}
 use Rattle.call_script.proofs.sheets.replayed.Statement.{statement}
 use Rattle.call_script.proofs.sheets.replayed.Tie as tie
 
-empty-requires : tie.Need-empty-requires
-empty-requires c κs = search needs
-
 returns : tie.Need-returns
 returns c = search needs
 
@@ -21,17 +18,29 @@ slice-aggregate-s c = sym (length-take-le _ _ (omega arith))
 replay-requires : tie.Need-replay-requires
 replay-requires c κs = search needs
 
-played-requires : tie.Need-played-requires
-played-requires c κs = search needs
+replayed-requires : tie.Need-replayed-requires
+replayed-requires c κs = search needs
+
+slice-aggregate-told-or : tie.Need-slice-aggregate-told-or
+slice-aggregate-told-or c = search needs
+
+told-or-requires : tie.Need-told-or-requires
+told-or-requires c κs = search needs
 
 crc-requires : tie.Need-crc-requires
 crc-requires c κs = search needs
 
-number32-requires : tie.Need-number32-requires
-number32-requires c κs = search needs
+cast-number : tie.Need-cast-number
+cast-number c = search needs
+
+number-requires : tie.Need-number-requires
+number-requires c κs = search needs
 
 same-length : tie.Need-same-length
 same-length c = search needs
+
+same-length-2 : tie.Need-same-length-2
+same-length-2 c = search needs
 
 returns-2 : tie.Need-returns-2
 returns-2 c = search needs
@@ -40,13 +49,16 @@ pub replayed-spec : {M : Type 1} → statement M
 replayed-spec =
     tie.close
     (tie.spec
-    empty-requires
     returns
     slice-relend-prefix-s
     slice-aggregate-s
     replay-requires
-    played-requires
+    replayed-requires
+    slice-aggregate-told-or
+    told-or-requires
     crc-requires
-    number32-requires
+    cast-number
+    number-requires
     same-length
+    same-length-2
     returns-2)
