@@ -5,7 +5,7 @@ use mathlib.Core.List.{List}
 use mathlib.Core.Path.{_≡_}
 use native.Mathlib.Omega.{arith}
 use Rattle.octets.proofs.Laws.{failed, passed, and-false, and-assoc}
-use Rattle.ledger_sheet.specs.Sheet.{rowCount, deskAt, deskRowAt, deskRow, isRow}
+use Rattle.ledger_sheet.specs.Sheet.{rowCount, deskRowAt, openedAt, workedAt, deskAt, deskRow, isRow, carries}
 use Rattle.ledger_sheet.proofs.Clauses.{open-desk, row-parts}
 use borrow.Author.Needs.{needs}
 use Rattle.ledger_sheet.proofs.right.is_open_desk.Statement.{statement}
@@ -88,16 +88,14 @@ is-same-requires-2 c κs =
 
 returns-2 : tie.Need-returns-2
 returns-2 c =
-    let start = c .before .before .before .before .before .before .before in
-    let row = passed (c .before .before .before .before .before .is-row .ensures) (c .before .before .before .before .if1 .left) in
-    rw (
-      ← open-desk _ _ (start .before .pre .1 .1),
-      row,
-      ← c .before .before .is-zero .ensures,
-      ← c .before .is-same .ensures,
-      ← c .is-same2 .ensures,
-      and-assoc,
-    )
+    let used = c .before .before .before .before in
+    let start = used .before .before .before in
+    let row = passed (used .before .is-row .ensures) (used .if1 .left) in
+    let s = start .before .args .s .now in
+    let d = start .before .args .d in
+    let opened : c .before .is-same .result ≡ carries s (deskAt d + openedAt) (deskRow s d) = c .before .is-same .ensures in
+    let worked : c .is-same2 .result ≡ carries s (deskAt d + workedAt) (deskRow s d) = c .is-same2 .ensures in
+    rw (← open-desk _ _ (start .before .pre .1 .1), row, ← c .before .before .is-zero .ensures, ← opened, ← worked, and-assoc)
 
 pub is-open-desk-spec : {M : Type 1} → statement M
 is-open-desk-spec =
