@@ -23,17 +23,17 @@ static uint8_t sheets[CHANGES + 1][HERNGANOW_SHEET];
 static uint32_t change(struct book *book, uint32_t n)
 {
     if (n == 0)
-        return book_enrol(book, KEY, 1);
+        return noted_enrol(book, KEY, 1);
     if (n % 2 == 0)
-        return book_save(book, DESK);
-    uint32_t refused = book_open_row(book, DESK, 0);
-    return refused ? refused : book_tick(book, DESK, n);
+        return noted_save(book, DESK);
+    uint32_t refused = noted_open(book, DESK, 0);
+    return refused ? refused : noted_tick(book, DESK, n);
 }
 
 static void work_out(struct book *book)
 {
     hernganow_fresh(book->sheet, HERNGANOW_SHEET, book->answer, HERNGANOW_ANSWER);
-    book->trace_length = 0;
+    book->trace.length = 0;
     memcpy(sheets[0], book->sheet, HERNGANOW_SHEET);
     for (uint32_t n = 0; n < CHANGES; n++) {
         if (change(book, n)) {
@@ -131,7 +131,7 @@ int main(int count, char **words)
         book_begin(&book);
         book_abandon(&book);
         int is_before = is_sheet(&book, told), is_after = is_sheet(&book, told + 1);
-        if (!book_replays(&book)) {
+        if (!trace_replays(&book)) {
             fprintf(stderr, "%s: killed after change %u of the day, and the trace does not make the sheet\n", words[1], (unsigned)told);
             return 1;
         }

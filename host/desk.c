@@ -1,75 +1,18 @@
 /* A desk's day: the records of a stream are ticked off in the ledger, one visit for each. Other desks may work on the same sheet. */
 #define _XOPEN_SOURCE 700
 #include "book.h"
+#include "stream.h"
 
 #include <inttypes.h>
 #include <stdio.h>
 #include <stdlib.h>
 #include <string.h>
 
-enum { TELEMETRY = 1, RSR = 2 };
-
-/* Days from 1 January 1900 to 1 January 1958, from which a telemetry record's received time counts. */
-#define DAYS_TO_1958 21184
-
-struct record {
-    size_t length;
-    uint64_t key;
-    uint32_t number;
-    uint32_t days; /* from 1 January 1900 */
-};
-
 static const char usage[] =
     "usage: desk SHEET DESK STREAM\n"
     "Ticks the records of a stream file off in the ledger sheet SHEET at desk DESK (0 to 7): a line for each record, with its place, key,\n"
     "number, date, what was done and how many saves were stale, and at the end where the stream stopped, whether the calls that the file\n"
     "keeps behind the sheet make that sheet again, and the first gap. A SHEET that is not there is begun.\n";
-
-static uint8_t answer[HERNGANOW_ANSWER];
-
-/* The stream file, whole. */
-static uint8_t *read_file(const char *path, size_t *length)
-{
-    FILE *file = fopen(path, "rb");
-    if (!file)
-        fail("opening", path);
-    uint8_t *bytes = NULL;
-    size_t room = 0;
-    *length = 0;
-    do {
-        if (*length == room && !(bytes = realloc(bytes, room = 2 * room + 65536)))
-            fail("reading", path);
-        *length += fread(bytes + *length, 1, room - *length, file);
-    } while (!feof(file) && !ferror(file));
-    if (ferror(file))
-        fail("reading", path);
-    fclose(file);
-    return bytes;
-}
-
-/* Reads the record that the bytes begin with, of either kind; returns 0 or the refusal. */
-static uint32_t read_record(const uint8_t *bytes, size_t length, struct record *record)
-{
-    uint32_t kind = TELEMETRY;
-    uint32_t refused = hernganow_read_headers(bytes, length, kind, answer, sizeof answer);
-    if (refused == HERNGANOW_REFUSED_WRONG_KIND) {
-        kind = RSR;
-        refused = hernganow_read_headers(bytes, length, kind, answer, sizeof answer);
-    }
-    if (refused)
-        return refused;
-    record->length = (size_t)hernganow_number(answer, HERNGANOW_AT_SIZE);
-    if (kind == TELEMETRY) {
-        record->key = hernganow_number(answer, HERNGANOW_AT_TELEMETRY_KEY);
-        record->number = (uint32_t)hernganow_number(answer, HERNGANOW_AT_TELEMETRY_NUMBER);
-        record->days = DAYS_TO_1958 + (uint32_t)hernganow_number(answer, HERNGANOW_AT_TELEMETRY_DAYS);
-    } else {
-        record->key = hernganow_number(answer, HERNGANOW_AT_RSR_KEY);
-        record->number = (uint32_t)hernganow_number(answer, HERNGANOW_AT_RSR_NUMBER);
-        record->days = (uint32_t)hernganow_number(answer, HERNGANOW_AT_RSR_DAY_COUNT);
-    }
-    return 0;
-}
 
 /* Ends what was begun on the book, which is kept where the last call was accepted. */
 static uint32_t settle(struct book *book, uint32_t refused)
@@ -88,7 +31,7 @@ static uint32_t enrolled(struct book *book, const struct record *record, uint32_
     book_begin(book);
     uint32_t refused = hernganow_find(book->sheet, sizeof book->sheet, record->key, book->answer, sizeof book->answer);
     if (refused == HERNGANOW_REFUSED_NO_ROW)
-        refused = settle(book, book_enrol(book, record->key, record->number));
+        refused = settle(book, noted_enrol(book, record->key, record->number));
     else
         book_abandon(book);
     *row = (uint32_t)book_number(book, HERNGANOW_AT_ROW);
@@ -99,16 +42,16 @@ static uint32_t enrolled(struct book *book, const struct record *record, uint32_
 static uint32_t ticked(struct book *book, uint32_t desk, uint32_t row, uint32_t number)
 {
     book_begin(book);
-    uint32_t refused = book_open_row(book, desk, row);
+    uint32_t refused = noted_open(book, desk, row);
     if (!refused)
-        refused = book_tick(book, desk, number);
+        refused = noted_tick(book, desk, number);
     return settle(book, refused);
 }
 
 static uint32_t saved(struct book *book, uint32_t desk)
 {
     book_begin(book);
-    return settle(book, book_save(book, desk));
+    return settle(book, noted_save(book, desk));
 }
 
 /* A visit. Between the tick and the save others may save the row: then this save is stale, and the visit is made again. */
@@ -131,7 +74,7 @@ static uint32_t visit(struct book *book, uint32_t desk, const struct record *rec
 static void start_day(struct book *book, uint32_t desk)
 {
     book_begin(book);
-    uint32_t refused = settle(book, book_drop(book, desk));
+    uint32_t refused = settle(book, noted_drop(book, desk));
     if (refused && refused != HERNGANOW_REFUSED_DESK_CLOSED) {
         fprintf(stderr, "%s: refused %" PRIu32 "\n", book->path, refused);
         exit(1);
@@ -140,6 +83,7 @@ static void start_day(struct book *book, uint32_t desk)
 
 static void print_record(size_t place, const struct record *record, uint32_t refused, uint32_t stale)
 {
+    uint8_t answer[HERNGANOW_ANSWER];
     uint32_t undated = hernganow_date(record->days, answer, sizeof answer);
     printf("%zu %" PRIu64 " %" PRIu32, place, record->key, record->number);
     if (undated)
@@ -159,12 +103,12 @@ static int print_replay(struct book *book)
 {
     book_begin(book);
     book_abandon(book);
-    if (!book->trace_length) {
+    if (!book->trace.length) {
         printf("no trace\n");
         return 1;
     }
-    int same = book_replays(book);
-    printf("%zu calls replayed: %s\n", (book->trace_length - BOOK_HEADER) / BOOK_ENTRY, same ? "same" : "not the same");
+    int same = trace_replays(book);
+    printf("%zu calls replayed: %s\n", trace_calls(&book->trace), same ? "same" : "not the same");
     return same;
 }
 
@@ -190,7 +134,7 @@ int main(int count, char **words)
     book_open(&book, words[1]);
     start_day(&book, desk);
     size_t length, place = 0;
-    uint8_t *stream = read_file(words[3], &length);
+    uint8_t *stream = read_stream(words[3], &length);
     struct record record;
     uint32_t refused = 0;
     while (place < length && !(refused = read_record(stream + place, length - place, &record))) {
