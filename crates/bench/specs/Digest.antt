@@ -6,7 +6,7 @@ use lib.Bits.{bitXor}
 use lib.Dec.{eqb, ltb}
 use lib.ListN.{length, getD}
 use Rattle.ledger_sheet.specs.Sheet.{sheetSize, rowCount, rowAt}
-use Rattle.ledger_counts.specs.Counts.{reportWords}
+use Rattle.ledger_counts.specs.inner.Counts.{reportWords}
 use Rattle.sfdu_headers.specs.Words.{Word, number, signed, none}
 
 -- What a word adds to a number. A signed word and none add nothing.

@@ -25,7 +25,7 @@ use Rattle.dates.specs.Calendar.{
   dateFrom,
   dateOf,
 }
-use Rattle.dates.specs.Table.{Within}
+use Rattle.dates.specs.inner.Within.{Within}
 use Rattle.dates.specs.Answers.{wordsOf}
 use Rattle.dates.specs.Laws.{BackFromCount, ForthFromBack, Dated, EveryCount, RefusedPast, Since1958, WordsInjective}
 use Rattle.dates.specs.declared.DateAnswer.{DateAnswer}

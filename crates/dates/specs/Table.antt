@@ -1,5 +1,5 @@
 -- What is known of the table, and of a year found for a count. Assumes nothing.
-use Prim.Native.Nat.{ℕ, _+_, _-_, _<_, _≤_}
+use Prim.Native.Nat.{ℕ, _+_, _-_, _≤_}
 use mathlib.Core.Path.{_≡_}
 use mathlib.Core.List.{List}
 use lib.ListN.{getD, length}
@@ -9,10 +9,3 @@ use Rattle.dates.specs.Calendar.{firstYear, lastYear, newYear}
 pub record NewYears (table : List ℕ) : Type 0 where
   pub years : length table ≡ lastYear - firstYear + 1
   pub entry : (year : ℕ) → firstYear ≤ year → year ≤ lastYear → getD table (year - firstYear) 0 ≡ newYear year
-
--- A year 1900 to 3000 in which a day count falls: not before its 1 January, and before the next.
-pub record Within (year count : ℕ) : Type 0 where
-  pub first : firstYear ≤ year
-  pub last : year ≤ lastYear
-  pub begun : newYear year ≤ count
-  pub on : count < newYear (year + 1)

@@ -4,7 +4,8 @@ ghost use mathlib.Core.Path.{_≡_};
 ghost use Prim.Native.Nat.{_≤_, _+_};
 ghost use Rattle.dates.specs.Calendar.{firstYear, lastYear, lastCount, isLeap, yearLength, newYear, isYear, isDay, isDate, dateOf};
 ghost use Rattle.dates.specs.Answers.{countOf, wordsOf};
-ghost use Rattle.dates.specs.Table.{NewYears, Within};
+ghost use Rattle.dates.specs.Table.{NewYears};
+ghost use Rattle.dates.specs.inner.Within.{Within};
 
 mod table;
 

@@ -15,7 +15,8 @@ use Rattle.refusals.proofs.Laws.{number-positive}
 use Rattle.octets.specs.Octets.{part}
 use Rattle.octets.proofs.Laws.{and-true}
 use Rattle.idr.specs.Words.{headerCount, recordSize, samplesAt, samplesSize, header}
-use Rattle.idr.specs.Rules.{wordRules, lentRules}
+use Rattle.idr.specs.Rules.{wordRules}
+use Rattle.idr.specs.inner.Lent.{lentRules}
 use Rattle.idr.specs.Read.{givenOf, readRecord, readRules, accepts, samplesStart, samplesPart, readWords}
 
 pub judge-accepted : {A : Type 0} (refuse : ℕ → A) (rules : List (Rule ℕ)) (answer : A) → Numbered rules → 0 ≡ verdict rules

@@ -3,13 +3,12 @@ use Prim.Native.Nat.{ℕ}
 use mathlib.Core.Bool.{Bool, not, _&&_}
 use mathlib.Core.List.{List, [], _∷_}
 use lib.Dec.{eqb, leb}
-use lib.ListN.{length}
 use Rattle.refusals.specs.Judge.{Rule, _when_}
 use Rattle.refusals.specs.Table.{numberOf}
 use Rattle.octets.specs.Octets.{all}
 use Rattle.idr.specs.declared.Outcome.{Outcome}
 use Rattle.idr.specs.declared.Outcome.the-variants.{Accepted, Refused}
-use Rattle.idr.specs.Words.{headerCount, recordWords, wordOf}
+use Rattle.idr.specs.Words.{recordWords, wordOf}
 use Rattle.idr.specs.Fields.{tagged, digit, digitCount, day, hour, minute, second, micros, playback, sampling, blockStored}
 
 -- The number of an answer that gives nothing more: 0, or the refusal's.
@@ -43,7 +42,3 @@ wordRules w =
     ∷ (53 when (tagged w && not (areRates w)))
     ∷ (54 when (tagged w && not (isBlock w)))
     ∷ []
-
--- The rules of header words that a caller lends: 50 where they are not 28.
-abbrev pub lentRules : List ℕ → List (Rule ℕ)
-lentRules w = (50 when not (eqb (length w) headerCount)) ∷ wordRules w

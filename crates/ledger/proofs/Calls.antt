@@ -10,15 +10,15 @@ use Rattle.ledger_model.specs.Step.{Find, RowReport, FirstGap, Call, Enrol, Ask
 use Rattle.octets.proofs.Laws.{Bytes}
 use Rattle.ledger_sheet.specs.Sheet.{rowCount, rowAt, right}
 use Rattle.ledger_sheet.specs.Outcome.{Outcome, done}
-use Rattle.ledger_rows.specs.Scans.{rowWith, freeRow}
-use Rattle.ledger_changes.specs.Bytes.{enrolAt, strikeAt, openAt, clearDesk, markDesk, saveAt}
-use Rattle.ledger_counts.specs.Counts.{reportWords, gapFrom}
-use Rattle.ledger_layout.specs.Calls.{enrolCall, findCall, openCall, markCall, saveCall, dropCall, reportCall, gapCall, strikeCall}
+use Rattle.ledger_rows.specs.inner.Scans.{rowWith, freeRow}
+use Rattle.ledger_changes.specs.inner.Bytes.{enrolAt, strikeAt, openAt, clearDesk, markDesk, saveAt}
+use Rattle.ledger_counts.specs.inner.Counts.{reportWords, gapFrom}
+use Rattle.ledger_layout.specs.inner.Calls.{enrolCall, findCall, openCall, markCall, saveCall, dropCall, reportCall, gapCall, strikeCall}
 use Rattle.ledger_layout.proofs.Judged.{refuses, passes, accepts}
 use Rattle.ledger_layout.specs.Layout.{call, onSheet}
 use Rattle.ledger_layout.proofs.Sheets.{call-law}
 use Rattle.ledger_verdicts.proofs.Judged.{Law}
-use Rattle.ledger_verdicts.specs.Verdicts.{enrolRows, findRows, openRows, deskRows, reportRows, strikeRows}
+use Rattle.ledger_verdicts.specs.inner.Verdicts.{enrolRows, findRows, openRows, deskRows, reportRows, strikeRows}
 
 abbrev pub rowsOf : Call → List ℕ → List (Rule ℕ)
 rowsOf (Enrol key first) s = enrolRows key first s

@@ -10,15 +10,15 @@ use Rattle.refusals.specs.Judge.{Rule, verdict}
 use Rattle.ledger_model.specs.Step.{Enrol}
 use Rattle.octets.proofs.Laws.{Bytes}
 use Rattle.ledger_sheet.specs.Sheet.{keySize, firstSize, rowAt}
-use Rattle.ledger_changes.specs.Rows.{rowValueAt, blankRow}
+use Rattle.ledger_changes.specs.inner.Rows.{rowValueAt, blankRow}
 use Rattle.ledger_sheet.specs.Outcome.{Outcome, judged}
-use Rattle.ledger_rows.specs.Scans.{freeRow}
-use Rattle.ledger_changes.specs.Bytes.{enrolAt}
+use Rattle.ledger_rows.specs.inner.Scans.{freeRow}
+use Rattle.ledger_changes.specs.inner.Bytes.{enrolAt}
 use Rattle.ledger_sheet.specs.Words.{rowWords}
 use Rattle.ledger_sheet.specs.declared.RowAnswer.the-variants as R
 use Rattle.ledger_changes.proofs.ReadBack.{enrolled-blank}
 use Rattle.ledger_layout.specs.Layout.{call, onSheet}
-use Rattle.ledger_verdicts.specs.Verdicts.{enrolRows}
+use Rattle.ledger_verdicts.specs.inner.Verdicts.{enrolRows}
 use Rattle.ledger_verdicts.specs.declared.Verdict.the-variants as Case
 use Rattle.ledger_verdicts.proofs.Judged.{enrol-fine}
 use Rattle.ledger.proofs.Calls.{by-rows}

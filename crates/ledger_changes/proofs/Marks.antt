@@ -9,7 +9,7 @@ use Rattle.ledger_model.specs.Positions.{rowLength}
 use Rattle.refusals.specs.Judge.{judge}
 use Rattle.ledger_rows.specs.Ticks.{tickedAt}
 use Rattle.ledger_sheet.specs.Outcome.{Outcome, judged}
-use Rattle.ledger_changes.specs.Bytes.{marked, markPosition}
+use Rattle.ledger_changes.specs.inner.Bytes.{marked, markPosition}
 
 -- ---- a tick, where on is true, or an untick of position i
 

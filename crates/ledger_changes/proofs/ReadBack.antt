@@ -12,8 +12,9 @@ use Rattle.octets.proofs.Laws.{length-bytesOf, length-put, length-part, part-at
 use Rattle.octets.proofs.Parts.{number-first, number-second, number-bytes, part-second, part-whole}
 use Rattle.ledger_sheet.specs.Sheet.{usedWordSize, usedWord, keyStart, keySize, firstAt, firstSize, ticksAt, ticksSize, rowSize}
 use Rattle.ledger_sheet.specs.Sheet.{rowCount, sheetSize, headerNumberSize, usedAt, rowAt, used, keyAt, firstNumberAt}
-use Rattle.ledger_changes.specs.Rows.{rowBytes, blankTicks, rowValueAt, blankRow}
-use Rattle.ledger_changes.specs.Bytes.{enrolAt}
+use Rattle.ledger_changes.specs.Rows.{rowBytes}
+use Rattle.ledger_changes.specs.inner.Rows.{blankTicks, rowValueAt, blankRow}
+use Rattle.ledger_changes.specs.inner.Bytes.{enrolAt}
 use Rattle.ledger_changes.proofs.Puts.{put-outside, put-inside}
 
 -- numbers and parts of lists that agree there

@@ -10,8 +10,10 @@ use Rattle.ledger_sheet.specs.Sheet.{usedWordSize, usedWord, keyStart, keySize,
 use Rattle.ledger_sheet.specs.Sheet.{rowsStart, deskRowAt, deskZerosAt, deskZerosSize, openedAt, workedAt, deskCount, desksStart, sheetSize, headerNumberSize}
 use Rattle.ledger_sheet.specs.Sheet.{lengthAt, usedAt, rowCountAt, rowsStartAt, deskCountAt, desksStartAt, rowAt, deskAt, used}
 use Rattle.ledger_sheet.specs.declared.Row.{Row}
-use Rattle.ledger_changes.specs.Rows.{rowBytes, blankRow}
-use Rattle.ledger_changes.specs.Bytes.{headerBytes, freshSheet, counting, enrolAt, strikeAt, openDesk, openAt}
+use Rattle.ledger_changes.specs.Rows.{rowBytes}
+use Rattle.ledger_changes.specs.inner.Rows.{blankRow}
+use Rattle.ledger_changes.specs.Bytes.{headerBytes, freshSheet, openDesk}
+use Rattle.ledger_changes.specs.inner.Bytes.{counting, enrolAt, strikeAt, openAt}
 use Rattle.octets.proofs.Puts.{put-next, set-put}
 use Rattle.ledger_changes.proofs.Puts.{put-whole, part-before}
 

@@ -12,7 +12,8 @@ ghost use Prim.Native.Nat.{_+_, _≤_, _<_};
 ghost use lib.ListN.{length};
 ghost use Rattle.octets.specs.Octets.{put};
 ghost use Rattle.ledger_sheet.specs.Sheet.{sheetSize, rowsStart, rowCount, deskCount, deskRow};
-ghost use Rattle.ledger_changes.specs.Bytes.{headerBytes, freshSheet, openAt, clearDesk, isCurrent, stored, saveAt};
+ghost use Rattle.ledger_changes.specs.Bytes.{headerBytes, freshSheet};
+ghost use Rattle.ledger_changes.specs.inner.Bytes.{openAt, clearDesk, isCurrent, stored, saveAt};
 ghost use Rattle.ledger_sheet.specs.Words.{answerWords};
 
 // Makes a slice of a sheet's length a fresh sheet.

@@ -12,9 +12,10 @@ ghost use Prim.Native.Nat.{_+_, _≤_, _<_};
 ghost use lib.ListN.{length};
 ghost use Rattle.octets.specs.Octets.{part, put};
 ghost use Rattle.ledger_sheet.specs.Sheet.{sheetSize, rowSize, rowCount, ticksSize, used};
-ghost use Rattle.ledger_changes.specs.Rows.{rowBytes, rowValueAt, blankRow};
-ghost use Rattle.ledger_rows.specs.Scans.{freeRow};
-ghost use Rattle.ledger_changes.specs.Bytes.{enrolAt, strikeAt};
+ghost use Rattle.ledger_changes.specs.Rows.{rowBytes};
+ghost use Rattle.ledger_changes.specs.inner.Rows.{rowValueAt, blankRow};
+ghost use Rattle.ledger_rows.specs.inner.Scans.{freeRow};
+ghost use Rattle.ledger_changes.specs.inner.Bytes.{enrolAt, strikeAt};
 
 // A row with no ticks: the blank map is an array of zeros.
 pub fn blank_row(key: u64, first: u32) -> Row

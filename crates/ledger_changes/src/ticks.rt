@@ -10,7 +10,7 @@ ghost use mathlib.Core.Path.{_≡_};
 ghost use Prim.Native.Nat.{_+_, _<_};
 ghost use lib.ListN.{length};
 ghost use Rattle.ledger_sheet.specs.Sheet.{sheetSize, rowSize, deskCount};
-ghost use Rattle.ledger_changes.specs.Bytes.{markRow, markPosition, markDesk};
+ghost use Rattle.ledger_changes.specs.inner.Bytes.{markRow, markPosition, markDesk};
 ghost use Rattle.ledger_sheet.specs.Words.{answerWords};
 
 // How many positions a row has.

@@ -12,7 +12,8 @@ use Rattle.octets.proofs.Laws.{and-split, and-true, and-assoc, all-at, all-next
 use Rattle.ledger_convert.specs.Old.{sheetSize, rowSize, rowCount, rowsStart, deskSize, deskCount, deskZerosAt, deskZerosSize, openedAt}
 use Rattle.ledger_convert.specs.Old.{workedAt, desksStart, lengthAt, rowCountAt, rowsStartAt, deskCountAt, desksStartAt, rowAt, deskAt}
 use Rattle.ledger_convert.specs.Old.{headerNumber, used, deskByte, deskRow, isClosed, carries, headerRight, validKeys, differentKeys}
-use Rattle.ledger_convert.specs.Old.{firstNumbers, unusedZero, closedZero, deskMarked, openNames, deskRight, right, Sized}
+use Rattle.ledger_convert.specs.Old.{firstNumbers, unusedZero, closedZero, deskMarked, openNames, deskRight, right}
+use Rattle.ledger_convert.specs.inner.Sized.{Sized}
 use Rattle.ledger_sheet.proofs.Desks.{closed-is, open-is, UpTo, longer, ended}
 use Rattle.ledger_convert.proofs.Ranges.{zero-rows}
 

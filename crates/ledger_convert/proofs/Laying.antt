@@ -19,7 +19,8 @@ use Rattle.ledger_sheet.specs.Sheet.{sheetSize, usedWordSize, rowSize, rowCount
 use Rattle.ledger_sheet.specs.Sheet.{deskZerosSize, openedAt, workedAt, desksStart, headerNumberSize, usedAt, rowAt, deskAt, count}
 use Rattle.ledger_sheet.specs.declared.Row.{Row}
 use Rattle.octets.specs.Lists.{table}
-use Rattle.ledger_changes.specs.Rows.{rowBytes, rowValueAt}
+use Rattle.ledger_changes.specs.Rows.{rowBytes}
+use Rattle.ledger_changes.specs.inner.Rows.{rowValueAt}
 use Rattle.ledger_changes.specs.Bytes.{headerBytes, freshSheet, openDesk}
 use Rattle.ledger_changes.proofs.Puts.{put-outside, part-put}
 use Rattle.ledger_changes.proofs.ReadBack.{length-row}
@@ -31,7 +32,7 @@ use Rattle.ledger_layout.proofs.Places.{header-put, length-desk}
 use Rattle.ledger_layout.proofs.Used.{count-law}
 use Rattle.ledger_convert.specs.Old as Old
 use Rattle.ledger_convert.specs.Convert.{oldPlaceIn, oldDeskIn, oldBookOf, oldTicksOf}
-use Rattle.ledger_convert.specs.Laid.{Laid}
+use Rattle.ledger_convert.specs.inner.Laid.{Laid}
 use Rattle.ledger_convert.proofs.Read.{old-bytes, few, long, opened, copy-is, free-at}
 
 -- ---- parts and what is put elsewhere

@@ -22,7 +22,8 @@ use Rattle.ledger_sheet.specs.Sheet as New
 use Rattle.ledger_sheet.specs.declared.Row.{Row}
 use Rattle.ledger_rows.specs.Ticks.{tickedAt, ticksOf}
 use Rattle.octets.specs.Lists.{table}
-use Rattle.ledger_changes.specs.Rows.{rowBytes, rowValueAt}
+use Rattle.ledger_changes.specs.Rows.{rowBytes}
+use Rattle.ledger_changes.specs.inner.Rows.{rowValueAt}
 use Rattle.ledger_layout.specs.Layout.{tickBytes, placeBytes}
 use Rattle.ledger_layout.proofs.Parts.{number-within}
 use Rattle.octets.proofs.Lists.{length-table, getD-table, table-is}

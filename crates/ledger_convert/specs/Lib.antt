@@ -2,4 +2,4 @@
 pub mod Old
 pub mod Convert
 pub mod Laws
-pub mod Laid
+pub mod inner

@@ -1,9 +1,8 @@
 -- The old sheet, document 01, "The ledger sheet", with request 03's rule on first numbers: where its parts stand, and when a list of bytes
 -- is a right one. Every size and offset of it has its name here, once. Assumes nothing.
-use Prim.Native.Nat.{ℕ, _+_, _*_, _≤_}
+use Prim.Native.Nat.{ℕ, _+_, _*_}
 use mathlib.Core.Bool.{Bool, not, _&&_, _||_}
 use mathlib.Core.List.{List}
-use mathlib.Core.Path.{_≡_}
 use lib.Dec.{eqb, ltb, leb}
 use lib.ListN.{length, getD}
 use Rattle.keys.specs.Key.{validKey}
@@ -177,9 +176,3 @@ unfoldable pub right : List ℕ → Bool
 right s =
     eqb (length s) sheetSize && headerRight s && (validKeys s && differentKeys s && firstNumbers s) && unusedZero s
     && all deskCount (deskRight s)
-
--- ---- what the functions on a right sheet ask of it
-
-pub record Sized (s : List ℕ) : Type 0 where
-  pub long : length s ≡ sheetSize
-  pub few : used s ≤ rowCount

@@ -24,7 +24,7 @@ ghost use Rattle.ledger_changes.specs.Bytes.{openDesk};
 ghost use Rattle.ledger_layout.specs.Layout.{layout};
 ghost use Rattle.ledger_convert.specs.Old as Old;
 ghost use Rattle.ledger_convert.specs.Convert.{oldBookOf, convertOn};
-ghost use Rattle.ledger_convert.specs.Laid.{Laid};
+ghost use Rattle.ledger_convert.specs.inner.Laid.{Laid};
 
 // A row of the new layout, from its key on, is laid out as an old one: so an old row is read as the new one whose used word
 // would stand before its key.

@@ -12,7 +12,8 @@ ghost use lib.Dec.{eqb};
 ghost use lib.ListN.{length, getD};
 ghost use Rattle.octets.specs.Octets.{all};
 ghost use Rattle.ledger_convert.specs.Old.{sheetSize, rowSize, rowCount, deskCount, used, keyAt, firstNumberAt, deskByte};
-ghost use Rattle.ledger_convert.specs.Old.{headerRight, validKeys, differentKeys, firstNumbers, unusedZero, deskRight, right, Sized};
+ghost use Rattle.ledger_convert.specs.Old.{headerRight, validKeys, differentKeys, firstNumbers, unusedZero, deskRight, right};
+ghost use Rattle.ledger_convert.specs.inner.Sized.{Sized};
 
 // An old row: key, first number, ticks.
 const FIRST_AT: usize = sheet::KEY;

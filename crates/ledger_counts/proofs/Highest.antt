@@ -5,7 +5,7 @@ use native.Mathlib.Omega.{arith}
 use mathlib.Core.Bool.{Bool, true, false, cond}
 use mathlib.Core.Logic.{⊎-elim}
 use mathlib.Core.Path.{_≡_, refl, _∙_}
-use Rattle.ledger_counts.specs.Counts.{pastHighest}
+use Rattle.ledger_counts.specs.inner.Counts.{pastHighest}
 
 pub record Top (n : ℕ) (p : ℕ → Bool) (t : ℕ) : Type 0 where
   pub within : t ≤ n

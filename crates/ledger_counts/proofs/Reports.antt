@@ -11,8 +11,8 @@ use Rattle.ledger_model.specs.Positions.{rowLength, size, missing, least}
 use Rattle.ledger_model.proofs.Counts.{least-none}
 use Rattle.ledger_sheet.specs.Sheet.{rowAt, isUsed}
 use Rattle.ledger_rows.specs.Ticks.{tickedAt, ticksOf}
-use Rattle.ledger_rows.specs.Scans.{lowest}
-use Rattle.ledger_counts.specs.Counts.{pastHighest, numberAtPosition, reportWords, gapFrom}
+use Rattle.ledger_rows.specs.inner.Scans.{lowest}
+use Rattle.ledger_counts.specs.inner.Counts.{pastHighest, numberAtPosition, reportWords, gapFrom}
 use Rattle.ledger_rows.proofs.Scans.{Each, lowest-holds, lowest-fails}
 use Rattle.ledger_counts.proofs.Highest.{top-of}
 use Rattle.ledger_counts.proofs.Missing.{missing-count, missing-lowest, missing-none}

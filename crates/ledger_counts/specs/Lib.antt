@@ -1,2 +1,1 @@
-pub mod Counts
-pub mod Words
+pub mod inner

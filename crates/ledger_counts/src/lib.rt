@@ -19,10 +19,10 @@ ghost use lib.ListN.{length};
 ghost use Rattle.ledger_model.specs.Positions.{rowLength, size};
 ghost use Rattle.ledger_sheet.specs.Sheet.{sheetSize, rowSize, rowCount, rowAt, isUsed};
 ghost use Rattle.ledger_rows.specs.Ticks.{tickedAt, ticksOf};
-ghost use Rattle.ledger_rows.specs.Scans.{lowest};
-ghost use Rattle.ledger_counts.specs.Counts.{pastHighest, numberAtPosition, reportWords, gapFrom};
+ghost use Rattle.ledger_rows.specs.inner.Scans.{lowest};
+ghost use Rattle.ledger_counts.specs.inner.Counts.{pastHighest, numberAtPosition, reportWords, gapFrom};
 ghost use Rattle.ledger_sheet.specs.Words.{reportAnswerWords, gapWords};
-ghost use Rattle.ledger_counts.specs.Words.{wordCount, littleAt, IsWord};
+ghost use Rattle.ledger_counts.specs.inner.Words.{wordCount, littleAt, IsWord};
 
 // A word of ticks, in bytes and in positions, and how many of them a row has.
 const WORD: usize = 8;

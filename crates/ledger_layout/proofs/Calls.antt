@@ -27,12 +27,14 @@ use Rattle.octets.specs.Octets.{part, put, all, sameAt}
 use Rattle.octets.proofs.Laws.{and-true, and-assoc}
 use Rattle.octets.proofs.Parts.{same-part, part-same}
 use Rattle.ledger_sheet.specs.Sheet.{sheetSize, rowSize, rowCount, openedAt, workedAt, deskCount, rowAt, deskAt, used, isUsed, deskRow, isClosed, right}
-use Rattle.ledger_changes.specs.Rows.{rowBytes, blankTicks}
+use Rattle.ledger_changes.specs.Rows.{rowBytes}
+use Rattle.ledger_changes.specs.inner.Rows.{blankTicks}
 use Rattle.ledger_sheet.specs.Outcome.{Outcome, judged}
-use Rattle.ledger_rows.specs.Scans.{isRowOf, rowWith, freeRow, noneHasOpen}
-use Rattle.ledger_changes.specs.Bytes.{counting, enrolAt, strikeAt, openDesk, openAt, clearDesk, markDesk, isCurrent, stored, saveAt}
-use Rattle.ledger_layout.specs.Calls.{enrolCall, findCall, openCall, dropCall, markCall, saveCall, reportCall, gapCall, strikeCall}
-use Rattle.ledger_rows.specs.Scans as Scans
+use Rattle.ledger_rows.specs.inner.Scans.{isRowOf, rowWith, freeRow, noneHasOpen}
+use Rattle.ledger_changes.specs.Bytes.{openDesk}
+use Rattle.ledger_changes.specs.inner.Bytes.{counting, enrolAt, strikeAt, openAt, clearDesk, markDesk, isCurrent, stored, saveAt}
+use Rattle.ledger_layout.specs.inner.Calls.{enrolCall, findCall, openCall, dropCall, markCall, saveCall, reportCall, gapCall, strikeCall}
+use Rattle.ledger_rows.specs.inner.Scans as Scans
 use Rattle.ledger_changes.proofs.Puts.{put-same}
 use Rattle.ledger_layout.proofs.Judged.{refuses}
 use Rattle.ledger_layout.specs.Layout.{bitsValue, tickBytes, placeBytes, deskBytes, countUsed, layout, call, laidOut}

@@ -24,7 +24,8 @@ use Rattle.ledger_sheet.specs.declared.ReportAnswer.the-variants as Report
 use Rattle.ledger_sheet.specs.declared.GapAnswer.{GapAnswer}
 use Rattle.ledger_sheet.specs.declared.GapAnswer.the-variants as G
 use Rattle.ledger_layout.specs.Layout.{layout, call, onSheet}
-use Rattle.ledger_layout.specs.Demand3.{answerOf, rowAnswerOf, reportAnswerOf, gapAnswerOf, Meets, headerAndRows, Demand3}
+use Rattle.ledger_layout.specs.Demand3.{answerOf, rowAnswerOf, reportAnswerOf, gapAnswerOf, headerAndRows}
+use Rattle.ledger_layout.specs.inner.Demand3.{Meets, Demand3}
 use Rattle.ledger_layout.proofs.Places.{shape, front-part}
 use Rattle.ledger_layout.proofs.Sheets.{fresh-layout, on-layout}
 

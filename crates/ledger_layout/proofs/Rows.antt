@@ -21,9 +21,10 @@ use Rattle.octets.proofs.Laws.{Bytes, length-bytesOf, getD-past}
 use Rattle.octets.proofs.Parts.{bytes-number, part-join, part-first, part-whole}
 use Rattle.ledger_sheet.specs.Sheet.{usedWordSize, usedWord, keyStart, keySize, firstAt, firstSize, ticksAt, ticksSize, rowSize, byteBits, keyAt, firstNumberAt}
 use Rattle.ledger_rows.specs.Ticks.{tickedAt, ticksOf}
-use Rattle.ledger_changes.specs.Rows.{setTick, clearTick, rowBytes}
+use Rattle.ledger_changes.specs.Rows.{rowBytes}
+use Rattle.ledger_changes.specs.inner.Rows.{setTick, clearTick}
 use Rattle.ledger_sheet.specs.Outcome.{judged}
-use Rattle.ledger_changes.specs.Bytes.{marked, markRows, markPosition, markRow}
+use Rattle.ledger_changes.specs.inner.Bytes.{marked, markRows, markPosition, markRow}
 use Rattle.ledger_changes.proofs.ReadBack.{length-row, row-word, row-key, row-first, row-ticks}
 use Rattle.ledger_layout.specs.Layout.{tickBytes, placeBytes}
 use Rattle.ledger_layout.proofs.Parts.{number-within, part-within}

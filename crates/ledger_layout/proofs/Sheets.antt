@@ -17,7 +17,7 @@ use Rattle.octets.proofs.Laws.{Bytes}
 use Rattle.ledger_sheet.specs.Sheet.{sheetSize, rowSize, rowCount, deskSize, deskCount, right}
 use Rattle.ledger_sheet.specs.Outcome.{Outcome, judged}
 use Rattle.ledger_changes.specs.Bytes.{headerBytes, freshSheet}
-use Rattle.ledger_layout.specs.Calls.{enrolCall, findCall, openCall, dropCall, markCall, saveCall, reportCall, gapCall, strikeCall}
+use Rattle.ledger_layout.specs.inner.Calls.{enrolCall, findCall, openCall, dropCall, markCall, saveCall, reportCall, gapCall, strikeCall}
 use Rattle.ledger_layout.specs.Layout.{placeBytes, deskBytes, countUsed, layout, bookOf, call, laidOut, onSheet, freshOn}
 use Rattle.octets.specs.Lists.{laid}
 use Rattle.octets.proofs.Lists.{laid-zeros}

@@ -15,8 +15,8 @@ use Rattle.ledger_model.specs.Counts.{lowestNumber, placeReport, firstGapFrom}
 use Rattle.ledger_model.specs.Counts as Counts
 use Rattle.ledger_sheet.specs.Sheet.{count, rowAt, isUsed}
 use Rattle.ledger_rows.specs.Ticks.{ticksOf}
-use Rattle.ledger_rows.specs.Scans.{lowest}
-use Rattle.ledger_counts.specs.Counts.{numberAtPosition, lowestWords, reportWords, gapOr, gapFrom}
+use Rattle.ledger_rows.specs.inner.Scans.{lowest}
+use Rattle.ledger_counts.specs.inner.Counts.{numberAtPosition, lowestWords, reportWords, gapOr, gapFrom}
 use Rattle.ledger_layout.specs.Layout.{countUsed}
 use Rattle.ledger_layout.proofs.Rows.{Says}
 

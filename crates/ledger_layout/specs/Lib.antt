@@ -3,4 +3,4 @@ pub mod Layout
 pub mod BothWays
 pub mod Sizes
 pub mod Demand3
-pub mod Calls
+pub mod inner

@@ -9,7 +9,8 @@ use Rattle.ledger_model.specs.Book.{Book, idle, fresh}
 use Rattle.ledger_model.specs.Step.{Call, Save, Answer, accepted, step, Entry, _⇒_, callOf, run, bookAfter}
 use Rattle.ledger_model.specs.History.{serial}
 use Rattle.ledger_model.specs.WellFormed.{WellFormed}
-use Rattle.ledger_model.specs.Chain.{Chain, stop, next, Steps}
+use Rattle.ledger_model.specs.Chain.{Chain, stop, next}
+use Rattle.ledger_model.specs.inner.Steps.{Steps}
 use Rattle.ledger_model.specs.Stale.{LastOpen}
 use Rattle.ledger_model.specs.Claim.{Saved, Claim}
 use Rattle.ledger_model.proofs.Outcome.{outcome}

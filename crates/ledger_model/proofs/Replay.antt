@@ -17,7 +17,8 @@ use Rattle.ledger_model.specs.Book.{place, desk, putPlace, putDesk, tick
 use Rattle.ledger_model.specs.Step.{Call, Enrol, Ask, Open, Mark, Save, Drop, Strike, Answer, done}
 use Rattle.ledger_model.specs.Step.{refused, Reply, reply, refusals, effect, step, Entry, _⇒_, callOf, run}
 use Rattle.ledger_model.specs.History.{noted, transactionFrom, transaction, kept, serialFrom, serial}
-use Rattle.ledger_model.specs.Chain.{Chain, stop, next, Steps}
+use Rattle.ledger_model.specs.Chain.{Chain, stop, next}
+use Rattle.ledger_model.specs.inner.Steps.{Steps}
 use Rattle.ledger_model.proofs.Basics.{same-true, row-not-free, row-in, not-open, put-all, idle-desk, idle-close, at-desk}
 use Rattle.ledger_model.proofs.Steps.{markVerdict, open-step, mark-step, save-step}
 use Rattle.ledger_model.proofs.Outcome.{isMark, Outcome, refusal, enrolment, asking, opening, unopened}

@@ -1,14 +1,8 @@
 -- A list of calls made one after another on some store S, each with what it answered. `Meets c s a t` is what is promised of one
 -- call c on the store s that answered a and left t, as a function's contract has it. Assumes nothing.
-use mathlib.Core.Path.{_≡_}
 use mathlib.Core.List.{List, [], _∷_}
-use Rattle.ledger_model.specs.Book.{Book}
-use Rattle.ledger_model.specs.Step.{Call, Answer, reply, step, Entry, _⇒_}
+use Rattle.ledger_model.specs.Step.{Call, Answer, Entry, _⇒_}
 
 pub data Chain {S : Type 0} (Meets : Call → S → Answer → S → Type 0) : S → List Entry → S → Type 0 where
   stop : {s : S} → Chain Meets s [] s
   next : {s t u : S} {c : Call} {a : Answer} {es : List Entry} → Meets c s a t → Chain Meets t es u → Chain Meets s ((c ⇒ a) ∷ es) u
-
--- What the model promises of a call.
-abbrev pub Steps : Call → Book → Answer → Book → Type 0
-Steps c b a b′ = step c b ≡ reply a b′

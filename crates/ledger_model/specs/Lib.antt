@@ -10,3 +10,4 @@ pub mod WellFormed
 pub mod Chain
 pub mod Claim
 pub mod Tally
+pub mod inner

@@ -28,7 +28,7 @@ use Rattle.ledger_replay.specs.Trace.{enrolCall, openCall, tickCall, unt
 use Rattle.ledger_replay.specs.Trace.{lineAt, isTrace, callIn, answerIn, entriesFrom, entriesOf, count}
 use Rattle.ledger_replay.specs.Record.{isKept, recorded, traceOf}
 use Rattle.ledger_replay.specs.Replay.{told, sameTold, differs, replayFrom, replayOn}
-use Rattle.ledger_replay.specs.Making.{written}
+use Rattle.ledger_replay.specs.inner.Making.{written}
 use Rattle.ledger_replay.specs.Laws.{rowFits, nothingFits, answerFits, fits, allFit}
 use Rattle.ledger_replay.specs.Nights.{PlaysAgain, NightPlaysAgain, AsModel, SameIsModel, ModelIsSame}
 use Rattle.ledger_replay.proofs.Turns.{written-row, written-number}

@@ -21,7 +21,7 @@ use Rattle.ledger_replay.specs.declared.Line.{Line}
 use Rattle.ledger_replay.specs.declared.Told.{Told}
 use Rattle.ledger_replay.specs.Trace.{enrolCall, count, entryAt, lineAt, callIn, answerIn, entriesFrom, entriesOf}
 use Rattle.ledger_replay.specs.Replay.{told, sameTold, differs, replayFrom}
-use Rattle.ledger_replay.specs.Making.{made, written, IsLaid}
+use Rattle.ledger_replay.specs.inner.Making.{made, written, IsLaid}
 
 -- ---- what is written of an answer
 

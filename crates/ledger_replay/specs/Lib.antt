@@ -2,6 +2,6 @@
 pub mod Trace
 pub mod Record
 pub mod Replay
-pub mod Making
 pub mod Laws
 pub mod Nights
+pub mod inner

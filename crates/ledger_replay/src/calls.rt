@@ -13,7 +13,7 @@ ghost use Rattle.ledger_sheet.specs.Words.{answerWords, rowWords};
 ghost use Rattle.ledger_layout.specs.Layout.{call, onSheet};
 ghost use Rattle.ledger_replay.specs.Trace.{callIn};
 ghost use Rattle.ledger_replay.specs.Replay.{told, sameTold};
-ghost use Rattle.ledger_replay.specs.Making.{lastIn, plainIn, made, written};
+ghost use Rattle.ledger_replay.specs.inner.Making.{lastIn, plainIn, made, written};
 
 pub fn make(s: &mut [u8], x: Line) -> Told
     requires { ⌜ right (now s) ≡ true ⌝ }

@@ -14,7 +14,7 @@ ghost use mathlib.Core.Path.{_≡_};
 ghost use Prim.Native.Nat.{_≤_};
 ghost use lib.ListN.{length};
 ghost use Rattle.ledger_replay.specs.Trace.{headerSize, mostEntries, count, entryAt, entriesOf};
-ghost use Rattle.ledger_replay.specs.Making.{IsLaid};
+ghost use Rattle.ledger_replay.specs.inner.Making.{IsLaid};
 ghost use Rattle.ledger_replay.specs.Replay.{replayedWords, replayFrom, replayOn};
 
 // The header: three numbers of 4 bytes.

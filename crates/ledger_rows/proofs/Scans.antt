@@ -8,7 +8,7 @@ use mathlib.Core.Logic.{⊎-elim}
 use mathlib.Core.Path.{_≡_, refl, ap, _∙_}
 use lib.ListN.{length, getD, set}
 use lib.Seq.{getD-set-same, getD-set-other}
-use Rattle.ledger_rows.specs.Scans.{lowest}
+use Rattle.ledger_rows.specs.inner.Scans.{lowest}
 
 -- p is b of each number below i
 abbrev pub Each : Bool → (ℕ → Bool) → ℕ → Type 0

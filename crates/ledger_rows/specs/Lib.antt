@@ -1,3 +1,3 @@
 -- What the contracts of `ledger_rows` cite.
 pub mod Ticks
-pub mod Scans
+pub mod inner

@@ -8,7 +8,7 @@ ghost use lib.ListN.{length};
 ghost use Rattle.ledger_model.specs.Positions.{rowLength};
 ghost use Rattle.ledger_sheet.specs.Sheet.{sheetSize, rowSize, rowCount, byteBits, deskCount, deskRow, isClosed};
 ghost use Rattle.ledger_rows.specs.Ticks.{tickedAt};
-ghost use Rattle.ledger_rows.specs.Scans.{isRowOf, rowWith, hasKey, freeRow, noneHasOpen};
+ghost use Rattle.ledger_rows.specs.inner.Scans.{isRowOf, rowWith, hasKey, freeRow, noneHasOpen};
 
 // The used row with the key, or 32 where there is none.
 pub fn find_row(s: &[u8], key: u64) -> usize

@@ -22,7 +22,7 @@ use Rattle.ledger_sheet.specs.Sheet.{rowCount, rowAt, isUsed, keyAt}
 use Rattle.ledger_layout.specs.Layout.{placeIn, bookOf}
 use Rattle.ledger_season.specs.Report.{keyInOne, anyInOne, keyInTwo}
 use Rattle.ledger_season.specs.Season.{sheetAt, booksTo}
-use Rattle.ledger_season.specs.Gathered.{mostKeys, keysOf, keysOfAll, isIn, distinct, isNew, areNew, Keyed}
+use Rattle.ledger_season.specs.inner.Gathered.{mostKeys, keysOf, keysOfAll, isIn, distinct, isNew, areNew, Keyed}
 use Rattle.ledger_season.proofs.Rows.{places, place-used, place-free, next-place, no-place}
 use Rattle.ledger_season.proofs.Sheets.{next-book, no-book}
 

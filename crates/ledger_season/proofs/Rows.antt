@@ -19,12 +19,12 @@ use Rattle.ledger_sheet.specs.Words.{reportAnswerWords}
 use Rattle.ledger_sheet.specs.declared.ReportAnswer.the-variants as Report
 use Rattle.ledger_rows.specs.Ticks.{ticksOf}
 use Rattle.octets.specs.Lists.{table}
-use Rattle.ledger_counts.specs.Counts.{lowestWords, reportWords}
+use Rattle.ledger_counts.specs.inner.Counts.{lowestWords, reportWords}
 use Rattle.ledger_counts.proofs.Reports.{row-count, end-within}
 use Rattle.ledger_layout.specs.Layout.{placeIn, bookOf}
 use Rattle.octets.proofs.Lists.{length-table, getD-table}
 use Rattle.ledger_season.specs.Report.{missed}
-use Rattle.ledger_season.specs.Gathered.{orElse, Counts, Adds}
+use Rattle.ledger_season.specs.inner.Gathered.{orElse, Counts, Adds}
 use Rattle.ledger_season.specs.declared.RowGap.{RowGap}
 use Rattle.ledger_season.specs.declared.RowGap.the-variants as R
 use Rattle.ledger_season.specs.declared.Counted.{Counted}

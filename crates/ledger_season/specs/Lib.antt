@@ -3,4 +3,4 @@ pub mod Report
 pub mod Season
 pub mod Laws
 pub mod Identity
-pub mod Gathered
+pub mod inner

@@ -23,7 +23,7 @@ ghost use Rattle.ledger_sheet.specs.Words.{answerWords};
 ghost use Rattle.ledger_layout.specs.Layout.{bookOf, placeIn};
 ghost use Rattle.ledger_season.specs.Report.{mostSheets, perMillion, three, gapIn, report};
 ghost use Rattle.ledger_season.specs.Season.{countsWords, orFurther, rightTo, booksTo, seasonRules, season, Answers};
-ghost use Rattle.ledger_season.specs.Gathered.{mostKeys, distinct, isNew, areNew, keysOfAll, Keyed, orElse, Counts, Adds};
+ghost use Rattle.ledger_season.specs.inner.Gathered.{mostKeys, distinct, isNew, areNew, keysOfAll, Keyed, orElse, Counts, Adds};
 
 pub const MOST_SHEETS: usize = 16;
 

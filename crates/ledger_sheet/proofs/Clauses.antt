@@ -16,7 +16,7 @@ use Rattle.ledger_sheet.specs.Sheet.{sheetSize, rowSize, rowCount, rowsS
 use Rattle.ledger_sheet.specs.Sheet.{openedAt, workedAt, desksStart, rowAt, deskAt, used, isUsed, isRow}
 use Rattle.ledger_sheet.specs.Sheet.{deskByte, deskRow, isClosed, carries, count, headerRight, countRight, validKeys}
 use Rattle.ledger_sheet.specs.Sheet.{differentKeys, firstNumbers, freeZero, closedZero, deskMarked, openNames, deskRight, right}
-use Rattle.ledger_sheet.specs.Judging.{rowsRight, Zeros}
+use Rattle.ledger_sheet.specs.inner.Judging.{rowsRight, Zeros}
 use Rattle.ledger_sheet.proofs.Desks.{closed-is, open-is, UpTo, longer, ended}
 
 -- ---- desks

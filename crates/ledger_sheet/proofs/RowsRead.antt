@@ -17,7 +17,7 @@ use Rattle.keys.specs.Key.{validKey}
 use Rattle.keys.specs.Numbers.{isNumber}
 use Rattle.ledger_sheet.specs.Sheet.{usedWordSize, rowSize, rowCount, rowAt, desksStart, used, isUsed, keyAt}
 use Rattle.ledger_sheet.specs.Sheet.{firstNumberAt, count, countRight, isNew, validKeys, differentKeys, firstNumbers, freeZero}
-use Rattle.ledger_sheet.specs.Judging.{rowsRight, Zeros, Marked, markCount}
+use Rattle.ledger_sheet.specs.inner.Judging.{rowsRight, Zeros, Marked, markCount}
 use Rattle.ledger_sheet.proofs.Clauses.{count-none, count-next}
 use Rattle.ledger_sheet.proofs.Ranges.{Read, none-read, read-more, read-past, zero-within, zero-number}
 

@@ -1,5 +1,5 @@
 -- What the contracts of `sheet` cite, and the words of the ledger's answers.
 pub mod Sheet
-pub mod Judging
 pub mod Words
 pub mod Outcome
+pub mod inner

@@ -15,7 +15,7 @@ ghost use Rattle.keys.specs.Key.{validKey};
 ghost use Rattle.keys.specs.Numbers.{isNumber};
 ghost use Rattle.ledger_sheet.specs.Sheet.{sheetSize, rowSize, rowCount, deskCount, used, isUsed, isRow};
 ghost use Rattle.ledger_sheet.specs.Sheet.{keyAt, firstNumberAt, deskByte, headerRight, deskRight, right};
-ghost use Rattle.ledger_sheet.specs.Judging.{rowsRight, Zeros, Marked};
+ghost use Rattle.ledger_sheet.specs.inner.Judging.{rowsRight, Zeros, Marked};
 
 // A key leaves its mark at its remainder by this number: a key whose place has none is not among those before it.
 const MARKS: usize = 64;

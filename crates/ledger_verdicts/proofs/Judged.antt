@@ -14,12 +14,12 @@ use Rattle.refusals.proofs.Laws.{number-positive}
 use Rattle.refusals.proofs.Judged.{NoneHolds, Numbered, verdict-none}
 use Rattle.ledger_sheet.specs.Sheet.{sheetSize, rowCount, deskCount, used, isUsed, deskRow, right}
 use Rattle.ledger_sheet.specs.Outcome.{Outcome, judged}
-use Rattle.ledger_rows.specs.Scans.{rowWith, freeRow}
+use Rattle.ledger_rows.specs.inner.Scans.{rowWith, freeRow}
 use Rattle.ledger_rows.proofs.Scans.{lowest-within}
 use Rattle.ledger_verdicts.specs.declared.Verdict.{Verdict}
 use Rattle.ledger_verdicts.specs.declared.Verdict.the-variants as Case
 use Rattle.ledger_sheet.proofs.Clauses.{right-parts, row-parts, count-some, open-row}
-use Rattle.ledger_verdicts.specs.Verdicts.{enrolRows, findRows, openRows, deskRows, reportRows, strikeRows, verdictNumber}
+use Rattle.ledger_verdicts.specs.inner.Verdicts.{enrolRows, findRows, openRows, deskRows, reportRows, strikeRows, verdictNumber}
 
 -- the number that a verdict gives, or 0
 module _ (rows : List (Rule ℕ)) {v : Verdict} (e : verdictNumber v ≡ verdict rows) where

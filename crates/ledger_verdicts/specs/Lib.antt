@@ -1,2 +1,2 @@
 -- What the contracts of `ledger_verdicts` cite.
-pub mod Verdicts
+pub mod inner

@@ -12,7 +12,7 @@ use refusals::Refusal;
 ghost use mathlib.Core.Path.{_≡_};
 ghost use Rattle.refusals.specs.Judge.{verdict};
 ghost use Rattle.ledger_sheet.specs.Sheet.{right};
-ghost use Rattle.ledger_verdicts.specs.Verdicts.{enrolRows, findRows, openRows, deskRows, reportRows, strikeRows, verdictNumber};
+ghost use Rattle.ledger_verdicts.specs.inner.Verdicts.{enrolRows, findRows, openRows, deskRows, reportRows, strikeRows, verdictNumber};
 
 // What a call is judged: it may be made, or it is refused.
 pub enum Verdict {

@@ -6,7 +6,7 @@ use native.Mathlib.Omega.{arith}
 use borrow.Author.Tests.{eq-eqb, ne-eqb}
 use Rattle.ledger_sheet.specs.Sheet.{usedWordSize, rowCount, deskCount, openedAt}
 use Rattle.ledger_convert.specs.Old as Old
-use Rattle.ledger_convert.specs.Laid.{Laid}
+use Rattle.ledger_convert.specs.inner.Laid.{Laid}
 use Rattle.ledger_convert.proofs.Read.{long, value-ticks}
 use Rattle.ledger_convert.proofs.Laying.{desk-laid, closed-laid, desk-copied}
 use borrow.Author.Needs.{needs}

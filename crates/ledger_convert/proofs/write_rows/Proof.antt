@@ -4,7 +4,7 @@ use mathlib.Core.Path.{_≡_}
 use native.Mathlib.Omega.{arith}
 use Rattle.ledger_sheet.specs.Sheet.{usedWordSize, rowsStart}
 use Rattle.ledger_convert.specs.Old as Old
-use Rattle.ledger_convert.specs.Laid.{Laid}
+use Rattle.ledger_convert.specs.inner.Laid.{Laid}
 use Rattle.ledger_convert.proofs.Read.{few, long, value-ticks}
 use Rattle.ledger_convert.proofs.Laying.{row-laid, rows-laid, row-copied}
 use borrow.Author.Needs.{needs}

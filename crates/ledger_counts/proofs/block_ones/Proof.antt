@@ -2,7 +2,7 @@
 use borrow.Author.Needs.{needs}
 use native.Mathlib.Omega.{arith}
 use mathlib.Core.Path.{sym}
-use Rattle.ledger_counts.specs.Words.{wordBits}
+use Rattle.ledger_counts.specs.inner.Words.{wordBits}
 use Rattle.ledger_counts.proofs.WordCounts.{block-few, block-full}
 use Rattle.ledger_counts.proofs.block_ones.Statement.{statement}
 use Rattle.ledger_counts.proofs.block_ones.Tie as tie

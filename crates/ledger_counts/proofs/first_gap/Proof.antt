@@ -9,7 +9,7 @@ use Rattle.octets.proofs.Laws.{failed, passed}
 use Rattle.ledger_sheet.specs.declared.GapAnswer.the-variants.{Nothing}
 use Rattle.ledger_sheet.specs.Sheet.{rowCount}
 use Rattle.ledger_rows.specs.Ticks.{tickedAt}
-use Rattle.ledger_counts.specs.Counts.{gapFrom}
+use Rattle.ledger_counts.specs.inner.Counts.{gapFrom}
 use Rattle.ledger_sheet.specs.Words.{gapWords}
 use Rattle.ledger_counts.proofs.Reports.{rowEnd, row-end-within, gap-next, gap-here, gap-none}
 use Rattle.ledger_counts.proofs.first_gap.Statement.{statement}

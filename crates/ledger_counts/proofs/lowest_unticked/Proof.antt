@@ -6,7 +6,7 @@ use native.Mathlib.Omega.{arith}
 use lib.Count.{trailing-le}
 use Rattle.ledger_rows.specs.Ticks.{tickedAt}
 use Rattle.ledger_rows.proofs.Scans.{Fails, each-none, lowest-here, lowest-none}
-use Rattle.ledger_counts.specs.Words.{wordBits, wordCount}
+use Rattle.ledger_counts.specs.inner.Words.{wordBits, wordCount}
 use Rattle.ledger_counts.proofs.WordCounts.{word-below, word-full, word-lowest}
 use Rattle.ledger_counts.proofs.lowest_unticked.Statement.{statement}
 use Rattle.ledger_counts.proofs.lowest_unticked.Tie as tie

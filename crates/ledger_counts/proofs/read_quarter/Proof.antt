@@ -1,7 +1,7 @@
 -- `ledger_counts::read_quarter` meets its contract. Assumes nothing.
 use Prim.Native.Nat.{_+_}
 use native.Mathlib.Omega.{arith}
-use Rattle.ledger_counts.specs.Words.{littleAt}
+use Rattle.ledger_counts.specs.inner.Words.{littleAt}
 use borrow.Author.Needs.{needs}
 use Rattle.ledger_counts.proofs.read_quarter.Statement.{statement}
 use Rattle.ledger_counts.proofs.read_quarter.Tie as tie

@@ -6,7 +6,7 @@ use native.Mathlib.Omega.{arith}
 use Rattle.ledger_model.specs.Positions.{rowLength, size}
 use Rattle.ledger_rows.specs.Ticks.{tickedAt, ticksOf}
 use Rattle.octets.specs.Lists.{table}
-use Rattle.ledger_counts.specs.Words.{wordBits, blockWords, blockCount}
+use Rattle.ledger_counts.specs.inner.Words.{wordBits, blockWords, blockCount}
 use Rattle.ledger_counts.proofs.Missing.{size-none}
 use Rattle.ledger_counts.proofs.WordCounts.{AllFit, block-few, block-count}
 use Rattle.ledger_counts.proofs.ticked_count.Statement.{statement}

@@ -5,9 +5,9 @@ use native.Mathlib.Omega.{arith}
 use lib.Count.{leading-le}
 use Rattle.ledger_model.specs.Positions.{rowLength}
 use Rattle.ledger_rows.specs.Ticks.{tickedAt}
-use Rattle.ledger_counts.specs.Counts.{pastHighest}
+use Rattle.ledger_counts.specs.inner.Counts.{pastHighest}
 use Rattle.ledger_counts.proofs.Highest.{past-none}
-use Rattle.ledger_counts.specs.Words.{wordBits, wordCount}
+use Rattle.ledger_counts.specs.inner.Words.{wordBits, wordCount}
 use Rattle.ledger_counts.proofs.WordCounts.{word-none, word-end}
 use Rattle.ledger_counts.proofs.ticks_end.Statement.{statement}
 use Rattle.ledger_counts.proofs.ticks_end.Tie as tie

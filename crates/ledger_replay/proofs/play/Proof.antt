@@ -8,7 +8,7 @@ use lib.ListN.{length}
 use Rattle.octets.proofs.Laws.{failed, passed}
 use Rattle.ledger_replay.specs.Trace.{entriesFrom, entriesOf}
 use Rattle.ledger_replay.specs.Replay.{replayFrom}
-use Rattle.ledger_replay.specs.Making.{IsLaid}
+use Rattle.ledger_replay.specs.inner.Making.{IsLaid}
 use Rattle.ledger_replay.proofs.Turns.{start, same-on, differs-there, all-same, laid-right, laid-next}
 use Rattle.ledger_replay.proofs.play.Statement.{statement}
 use Rattle.ledger_replay.proofs.play.Tie as tie

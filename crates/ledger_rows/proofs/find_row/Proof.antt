@@ -3,7 +3,7 @@ use Prim.Native.Nat.{_≤_, _-_}
 use mathlib.Core.Path.{_≡_, sym, _∙_}
 use native.Mathlib.Omega.{arith}
 use Rattle.ledger_sheet.specs.Sheet.{rowCount}
-use Rattle.ledger_rows.specs.Scans.{isRowOf, rowWith}
+use Rattle.ledger_rows.specs.inner.Scans.{isRowOf, rowWith}
 use Rattle.ledger_rows.proofs.Scans.{Fails, each-none, each-more, lowest-here, lowest-none}
 use Rattle.ledger_rows.proofs.find_row.Statement.{statement}
 use Rattle.ledger_rows.proofs.find_row.Tie as tie

@@ -4,7 +4,7 @@ use mathlib.Core.Bool.{not}
 use mathlib.Core.Path.{_≡_, sym, ap, _∙_}
 use native.Mathlib.Omega.{arith}
 use Rattle.ledger_sheet.specs.Sheet.{rowCount, isUsed}
-use Rattle.ledger_rows.specs.Scans.{freeRow}
+use Rattle.ledger_rows.specs.inner.Scans.{freeRow}
 use Rattle.ledger_rows.proofs.Scans.{Fails, each-none, each-more, lowest-here, lowest-none}
 use Rattle.ledger_rows.proofs.free_row.Statement.{statement}
 use Rattle.ledger_rows.proofs.free_row.Tie as tie

@@ -7,7 +7,7 @@ use lib.Dec.{eqb}
 use Rattle.octets.specs.Octets.{all}
 use Rattle.octets.proofs.Laws.{all-none, all-next}
 use Rattle.ledger_sheet.specs.Sheet.{deskCount, deskRow, isClosed}
-use Rattle.ledger_rows.specs.Scans.{noneHasOpen}
+use Rattle.ledger_rows.specs.inner.Scans.{noneHasOpen}
 use Rattle.ledger_rows.proofs.is_idle.Statement.{statement}
 use Rattle.ledger_rows.proofs.is_idle.Tie as tie
 

@@ -1,6 +1,6 @@
 -- `rows::is_row_of` meets its contract. Assumes nothing.
 use Rattle.octets.proofs.Laws.{failed, passed}
-use Rattle.ledger_rows.specs.Scans.{isRowOf}
+use Rattle.ledger_rows.specs.inner.Scans.{isRowOf}
 use borrow.Author.Needs.{needs}
 use Rattle.ledger_rows.proofs.is_row_of.Statement.{statement}
 use Rattle.ledger_rows.proofs.is_row_of.Tie as tie

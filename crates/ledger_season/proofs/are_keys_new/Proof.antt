@@ -1,7 +1,7 @@
 -- `are_keys_new` meets its contract. The invariant: the keys of the first sheets are read. Assumes nothing.
 use Prim.Native.Nat.{_≤_, _-_}
 use mathlib.Core.Path.{_≡_, refl, ap, _∙_}
-use Rattle.ledger_season.specs.Gathered.{distinct}
+use Rattle.ledger_season.specs.inner.Gathered.{distinct}
 use native.Mathlib.Omega.{arith}
 use Rattle.ledger_season.proofs.Sheets.{sheet-part, length-sheet}
 use Rattle.ledger_season.proofs.Keys.{AllKeyed, all-keyed-none, all-keyed-more, all-keyed, new-distinct}

@@ -7,7 +7,7 @@ use mathlib.Core.Logic.{⊎-elim}
 use mathlib.Core.Path.{_≡_, refl, sym}
 use native.Mathlib.Omega.{arith}
 use Rattle.octets.proofs.Laws.{failed, passed, all-none, all-more, all-fails}
-use Rattle.ledger_season.specs.Gathered.{areNew}
+use Rattle.ledger_season.specs.inner.Gathered.{areNew}
 use Rattle.ledger_season.proofs.Keys.{Covers, covers-none, covers-more, slot-free}
 use Rattle.ledger_season.proofs.are_new.Statement.{statement}
 use Rattle.ledger_season.proofs.are_new.Tie as tie

@@ -7,7 +7,7 @@ use lib.Dec.{eqb}
 use lib.ListN.{getD}
 use Rattle.octets.specs.Octets.{all}
 use Rattle.octets.proofs.Laws.{all-none, all-next}
-use Rattle.ledger_season.specs.Gathered.{isNew}
+use Rattle.ledger_season.specs.inner.Gathered.{isNew}
 use Rattle.ledger_season.proofs.is_new.Statement.{statement}
 use Rattle.ledger_season.proofs.is_new.Tie as tie
 

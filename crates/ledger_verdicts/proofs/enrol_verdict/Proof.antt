@@ -7,7 +7,7 @@ use Rattle.octets.proofs.Laws.{failed, passed}
 use Rattle.refusals.specs.Judge.{verdict, judge}
 use Rattle.ledger_sheet.proofs.Clauses.{right-parts}
 use Rattle.ledger_sheet.specs.Sheet.{rowCount}
-use Rattle.ledger_rows.specs.Scans.{freeRow}
+use Rattle.ledger_rows.specs.inner.Scans.{freeRow}
 use borrow.Author.Needs.{needs}
 use Rattle.ledger_verdicts.proofs.enrol_verdict.Statement.{statement}
 use Rattle.ledger_verdicts.proofs.enrol_verdict.Tie as tie

@@ -4,7 +4,7 @@ use mathlib.Core.Path.{_≡_}
 use Rattle.octets.proofs.Laws.{failed, passed}
 use Rattle.refusals.specs.Judge.{verdict, judge}
 use Rattle.ledger_sheet.proofs.Clauses.{right-parts}
-use Rattle.ledger_rows.specs.Scans.{noneHasOpen}
+use Rattle.ledger_rows.specs.inner.Scans.{noneHasOpen}
 use Rattle.ledger_verdicts.proofs.strike_verdict.Statement.{statement}
 use Rattle.ledger_verdicts.proofs.strike_verdict.Tie as tie
 

@@ -1,5 +1,5 @@
 -- `desks::clear_desk` meets its contract. Assumes nothing.
-use Rattle.ledger_changes.specs.Bytes.{clearDesk}
+use Rattle.ledger_changes.specs.inner.Bytes.{clearDesk}
 use borrow.Author.Needs.{needs}
 use Rattle.ledger_changes.proofs.desks.clear_desk.Statement.{statement}
 use Rattle.ledger_changes.proofs.desks.clear_desk.Tie as tie

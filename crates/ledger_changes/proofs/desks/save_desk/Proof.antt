@@ -1,6 +1,6 @@
 -- `desks::save_desk` meets its contract. Assumes nothing.
 use Rattle.octets.proofs.Laws.{failed, passed}
-use Rattle.ledger_changes.specs.Bytes.{saveAt}
+use Rattle.ledger_changes.specs.inner.Bytes.{saveAt}
 use borrow.Author.Needs.{needs}
 use Rattle.ledger_changes.proofs.desks.save_desk.Statement.{statement}
 use Rattle.ledger_changes.proofs.desks.save_desk.Tie as tie

@@ -1,6 +1,6 @@
 -- `rows::blank_row` meets its contract. Assumes nothing.
 use mathlib.Core.Path.{refl}
-use Rattle.ledger_changes.specs.Rows.{blankRow, blankTicks}
+use Rattle.ledger_changes.specs.inner.Rows.{blankRow, blankTicks}
 use Rattle.ledger_changes.proofs.rows.blank_row.Statement.{statement}
 use Rattle.ledger_changes.proofs.rows.blank_row.Tie as tie
 

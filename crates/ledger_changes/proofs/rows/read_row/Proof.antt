@@ -1,5 +1,5 @@
 -- `rows::read_row` meets its contract. Assumes nothing.
-use Rattle.ledger_changes.specs.Rows.{rowValueAt}
+use Rattle.ledger_changes.specs.inner.Rows.{rowValueAt}
 use borrow.Author.Needs.{needs}
 use Rattle.ledger_changes.proofs.rows.read_row.Statement.{statement}
 use Rattle.ledger_changes.proofs.rows.read_row.Tie as tie

@@ -2,7 +2,7 @@
 use Prim.Native.Nat.{_+_, _-_}
 use native.Mathlib.Omega.{arith}
 use Rattle.ledger_sheet.specs.Sheet.{rowSize, workedAt, deskAt}
-use Rattle.ledger_changes.specs.Bytes.{markRow, markDesk}
+use Rattle.ledger_changes.specs.inner.Bytes.{markRow, markDesk}
 use Rattle.ledger_changes.proofs.Puts.{lent-back}
 use borrow.Author.Needs.{needs}
 use Rattle.ledger_changes.proofs.ticks.mark_desk.Statement.{statement}

@@ -1,5 +1,5 @@
 -- `ticks::mark_row` meets its contract. Assumes nothing.
-use Rattle.ledger_changes.specs.Bytes.{markRow}
+use Rattle.ledger_changes.specs.inner.Bytes.{markRow}
 use borrow.Author.Needs.{needs}
 use Rattle.ledger_changes.proofs.ticks.mark_row.Statement.{statement}
 use Rattle.ledger_changes.proofs.ticks.mark_row.Tie as tie

@@ -3,7 +3,7 @@ use mathlib.Core.Path.{sym, ap}
 use borrow.Author.Tests.{eq-eqb, ne-eqb}
 use Rattle.ledger_replay.specs.Trace.{callIn}
 use Rattle.ledger_replay.specs.Replay.{told}
-use Rattle.ledger_replay.specs.Making.{lastIn, plainIn, made}
+use Rattle.ledger_replay.specs.inner.Making.{lastIn, plainIn, made}
 use borrow.Author.Needs.{needs}
 use Rattle.ledger_replay.proofs.calls.make.Statement.{statement}
 use Rattle.ledger_replay.proofs.calls.make.Tie as tie

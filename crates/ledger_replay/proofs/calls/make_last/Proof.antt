@@ -1,7 +1,7 @@
 -- `calls::make_last` meets its contract. Assumes nothing.
 use mathlib.Core.Path.{sym}
 use borrow.Author.Tests.{eq-eqb, ne-eqb}
-use Rattle.ledger_replay.specs.Making.{lastIn}
+use Rattle.ledger_replay.specs.inner.Making.{lastIn}
 use borrow.Author.Needs.{needs}
 use Rattle.ledger_replay.proofs.calls.make_last.Statement.{statement}
 use Rattle.ledger_replay.proofs.calls.make_last.Tie as tie

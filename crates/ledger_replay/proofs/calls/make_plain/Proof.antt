@@ -1,7 +1,7 @@
 -- `calls::make_plain` meets its contract. Assumes nothing.
 use mathlib.Core.Path.{sym}
 use borrow.Author.Tests.{eq-eqb, ne-eqb}
-use Rattle.ledger_replay.specs.Making.{plainIn}
+use Rattle.ledger_replay.specs.inner.Making.{plainIn}
 use borrow.Author.Needs.{needs}
 use Rattle.ledger_replay.proofs.calls.make_plain.Statement.{statement}
 use Rattle.ledger_replay.proofs.calls.make_plain.Tie as tie

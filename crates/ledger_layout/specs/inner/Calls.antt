@@ -8,10 +8,11 @@ use lib.ListN.{length}
 use Rattle.refusals.specs.Judge.{_when_}
 use Rattle.ledger_sheet.specs.Sheet.{sheetSize, rowCount, rowAt, right}
 use Rattle.ledger_sheet.specs.Outcome.{Outcome, judged, done}
-use Rattle.ledger_changes.specs.Bytes.{freshSheet, enrolAt, strikeAt, openAt, clearDesk, markDesk, saveAt}
-use Rattle.ledger_rows.specs.Scans.{rowWith, freeRow}
-use Rattle.ledger_counts.specs.Counts.{reportWords, gapFrom}
-use Rattle.ledger_verdicts.specs.Verdicts.{enrolRows, findRows, openRows, deskRows, reportRows, strikeRows}
+use Rattle.ledger_changes.specs.Bytes.{freshSheet}
+use Rattle.ledger_changes.specs.inner.Bytes.{enrolAt, strikeAt, openAt, clearDesk, markDesk, saveAt}
+use Rattle.ledger_rows.specs.inner.Scans.{rowWith, freeRow}
+use Rattle.ledger_counts.specs.inner.Counts.{reportWords, gapFrom}
+use Rattle.ledger_verdicts.specs.inner.Verdicts.{enrolRows, findRows, openRows, deskRows, reportRows, strikeRows}
 
 -- Enrol: the stream at the lowest free row, with no ticks; the answer is the row.
 unfoldable pub enrolCall : (key first : ℕ) → List ℕ → Outcome

@@ -9,7 +9,7 @@ use Rattle.refusals.specs.Judge.{Rule, _when_}
 use Rattle.keys.specs.Key.{validKey}
 use Rattle.keys.specs.Numbers.{isNumber}
 use Rattle.ledger_sheet.specs.Sheet.{rowCount, deskCount, isRow, isClosed, right}
-use Rattle.ledger_rows.specs.Scans.{hasKey, freeRow, noneHasOpen}
+use Rattle.ledger_rows.specs.inner.Scans.{hasKey, freeRow, noneHasOpen}
 use Rattle.ledger_verdicts.specs.declared.Verdict.{Verdict}
 use Rattle.ledger_verdicts.specs.declared.Verdict.the-variants as Case
 
