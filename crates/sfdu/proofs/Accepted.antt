@@ -35,7 +35,20 @@ use Rattle.sfdu.specs.Nesting.{
   leastLabelLength,
   mostLabelLength,
 }
-use Rattle.sfdu.specs.Read.{hasKind, kindOf, labelLength, recordLength, blockType, blockLength, lengthInRange, primaryOf, readRules, accepts, recordWords, readOne}
+use Rattle.sfdu.specs.Read.{
+  hasKind,
+  kindOf,
+  labelLength,
+  recordLength,
+  blockType,
+  blockLength,
+  lengthInRange,
+  primaryOf,
+  readRules,
+  accepts,
+  recordWords,
+  readOne,
+}
 
 pub in-range : (k : Kind) (s : List ℕ) → lengthInRange k s ≡ true
     → (leastLabelLength k ≤ labelLength s) × (labelLength s ≤ mostLabelLength k)

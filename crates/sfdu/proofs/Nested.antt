@@ -9,9 +9,34 @@ use lib.Dec.{lit<}
 use Rattle.refusals.specs.Judge.{_when_, judge, answered}
 use Rattle.refusals.proofs.Judged.{AllGive, Outcome, none, first, outcome, none-judge, none-applies, first-judge, first-gives, judge-append}
 use Rattle.sfdu.specs.declared.Kind.{Kind}
-use Rattle.sfdu.specs.Nesting.{blockLabelSize, aggregationAt, primaryAt, secondaryAt, dataAt, dataValueAt, aggregationLength, primaryLength, secondaryLength}
+use Rattle.sfdu.specs.Nesting.{
+  blockLabelSize,
+  aggregationAt,
+  primaryAt,
+  secondaryAt,
+  dataAt,
+  dataValueAt,
+  aggregationLength,
+  primaryLength,
+  secondaryLength,
+}
 use Rattle.sfdu.specs.Read.{kindOf, recordLength, blockLength, _giving_, readRules, accepts, recordWords, readOne}
-use Rattle.sfdu.specs.Nested.{Block, aggregation, primary, secondary, data-block, startOf, enclosingEnd, blockEnd, Nested, AcceptedNest, someEndsPast, readWith18, Without18, Never18}
+use Rattle.sfdu.specs.Nested.{
+  Block,
+  aggregation,
+  primary,
+  secondary,
+  data-block,
+  startOf,
+  enclosingEnd,
+  blockEnd,
+  Nested,
+  AcceptedNest,
+  someEndsPast,
+  readWith18,
+  Without18,
+  Never18,
+}
 use Rattle.sfdu.proofs.Placed.{placed}
 use Rattle.sfdu.proofs.Accepted.{Accepted, accepted}
 
@@ -102,7 +127,9 @@ not-18 s rest e = by (outcome (readRules s))
 
 without : (m : ℕ) (s : List ℕ) → readWith18 m s ≡ readOne s
 unfolding readWith18 readOne accepts judge
-without m s = rw (judge-append (λ given. given) (readRules s) ((18 giving m when someEndsPast (kindOf s) s) ∷ []) (recordWords (kindOf s) s)) (by (outcome (readRules s)))
+without m s =
+    rw (judge-append (λ given. given) (readRules s) ((18 giving m when someEndsPast (kindOf s) s) ∷ []) (recordWords (kindOf s) s))
+    (by (outcome (readRules s)))
   where
     w : List ℕ
     w = recordWords (kindOf s) s

@@ -4,7 +4,20 @@ use mathlib.Core.Path.{_≡_, refl}
 use lib.Dec.{lit≤}
 use Rattle.sfdu.specs.declared.Kind.{Kind}
 use Rattle.sfdu.specs.declared.Kind.the-variants.{Telemetry, Rsr}
-use Rattle.sfdu.specs.Nesting.{labelSize, primaryAt, secondaryValueAt, dataAt, dataValueAt, blockLabelSize, aggregationLength, secondaryLength, leastLabelLength, mostLabelLength, mostData, secondaryType}
+use Rattle.sfdu.specs.Nesting.{
+  labelSize,
+  primaryAt,
+  secondaryValueAt,
+  dataAt,
+  dataValueAt,
+  blockLabelSize,
+  aggregationLength,
+  secondaryLength,
+  leastLabelLength,
+  mostLabelLength,
+  mostData,
+  secondaryType,
+}
 
 pub record Placed (k : Kind) : Type 0 where
   pub data-at : dataAt k ≡ secondaryValueAt + secondaryLength k

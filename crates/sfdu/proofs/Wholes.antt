@@ -13,7 +13,26 @@ use Rattle.octets.proofs.Laws.{Bytes, number-lt, number-join}
 use Rattle.octets.proofs.Parts.{number-bytes, bytes-number, same-part, part-same}
 use Rattle.sfdu.specs.declared.Kind.{Kind}
 use Rattle.sfdu.specs.declared.Kind.the-variants.{Telemetry, Rsr}
-use Rattle.sfdu.specs.Nesting.{kindBytes, kindAt, tagSize, labelSize, wordSize, aggregationAt, primaryAt, secondaryAt, dataAt, dataValueAt, aggregationLength, primaryLength, secondaryLength, aggregationType, primaryType, secondaryType, dataType, mostData}
+use Rattle.sfdu.specs.Nesting.{
+  kindBytes,
+  kindAt,
+  tagSize,
+  labelSize,
+  wordSize,
+  aggregationAt,
+  primaryAt,
+  secondaryAt,
+  dataAt,
+  dataValueAt,
+  aggregationLength,
+  primaryLength,
+  secondaryLength,
+  aggregationType,
+  primaryType,
+  secondaryType,
+  dataType,
+  mostData,
+}
 use Rattle.sfdu.specs.Read.{hasKind, recordLength, blockType, blockLength, isLabel, headerRules, dataRules}
 
 -- ---- a label
@@ -91,17 +110,20 @@ last true true = refl
 last true false = refl
 last false b = refl
 
-four : (a b c d e f g h : Bool)
-    → cond (not a) false (cond (not b) false (cond (not c) false (cond (not d) false (cond (not e) false (cond (not f) false (cond (not g) false (cond (not h) false true)))))))
-    ≡ ((a && b) && ((c && d) && ((e && f) && (g && h))))
+-- one pair of tests, before others
+abbrev pair : (a b m : Bool) → Bool
+pair a b m = cond (not a) false (cond (not b) false m)
+
+four : (a b c d e f g h : Bool) → pair a b (pair c d (pair e f (pair g h true))) ≡ ((a && b) && ((c && d) && ((e && f) && (g && h))))
 four a b c d e f g h =
-    both a b (cond (not c) false (cond (not d) false (cond (not e) false (cond (not f) false (cond (not g) false (cond (not h) false true))))))
-    ∙ ap (λ (m : Bool). (a && b) && m) (both c d (cond (not e) false (cond (not f) false (cond (not g) false (cond (not h) false true))))
-    ∙ ap (λ (m : Bool). (c && d) && m) (both e f (cond (not g) false (cond (not h) false true)) ∙ ap (λ (m : Bool). (e && f) && m) (last g h)))
+    both a b (pair c d (pair e f (pair g h true)))
+    ∙ ap (λ (m : Bool). (a && b) && m) (both c d (pair e f (pair g h true))
+    ∙ ap (λ (m : Bool). (c && d) && m) (both e f (pair g h true) ∙ ap (λ (m : Bool). (e && f) && m) (last g h)))
 
 pub blocks-test : (k : Kind) (s : List ℕ)
     → noneApplies (headerRules k s ++ dataRules k s)
-    ≡ (isLabel s aggregationAt aggregationType (aggregationLength k) && (isLabel s primaryAt primaryType primaryLength && (isLabel s secondaryAt (secondaryType k) (secondaryLength k) && isLabel s (dataAt k) dataType (recordLength s - dataValueAt k))))
+    ≡ (isLabel s aggregationAt aggregationType (aggregationLength k) && (isLabel s primaryAt primaryType primaryLength
+    && (isLabel s secondaryAt (secondaryType k) (secondaryLength k) && isLabel s (dataAt k) dataType (recordLength s - dataValueAt k))))
 unfolding judge
 blocks-test k s =
     four (eqb (blockType s aggregationAt) aggregationType) (eqb (blockLength s aggregationAt) (aggregationLength k))

@@ -50,7 +50,8 @@ fn low_first_u16(s: &[u8], a: usize) -> u32
 
 fn low_first_u32(s: &[u8], a: usize) -> u32
     requires { ⌜ a + 4 ≤ length (now s) ⌝ }
-    ensures { λ r. ⌜ r ≡ getD (now (s .entry)) a 0 + getD (now (s .entry)) (a + 1) 0 * 256 + getD (now (s .entry)) (a + 2) 0 * 65536 + getD (now (s .entry)) (a + 3) 0 * 16777216 ⌝ }
+    ensures { λ r. ⌜ r ≡ getD (now (s .entry)) a 0 + getD (now (s .entry)) (a + 1) 0 * 256 + getD (now (s .entry)) (a + 2) 0 * 65536
+        + getD (now (s .entry)) (a + 3) 0 * 16777216 ⌝ }
 {
     wide(s[a]) + wide(s[a + 1]) * SECOND + wide(s[a + 2]) * THIRD + wide(s[a + 3]) * FOURTH
 }

@@ -9,8 +9,50 @@ ghost use lib.Dec.{eqb, leb};
 ghost use Rattle.refusals.specs.Judge.{answered};
 ghost use Rattle.refusals.specs.Table.{numberOf};
 ghost use Rattle.octets.specs.Octets.{sameAt};
-ghost use Rattle.sfdu.specs.Nesting.{authority, control, authorityAt, controlAt, tagSize, labelSize, blockLabelSize, aggregationAt, primaryAt, secondaryAt, dataAt, dataValueAt, aggregationType, primaryType, secondaryType, dataType, aggregationLength, primaryLength, secondaryLength, leastLabelLength, mostLabelLength, mostData};
-ghost use Rattle.sfdu.specs.Read.{wordsOf, primaryWords, primaryOf, readOne, lengthRules, headerRules, dataRules, recordWords, labelLength, recordLength, blockType, blockLength, checked, typeAndLength, secondaryPart, secondaryStart, dataPart, dataStart};
+ghost use Rattle.sfdu.specs.Nesting.{
+  authority,
+  control,
+  authorityAt,
+  controlAt,
+  tagSize,
+  labelSize,
+  blockLabelSize,
+  aggregationAt,
+  primaryAt,
+  secondaryAt,
+  dataAt,
+  dataValueAt,
+  aggregationType,
+  primaryType,
+  secondaryType,
+  dataType,
+  aggregationLength,
+  primaryLength,
+  secondaryLength,
+  leastLabelLength,
+  mostLabelLength,
+  mostData,
+};
+ghost use Rattle.sfdu.specs.Read.{
+  wordsOf,
+  primaryWords,
+  primaryOf,
+  readOne,
+  lengthRules,
+  headerRules,
+  dataRules,
+  recordWords,
+  labelLength,
+  recordLength,
+  blockType,
+  blockLength,
+  checked,
+  typeAndLength,
+  secondaryPart,
+  secondaryStart,
+  dataPart,
+  dataStart,
+};
 use crate::Checked;
 use crate::Fault;
 use crate::Kind;
@@ -19,33 +61,7 @@ use crate::Read;
 use crate::loads::load_u16;
 use crate::loads::load_u32;
 use crate::loads::load_u64;
-use crate::nesting::AGGREGATION_AT;
-use crate::nesting::AGGREGATION_TYPE;
-use crate::nesting::AUTHORITY;
-use crate::nesting::AUTHORITY_AT;
-use crate::nesting::CONTROL;
-use crate::nesting::CONTROL_AT;
-use crate::nesting::DATA_TYPE;
-use crate::nesting::KIND_AT;
-use crate::nesting::LABEL;
-use crate::nesting::LENGTH_AT;
-use crate::nesting::MOST_DATA;
-use crate::nesting::PRIMARY_AT;
-use crate::nesting::PRIMARY_LENGTH;
-use crate::nesting::PRIMARY_TYPE;
-use crate::nesting::PRIMARY_VALUE_AT;
-use crate::nesting::RSR_TAG;
-use crate::nesting::SECONDARY_AT;
-use crate::nesting::SECONDARY_VALUE_AT;
-use crate::nesting::TAG;
-use crate::nesting::TELEMETRY_TAG;
-use crate::nesting::WORD;
-use crate::nesting::aggregation_length;
-use crate::nesting::data_at;
-use crate::nesting::data_value_at;
-use crate::nesting::least_label_length;
-use crate::nesting::secondary_length;
-use crate::nesting::secondary_type;
+use crate::nesting;
 use crate::whole::is_label;
 use octets::is_same;
 use refusals::Refusal;
@@ -55,23 +71,23 @@ use refusals::Refusal;
 pub fn read_one(s: &[u8]) -> Read
     ensures { λ r. ⌜ wordsOf r ≡ readOne (now (s .entry)) ⌝ }
 {
-    if s.len() < LABEL {
+    if s.len() < nesting::LABEL {
         return refused(Refusal::TooShort, s.len());
     }
     if !has_authority(s) {
-        return refused(Refusal::Authority, AUTHORITY_AT);
+        return refused(Refusal::Authority, nesting::AUTHORITY_AT);
     }
     if !has_control(s) {
-        return refused(Refusal::LabelControl, CONTROL_AT);
+        return refused(Refusal::LabelControl, nesting::CONTROL_AT);
     }
-    let tag = load_u32(s, KIND_AT);
-    if tag == TELEMETRY_TAG {
+    let tag = load_u32(s, nesting::KIND_AT);
+    if tag == nesting::TELEMETRY_TAG {
         return read_length(s, Kind::Telemetry);
     }
-    if tag == RSR_TAG {
+    if tag == nesting::RSR_TAG {
         return read_length(s, Kind::Rsr);
     }
-    refused(Refusal::UnknownKind, KIND_AT)
+    refused(Refusal::UnknownKind, nesting::KIND_AT)
 }
 
 fn refused(refusal: Refusal, at: usize) -> Read
@@ -84,26 +100,33 @@ pub fn has_authority(s: &[u8]) -> bool
     requires { ⌜ labelSize ≤ length (now s) ⌝ }
     ensures { λ r. ⌜ r ≡ sameAt (now (s .entry)) authorityAt authority 0 tagSize ⌝ }
 {
-    is_same(s, AUTHORITY_AT, &AUTHORITY, 0, TAG)
+    is_same(
+        s,
+        nesting::AUTHORITY_AT,
+        &nesting::AUTHORITY,
+        0,
+        nesting::TAG,
+    )
 }
 
 pub fn has_control(s: &[u8]) -> bool
     requires { ⌜ labelSize ≤ length (now s) ⌝ }
     ensures { λ r. ⌜ r ≡ sameAt (now (s .entry)) controlAt control 0 tagSize ⌝ }
 {
-    is_same(s, CONTROL_AT, &CONTROL, 0, TAG)
+    is_same(s, nesting::CONTROL_AT, &nesting::CONTROL, 0, nesting::TAG)
 }
 
 // The refusals from the label's length on.
 fn read_length(s: &[u8], kind: Kind) -> Read
     requires { ⌜ labelSize ≤ length (now s) ⌝ }
-    ensures { λ r. ⌜ wordsOf r ≡ answered (lengthRules kind (now (s .entry)) ++ headerRules kind (now (s .entry)) ++ dataRules kind (now (s .entry))) (recordWords kind (now (s .entry))) ⌝ }
+    ensures { λ r. ⌜ wordsOf r ≡ answered (lengthRules kind (now (s .entry)) ++ headerRules kind (now (s .entry))
+        ++ dataRules kind (now (s .entry))) (recordWords kind (now (s .entry))) ⌝ }
 {
     let after = label_length(s);
     if !length_in_range(after, kind) {
-        return refused(Refusal::LabelLength, LENGTH_AT);
+        return refused(Refusal::LabelLength, nesting::LENGTH_AT);
     }
-    let size = LABEL + after as usize;
+    let size = nesting::LABEL + after as usize;
     if s.len() < size {
         return refused(Refusal::Truncated, s.len());
     }
@@ -115,14 +138,14 @@ pub fn label_length(s: &[u8]) -> u64
     requires { ⌜ labelSize ≤ length (now s) ⌝ }
     ensures { λ r. ⌜ r ≡ labelLength (now (s .entry)) ⌝ }
 {
-    load_u64(s, LENGTH_AT)
+    load_u64(s, nesting::LENGTH_AT)
 }
 
 pub fn length_in_range(after: u64, kind: Kind) -> bool
     ensures { λ r. ⌜ r ≡ (leb (leastLabelLength kind) after && leb after (mostLabelLength kind)) ⌝ }
 {
-    let least = least_label_length(kind);
-    let most = least + MOST_DATA as u64;
+    let least = nesting::least_label_length(kind);
+    let most = least + nesting::MOST_DATA as u64;
     (least <= after) & (after <= most)
 }
 
@@ -152,9 +175,9 @@ fn judge_aggregation(s: &[u8], kind: Kind) -> Checked
 {
     judge_label(
         s,
-        AGGREGATION_AT,
-        AGGREGATION_TYPE,
-        aggregation_length(kind),
+        nesting::AGGREGATION_AT,
+        nesting::AGGREGATION_TYPE,
+        nesting::aggregation_length(kind),
     )
 }
 
@@ -162,7 +185,12 @@ fn judge_primary(s: &[u8]) -> Checked
     requires { ⌜ secondaryAt ≤ length (now s) ⌝ }
     ensures { λ r. ⌜ r ≡ checked (typeAndLength (now (s .entry)) primaryAt primaryType primaryLength) ⌝ }
 {
-    judge_label(s, PRIMARY_AT, PRIMARY_TYPE, PRIMARY_LENGTH)
+    judge_label(
+        s,
+        nesting::PRIMARY_AT,
+        nesting::PRIMARY_TYPE,
+        nesting::PRIMARY_LENGTH,
+    )
 }
 
 fn judge_secondary(s: &[u8], kind: Kind) -> Checked
@@ -171,9 +199,9 @@ fn judge_secondary(s: &[u8], kind: Kind) -> Checked
 {
     judge_label(
         s,
-        SECONDARY_AT,
-        secondary_type(kind),
-        secondary_length(kind) as u64,
+        nesting::SECONDARY_AT,
+        nesting::secondary_type(kind),
+        nesting::secondary_length(kind) as u64,
     )
 }
 
@@ -188,7 +216,7 @@ fn judge_label(s: &[u8], at: usize, class: u64, size: u64) -> Checked
     if load_u16(s, at) as u64 != class {
         return Checked::Wrong(at);
     }
-    Checked::Wrong(at + WORD)
+    Checked::Wrong(at + nesting::WORD)
 }
 
 fn block_length(s: &[u8], at: usize) -> u64
@@ -196,7 +224,7 @@ fn block_length(s: &[u8], at: usize) -> u64
     ensures { λ r. ⌜ r ≡ blockLength (now (s .entry)) at ⌝ }
     ensures { λ r. ⌜ r < 65536 ⌝ }
 {
-    load_u16(s, at + WORD) as u64
+    load_u16(s, at + nesting::WORD) as u64
 }
 
 // The refusals from the data block's label on, and the record where there is none.
@@ -205,10 +233,10 @@ fn read_data(s: &[u8], kind: Kind, size: usize) -> Read
     ensures { λ r. ⌜ wordsOf r ≡ answered (dataRules kind (now (s .entry))) (recordWords kind (now (s .entry))) ⌝ }
 {
     if !has_data_type(s, kind) {
-        return refused(Refusal::DataType, data_at(kind));
+        return refused(Refusal::DataType, nesting::data_at(kind));
     }
     if !has_data_length(s, kind, size) {
-        return refused(Refusal::DataLength, data_at(kind) + WORD);
+        return refused(Refusal::DataLength, nesting::data_at(kind) + nesting::WORD);
     }
     let primary = read_primary(s);
     Read::Record {
@@ -224,10 +252,10 @@ fn read_primary(s: &[u8]) -> Primary
     ensures { λ r. ⌜ primaryWords r ≡ primaryOf (now (s .entry)) ⌝ }
 {
     Primary {
-        major: s[PRIMARY_VALUE_AT],
-        minor: s[PRIMARY_VALUE_AT + 1],
-        mission: s[PRIMARY_VALUE_AT + 2],
-        format: s[PRIMARY_VALUE_AT + 3],
+        major: s[nesting::PRIMARY_VALUE_AT],
+        minor: s[nesting::PRIMARY_VALUE_AT + 1],
+        mission: s[nesting::PRIMARY_VALUE_AT + 2],
+        format: s[nesting::PRIMARY_VALUE_AT + 3],
     }
 }
 
@@ -235,20 +263,21 @@ fn has_data_type(s: &[u8], kind: Kind) -> bool
     requires { ⌜ dataValueAt kind ≤ length (now s) ⌝ }
     ensures { λ r. ⌜ r ≡ eqb (blockType (now (s .entry)) (dataAt kind)) dataType ⌝ }
 {
-    load_u16(s, data_at(kind)) as u64 == DATA_TYPE
+    load_u16(s, nesting::data_at(kind)) as u64 == nesting::DATA_TYPE
 }
 
 fn has_data_length(s: &[u8], kind: Kind, size: usize) -> bool
     requires { ⌜ (size ≡ recordLength (now s)) × (dataValueAt kind ≤ size) × (size ≤ length (now s)) ⌝ }
     ensures { λ r. ⌜ r ≡ eqb (blockLength (now (s .entry)) (dataAt kind)) (recordLength (now (s .entry)) - dataValueAt kind) ⌝ }
 {
-    let rest = size - data_value_at(kind);
-    block_length(s, data_at(kind)) == rest as u64
+    let rest = size - nesting::data_value_at(kind);
+    block_length(s, nesting::data_at(kind)) == rest as u64
 }
 
 // The value of the secondary block, that very part of the slice; the empty part at its start where read one refuses.
 pub fn secondary_part(s: &[u8]) -> &[u8]
-    ensures { λ r. ⌜ (now r ≡ secondaryPart (now (s .entry))) × (ptr r .0 ≡ ptr (s .entry) .0) × (ptr r .1 ≡ ptr (s .entry) .1 + secondaryStart (now (s .entry))) ⌝ }
+    ensures { λ r. ⌜ (now r ≡ secondaryPart (now (s .entry))) × (ptr r .0 ≡ ptr (s .entry) .0)
+        × (ptr r .1 ≡ ptr (s .entry) .1 + secondaryStart (now (s .entry))) ⌝ }
 {
     let found = read_one(s);
     match found {
@@ -257,8 +286,8 @@ pub fn secondary_part(s: &[u8]) -> &[u8]
             size: _,
             primary: _,
         } => {
-            let e = data_at(kind);
-            &s[SECONDARY_VALUE_AT..e]
+            let e = nesting::data_at(kind);
+            &s[nesting::SECONDARY_VALUE_AT..e]
         }
         Read::Refused(_) => &s[0..0],
     }
@@ -275,7 +304,7 @@ pub fn data_part(s: &[u8]) -> &[u8]
             size,
             primary: _,
         } => {
-            let a = data_value_at(kind);
+            let a = nesting::data_value_at(kind);
             &s[a..size]
         }
         Read::Refused(_) => &s[0..0],

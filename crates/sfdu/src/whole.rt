@@ -6,26 +6,24 @@ ghost use mathlib.Core.Path.{_≡_};
 ghost use Prim.Native.Nat.{_+_, _-_, _≤_};
 ghost use lib.ListN.{length};
 ghost use Rattle.refusals.specs.Judge.{noneApplies};
-ghost use Rattle.sfdu.specs.Nesting.{labelSize, blockLabelSize, aggregationAt, secondaryAt, dataAt, dataValueAt, aggregationType, secondaryType, dataType, aggregationLength, secondaryLength, mostData};
+ghost use Rattle.sfdu.specs.Nesting.{
+  labelSize,
+  blockLabelSize,
+  aggregationAt,
+  secondaryAt,
+  dataAt,
+  dataValueAt,
+  aggregationType,
+  secondaryType,
+  dataType,
+  aggregationLength,
+  secondaryLength,
+  mostData,
+};
 ghost use Rattle.sfdu.specs.Read.{recordLength, lengthRules, headerRules, dataRules, isLabel, wholeSize};
 use crate::Kind;
 use crate::loads::load_u32;
-use crate::nesting::AGGREGATION_AT;
-use crate::nesting::AGGREGATION_TYPE;
-use crate::nesting::DATA_TYPE;
-use crate::nesting::KIND_AT;
-use crate::nesting::LABEL;
-use crate::nesting::PRIMARY_AT;
-use crate::nesting::PRIMARY_LENGTH;
-use crate::nesting::PRIMARY_TYPE;
-use crate::nesting::RSR_TAG;
-use crate::nesting::SECONDARY_AT;
-use crate::nesting::TELEMETRY_TAG;
-use crate::nesting::aggregation_length;
-use crate::nesting::data_at;
-use crate::nesting::data_value_at;
-use crate::nesting::secondary_length;
-use crate::nesting::secondary_type;
+use crate::nesting;
 use crate::reader::has_authority;
 use crate::reader::has_control;
 use crate::reader::label_length;
@@ -37,7 +35,7 @@ const WORD_VALUES: u64 = 65536;
 pub fn whole_size(s: &[u8]) -> usize
     ensures { λ r. ⌜ r ≡ wholeSize (now (s .entry)) ⌝ }
 {
-    if s.len() < LABEL {
+    if s.len() < nesting::LABEL {
         return 0;
     }
     if !has_authority(s) {
@@ -46,11 +44,11 @@ pub fn whole_size(s: &[u8]) -> usize
     if !has_control(s) {
         return 0;
     }
-    let tag = load_u32(s, KIND_AT);
-    if tag == TELEMETRY_TAG {
+    let tag = load_u32(s, nesting::KIND_AT);
+    if tag == nesting::TELEMETRY_TAG {
         return size_as(s, Kind::Telemetry);
     }
-    if tag == RSR_TAG {
+    if tag == nesting::RSR_TAG {
         return size_as(s, Kind::Rsr);
     }
     0
@@ -58,13 +56,14 @@ pub fn whole_size(s: &[u8]) -> usize
 
 fn size_as(s: &[u8], kind: Kind) -> usize
     requires { ⌜ labelSize ≤ length (now s) ⌝ }
-    ensures { λ r. ⌜ r ≡ cond (noneApplies (lengthRules kind (now (s .entry)) ++ headerRules kind (now (s .entry)) ++ dataRules kind (now (s .entry)))) (recordLength (now (s .entry))) 0 ⌝ }
+    ensures { λ r. ⌜ r ≡ cond (noneApplies (lengthRules kind (now (s .entry))
+        ++ headerRules kind (now (s .entry)) ++ dataRules kind (now (s .entry)))) (recordLength (now (s .entry))) 0 ⌝ }
 {
     let after = label_length(s);
     if !length_in_range(after, kind) {
         return 0;
     }
-    let size = LABEL + after as usize;
+    let size = nesting::LABEL + after as usize;
     if s.len() < size {
         return 0;
     }
@@ -80,7 +79,12 @@ fn has_blocks(s: &[u8], kind: Kind, size: usize) -> bool
     ensures { λ r. ⌜ r ≡ noneApplies (headerRules kind (now (s .entry)) ++ dataRules kind (now (s .entry))) ⌝ }
 {
     let aggregation = is_aggregation(s, kind);
-    let primary = is_label(s, PRIMARY_AT, PRIMARY_TYPE, PRIMARY_LENGTH);
+    let primary = is_label(
+        s,
+        nesting::PRIMARY_AT,
+        nesting::PRIMARY_TYPE,
+        nesting::PRIMARY_LENGTH,
+    );
     let secondary = is_secondary(s, kind);
     let data = is_data(s, kind, size);
     aggregation & (primary & (secondary & data))
@@ -92,9 +96,9 @@ fn is_aggregation(s: &[u8], kind: Kind) -> bool
 {
     is_label(
         s,
-        AGGREGATION_AT,
-        AGGREGATION_TYPE,
-        aggregation_length(kind),
+        nesting::AGGREGATION_AT,
+        nesting::AGGREGATION_TYPE,
+        nesting::aggregation_length(kind),
     )
 }
 
@@ -104,9 +108,9 @@ fn is_secondary(s: &[u8], kind: Kind) -> bool
 {
     is_label(
         s,
-        SECONDARY_AT,
-        secondary_type(kind),
-        secondary_length(kind) as u64,
+        nesting::SECONDARY_AT,
+        nesting::secondary_type(kind),
+        nesting::secondary_length(kind) as u64,
     )
 }
 
@@ -114,8 +118,8 @@ fn is_data(s: &[u8], kind: Kind, size: usize) -> bool
     requires { ⌜ (size ≡ recordLength (now s)) × (dataValueAt kind ≤ size) × (size ≤ dataValueAt kind + mostData) × (size ≤ length (now s)) ⌝ }
     ensures { λ r. ⌜ r ≡ isLabel (now (s .entry)) (dataAt kind) dataType (recordLength (now (s .entry)) - dataValueAt kind) ⌝ }
 {
-    let rest = size - data_value_at(kind);
-    is_label(s, data_at(kind), DATA_TYPE, rest as u64)
+    let rest = size - nesting::data_value_at(kind);
+    is_label(s, nesting::data_at(kind), nesting::DATA_TYPE, rest as u64)
 }
 
 // Whether the block at an offset has this type and this length.

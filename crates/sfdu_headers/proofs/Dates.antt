@@ -45,6 +45,7 @@ is-no-date s at h i = by (isYear (year s)) (isDay (year s) (day s)) refl refl
   where
     by : (a b : Bool) → isYear (year s) ≡ a → isDay (year s) (day s) ≡ b → IsDated s (record { checked = Wrong at; count = 0 })
     by true true e f =
-        let none : NotADate ≡ Day (dayCount (year s) (day s)) = h ∙ answer-is (year s) (day s) true true e f in let z : _≡_ {A = ℕ} 0 1 = cc none in absurd (omega arith)
+        let none : NotADate ≡ Day (dayCount (year s) (day s)) = h ∙ answer-is (year s) (day s) true true e f in
+        let z : _≡_ {A = ℕ} 0 1 = cc none in absurd (omega arith)
     by true false e f = record { judged = rw (i, e, f); counted = λ r. let z : _≡_ {A = ℕ} 0 1 = cc r in absurd (omega arith) }
     by false b e f = record { judged = rw (i, e); counted = λ r. let z : _≡_ {A = ℕ} 0 1 = cc r in absurd (omega arith) }

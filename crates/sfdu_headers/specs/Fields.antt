@@ -117,8 +117,9 @@ bandwidthAt = 23
 abbrev pub bandwidth : List ℕ → ℕ
 bandwidth s = byteAt s bandwidthAt
 
-abbrev pub overrideFlag : List ℕ → ℕ
-overrideFlag s = byteAt s 24
+-- The override flag.
+abbrev pub overridden : List ℕ → ℕ
+overridden s = byteAt s 24
 
 abbrev pub attenuationAt : ℕ
 attenuationAt = 25
@@ -150,8 +151,9 @@ dayAt = 30
 abbrev pub day : List ℕ → ℕ
 day s = fieldAt s dayAt 2
 
-abbrev pub overrideFrequency : List ℕ → ℕ
-overrideFrequency s = fieldAt s 64 8
+-- The override frequency.
+abbrev pub frequency : List ℕ → ℕ
+frequency s = fieldAt s 64 8
 
 -- ---- both
 

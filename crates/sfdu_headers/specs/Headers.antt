@@ -47,13 +47,13 @@ use Rattle.sfdu_headers.specs.Fields.{
   uplinkStation,
   expected,
   bandwidth,
-  overrideFlag,
+  overridden,
   attenuation,
   rms,
   peak,
   year,
   day,
-  overrideFrequency,
+  frequency,
   recordNumber,
 }
 use Rattle.sfdu_headers.specs.Ranges.{fieldRules}
@@ -124,14 +124,14 @@ sourceOf s =
 abbrev pub signalOf : List ℕ → List Word
 signalOf s =
     number (rsrUplink s) ∷ number (downlink s) ∷ number (rsrMode s) ∷ number (uplinkStation s) ∷ signed (expected s) ∷ number (bandwidth s)
-    ∷ number (overrideFlag s)
+    ∷ number (overridden s)
     ∷ number (attenuation s)
     ∷ number (rms s)
     ∷ number (peak s)
     ∷ []
 
 abbrev pub timeOf : List ℕ → List Word
-timeOf s = number (year s) ∷ number (day s) ∷ number (overrideFrequency s) ∷ []
+timeOf s = number (year s) ∷ number (day s) ∷ number (frequency s) ∷ []
 
 abbrev pub fieldsOf : Kind → List ℕ → List Word
 fieldsOf Telemetry s =

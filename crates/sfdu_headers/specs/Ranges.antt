@@ -15,7 +15,22 @@ use Rattle.dates.specs.Calendar.{isYear, isDay}
 use Rattle.sfdu_headers.specs.declared.Allowed.{Allowed}
 use Rattle.sfdu_headers.specs.declared.Allowed.the-variants.{Between, Bands}
 use Rattle.sfdu_headers.specs.declared.Judged.{Judged}
-use Rattle.sfdu_headers.specs.Fields.{uplinkAt, uplink, hasBand, year, day, rsrUplinkAt, downlinkAt, rsrModeAt, bandwidthAt, attenuationAt, rmsAt, peakAt, yearAt, dayAt}
+use Rattle.sfdu_headers.specs.Fields.{
+  uplinkAt,
+  uplink,
+  hasBand,
+  year,
+  day,
+  rsrUplinkAt,
+  downlinkAt,
+  rsrModeAt,
+  bandwidthAt,
+  attenuationAt,
+  rmsAt,
+  peakAt,
+  yearAt,
+  dayAt,
+}
 
 -- The letters of the bands: K, S, U, X.
 abbrev pub letterK : ℕ

@@ -53,7 +53,7 @@ pub struct RsrSignal {
     pub peak: u8,
 }
 
-// When an RSR record's samples were taken, and the override frequency.
+// The year and the day of an RSR record's ADC reading, and the override frequency.
 pub struct RsrTime {
     pub year: u16,
     pub day: u16,

@@ -10,7 +10,19 @@ ghost use Rattle.sfdu.specs.Read.{primaryWords, primaryOf, recordLength, checke
 ghost use Rattle.dates.specs.Calendar.{isYear};
 ghost use Rattle.sfdu_headers.specs.Dated.{IsDated};
 ghost use Rattle.sfdu_headers.specs.Fields.{recordNumber, signedByte, yearAt, dayAt};
-ghost use Rattle.sfdu_headers.specs.Headers.{wordsOf, acceptedFields, judgedFields, outOfRange, sourceWords, sourceOf, signalWords, signalOf, timeWords, timeOf, addedOf};
+ghost use Rattle.sfdu_headers.specs.Headers.{
+  wordsOf,
+  acceptedFields,
+  judgedFields,
+  outOfRange,
+  sourceWords,
+  sourceOf,
+  signalWords,
+  signalOf,
+  timeWords,
+  timeOf,
+  addedOf,
+};
 ghost use Rattle.sfdu_headers.specs.Ranges.{inRange, isRsrBand, byteRules};
 ghost use Rattle.sfdu_headers.specs.Words.{number};
 use crate::Allowed;
@@ -144,7 +156,8 @@ fn out_of_range(at: usize) -> Headers
 }
 
 fn read_fields(s: &[u8], size: usize, primary: Primary, count: u32) -> Headers
-    requires { ⌜ (size ≡ recordLength (now s)) × (primaryWords primary ≡ primaryOf (now s)) × (dataValueAt Rsr ≤ length (now s)) × (number count ∷ [] ≡ addedOf Rsr (now s)) ⌝ }
+    requires { ⌜ (size ≡ recordLength (now s)) × (primaryWords primary ≡ primaryOf (now s)) × (dataValueAt Rsr ≤ length (now s))
+        × (number count ∷ [] ≡ addedOf Rsr (now s)) ⌝ }
     ensures { λ r. ⌜ wordsOf r ≡ acceptedFields Rsr (now (s .entry)) ⌝ }
 {
     let source = read_source(s);

@@ -122,7 +122,8 @@ fn read_fields(s: &[u8]) -> TelemetryFields
 
 // The received time's parts, from the one number: days, milliseconds of the day, extended resolution.
 fn split(received: u64) -> ReceivedTime
-    ensures { λ r. ⌜ receivedWords r ≡ number (received / extendedValues / millisecondValues) ∷ number (received / extendedValues % millisecondValues) ∷ number (received % extendedValues) ∷ [] ⌝ }
+    ensures { λ r. ⌜ receivedWords r ≡ number (received / extendedValues / millisecondValues)
+        ∷ number (received / extendedValues % millisecondValues) ∷ number (received % extendedValues) ∷ [] ⌝ }
 {
     let time = received / EXTENDED_VALUES;
     ReceivedTime {

@@ -1,6 +1,22 @@
 -- Unpacked and packed again, and packed and unpacked again: one proof for every width. Assumes nothing.
 use Prim.Native.Nat.{ℕ, zero, suc, _+_, _*_, _/_, _%_, _^_, _≤_, _<_}
-use native.Mathlib.Nat.{not-suc-le-zero, le-of-suc-le-suc, mul-mod-left, pow-zero, pow-suc, suc-mul, add-zero, mod-lt, div-add-mod', div-lt-iff-lt-mul, mul-div-cancel, mul-add-div-right, mul-add-mod-self-right, mod-eq-of-lt, div-eq-of-lt}
+use native.Mathlib.Nat.{
+  not-suc-le-zero,
+  le-of-suc-le-suc,
+  mul-mod-left,
+  pow-zero,
+  pow-suc,
+  suc-mul,
+  add-zero,
+  mod-lt,
+  div-add-mod',
+  div-lt-iff-lt-mul,
+  mul-div-cancel,
+  mul-add-div-right,
+  mul-add-mod-self-right,
+  mod-eq-of-lt,
+  div-eq-of-lt,
+}
 use native.Mathlib.Omega.{arith}
 use mathlib.Core.Bool.{true}
 use mathlib.Core.List.{List, [], _∷_, _++_}
@@ -12,7 +28,23 @@ use lib.Seq.{drop-at, getD-drop}
 use Rattle.octets.specs.Octets.{numberAt, bytesOf, part}
 use Rattle.octets.proofs.Laws.{Bytes, number-lt, length-bytesOf, all-each}
 use Rattle.octets.proofs.Parts.{number-first, number-bytes, bytes-number}
-use Rattle.sfdu_samples.specs.Packing.{valueOf, hasCode, codeOf, perHalf, perWord, halfWord, pairsOf, samplesOf, halfOf, wordOf, unpackedWords, packedWords, unpacked, packed, allCoded}
+use Rattle.sfdu_samples.specs.Packing.{
+  valueOf,
+  hasCode,
+  codeOf,
+  perHalf,
+  perWord,
+  halfWord,
+  pairsOf,
+  samplesOf,
+  halfOf,
+  wordOf,
+  unpackedWords,
+  packedWords,
+  unpacked,
+  packed,
+  allCoded,
+}
 use Rattle.sfdu_samples.specs.Inner.{Width}
 use Rattle.sfdu_samples.proofs.Values.{codes-some, value-code, code-value}
 use Rattle.sfdu_samples.proofs.Judged.{per-some}
@@ -105,7 +137,8 @@ packed-again w (suc n) s h b l =
       take-append-drop,
     )
 
-samples-again : (w : ℕ) (xs : List ℤ) → Width w → Coded w xs → perWord w ≤ length xs → (wordOf w xs < 256 ^ 4) × (samplesOf w (wordOf w xs) ≡ take (perWord w) xs)
+samples-again : (w : ℕ) (xs : List ℤ) → Width w → Coded w xs → perWord w ≤ length xs
+    → (wordOf w xs < 256 ^ 4) × (samplesOf w (wordOf w xs) ≡ take (perWord w) xs)
 unfolding wordOf samplesOf
 samples-again w xs h c l =
     let long : 2 * perHalf w ≤ length (drop 1 xs) + 1 = rw length-drop (omega arith) in
@@ -159,7 +192,8 @@ unfolding unpackedWords samplesOf
 every-word w zero s p = tt
 every-word w (suc n) s p =
     let v = numberAt s 0 4 in
-    every-append w (pairsOf w (perHalf w) (v % halfWord) (v / halfWord)) (unpackedWords w n (drop 4 s)) (every-pair w (perHalf w) (v % halfWord) (v / halfWord) p) (every-word w n (drop 4 s) p)
+    every-append w (pairsOf w (perHalf w) (v % halfWord) (v / halfWord)) (unpackedWords w n (drop 4 s))
+    (every-pair w (perHalf w) (v % halfWord) (v / halfWord) p) (every-word w n (drop 4 s) p)
 
 -- ---- a data part
 

@@ -1,6 +1,22 @@
 -- A code whose highest bit is flipped, and where the samples of a word stand. Assumes nothing.
 use Prim.Native.Nat.{ℕ, zero, suc, _+_, _*_, _/_, _%_, _-_, _^_, _≤_, _<_}
-use native.Mathlib.Nat.{add-mul-div-left, add-mul-mod-self-left, add-mul-mod-self-right, mod-eq-of-lt, mod-lt, div-add-mod', div-lt-iff-lt-mul, div-div-eq-div-mul, mul-div-mul-right, mul-lt-mul-of-pos-right, mul-assoc, mul-comm, add-mul, mul-pos, mul-add}
+use native.Mathlib.Nat.{
+  add-mul-div-left,
+  add-mul-mod-self-left,
+  add-mul-mod-self-right,
+  mod-eq-of-lt,
+  mod-lt,
+  div-add-mod',
+  div-lt-iff-lt-mul,
+  div-div-eq-div-mul,
+  mul-div-mul-right,
+  mul-lt-mul-of-pos-right,
+  mul-assoc,
+  mul-comm,
+  add-mul,
+  mul-pos,
+  mul-add,
+}
 use native.Mathlib.Omega.{arith}
 use mathlib.Core.Bool.{Bool, true, false, false≢true, not, _&&_, _||_}
 use mathlib.Core.Path.{_≡_, refl, sym, ap, _∙_}
@@ -43,7 +59,8 @@ shifted x a b c p q s =
     let r = x % m in
     let t = x / m in
     let less : r * c < m * c = mul-lt-mul-of-pos-right (mod-lt x (mul-pos p q)) s in
-    let whole : x * c ≡ r * c + t * (m * c) = ap (λ (y : ℕ). y * c) (split x m) ∙ add-mul r (m * t) c ∙ ap (λ (y : ℕ). r * c + y) (rw (mul-comm m t) (mul-assoc t m c)) in
+    let moved : m * t * c ≡ t * (m * c) = rw (mul-comm m t) (mul-assoc t m c) in
+    let whole : x * c ≡ r * c + t * (m * c) = ap (λ (y : ℕ). y * c) (split x m) ∙ add-mul r (m * t) c ∙ ap (λ (y : ℕ). r * c + y) moved in
     let low : x * c % (m * c) ≡ r * c = ap (λ (y : ℕ). y % (m * c)) whole ∙ add-mul-mod-self-right (r * c) t (m * c) ∙ mod-eq-of-lt less in
     ap (λ (y : ℕ). y / (a * c)) low ∙ mul-div-mul-right r a s ∙ mod-div x a b p q
 
@@ -79,7 +96,10 @@ flip-high : (k r : ℕ) → r < 2 ^ k → bitXor (2 ^ k + r) (2 ^ k) ≡ r
 flip-high k r l =
     let one : 2 ^ k + r ≡ 1 * 2 ^ k + r = omega arith in
     let two : 2 ^ k ≡ 1 * 2 ^ k + 0 = omega arith in
-    ap (λ (x : ℕ). bitXor x (2 ^ k)) one ∙ ap (λ (x : ℕ). bitXor (1 * 2 ^ k + r) x) two ∙ xor-block k 1 1 r 0 l (pow-pos k) ∙ rw (xor-self, xor-zero-r) (omega arith)
+    ap (λ (x : ℕ). bitXor x (2 ^ k)) one ∙ ap (λ (x : ℕ). bitXor (1 * 2 ^ k + r) x) two ∙ xor-block k 1 1 r 0 l (pow-pos k) ∙ rw (
+      xor-self,
+      xor-zero-r,
+    ) (omega arith)
 
 pub above : (a b : ℕ) → b ≤ a → pos a -ℤ pos b ≡ pos (a - b)
 above a zero h = ap pos (omega arith)
@@ -178,7 +198,8 @@ turn w left word h p l =
     let low : word % halfWord / 2 ^ (w * j) % 2 ^ w ≡ word / 2 ^ (w * j) % 2 ^ w =
     rw (range, mod-div word (2 ^ (w * j)) (2 ^ w * 2 ^ (w * one)) (pow-pos (w * j)) n) (low-digits (word / 2 ^ (w * j)) (2 ^ w) (2 ^ (w * one))) in
     let above-half : 2 ^ (w * (perHalf w + j)) ≡ halfWord * 2 ^ (w * j) = ap (λ (e : ℕ). 2 ^ e) q-index ∙ pow-add 2 16 (w * j) in
-    let high : word / halfWord / 2 ^ (w * j) ≡ word / 2 ^ (w * (perHalf w + j)) = div-div-eq-div-mul word halfWord (2 ^ (w * j)) ∙ ap (λ (y : ℕ). word / y) (sym above-half) in
+    let high : word / halfWord / 2 ^ (w * j) ≡ word / 2 ^ (w * (perHalf w + j)) =
+    div-div-eq-div-mul word halfWord (2 ^ (w * j)) ∙ ap (λ (y : ℕ). word / y) (sym above-half) in
     let more : j + 1 ≡ perHalf w - one = omega arith in
     let further : w * j + w ≡ w * (perHalf w - one) = omega (arith, mul-add w j 1, ap (λ (n : ℕ). w * n) more) in
     record {

@@ -113,7 +113,8 @@ not-refused {A} rules xs old n q e = by (outcome rules)
     by : Outcome rules → NoneHolds rules × (n ≡ length xs)
     by (none h) = (h, cc (ap (λ (p : List ℕ × List A). p .0) (none-judge (λ refusal. (refusal, old)) rules (0 ∷ length xs ∷ [], fills xs old) h)))
     by (first g f) =
-        let same : g ≡ 0 ∷ n ∷ [] = sym (ap (λ (p : List ℕ × List A). p .0) (first-judge (λ refusal. (refusal, old)) (0 ∷ length xs ∷ [], fills xs old) f)) ∙ e in
+        let same : g ≡ 0 ∷ n ∷ [] =
+        sym (ap (λ (p : List ℕ × List A). p .0) (first-judge (λ refusal. (refusal, old)) (0 ∷ length xs ∷ [], fills xs old) f)) ∙ e in
         absurd (omega (arith, rw same at (first-refuses f q)))
 
 pub record Unpacks (s : List ℕ) (list : List ℤ) (n : ℕ) : Type 0 where

@@ -43,7 +43,8 @@ pair-more l to w (suc left) i q h =
     rw (e, f, add-one)
 
 pub word-first : (l : List ℤ) (at w v : ℕ)
-    → sets l at (pairsOf w (perHalf w) (v % halfWord / 2 ^ (w * (perHalf w - perHalf w))) (v / halfWord / 2 ^ (w * (perHalf w - perHalf w)))) ≡ sets l at (samplesOf w v)
+    → sets l at (pairsOf w (perHalf w) (v % halfWord / 2 ^ (w * (perHalf w - perHalf w))) (v / halfWord / 2 ^ (w * (perHalf w - perHalf w))))
+    ≡ sets l at (samplesOf w v)
 unfolding samplesOf
 word-first l at w v =
     let e : perHalf w - perHalf w ≡ 0 = omega arith in

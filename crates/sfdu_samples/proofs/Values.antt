@@ -143,7 +143,13 @@ raised-neg b n p m = by (ltb n b) (eqb (n % 2) 0) refl refl
     by true true t o =
         let l = ltb-true n b t in
         let e = eqb-true (n % 2) 0 o in
-        rw (o, t, eq-eqb ((2147483648 - suc n) % 2) 1 (omega arith), lt-ltb (2147483648 - b) (2147483648 - suc n) (omega arith), lt-ltb (2147483648 - suc n) (2147483648 + b) (omega arith))
+        rw (
+          o,
+          t,
+          eq-eqb ((2147483648 - suc n) % 2) 1 (omega arith),
+          lt-ltb (2147483648 - b) (2147483648 - suc n) (omega arith),
+          lt-ltb (2147483648 - suc n) (2147483648 + b) (omega arith),
+        )
     by true false t o =
         let l = ltb-true n b t in
         let e : n % 2 ≡ 0 → ⊥ = eqb-false (n % 2) 0 o in

@@ -51,7 +51,8 @@ rem-if2 c = rw (c .per-word .ensures) (per-some _ (width (c .before)))
 returns-2 : tie.Need-returns-2
 returns-2 c =
     let d = c .before .before .before .before .before in
-    pack-34 (d .args .size) (d .args .rate) (d .args .samples .now) (d .args .out .now) (listed (c .before .before)) (rw (c .before .per-word .ensures) at (c .if2 .taken))
+    pack-34 (d .args .size) (d .args .rate) (d .args .samples .now) (d .args .out .now) (listed (c .before .before))
+    (rw (c .before .per-word .ensures) at (c .if2 .taken))
 
 is-coded-requires : tie.Need-is-coded-requires
 is-coded-requires c κs = width (c .before .before)
@@ -60,7 +61,8 @@ returns-3 : tie.Need-returns-3
 returns-3 c =
     let d = c .before .before .before .before .before .before .before in
     let two = c .before .before in
-    pack-37 (d .args .size) (d .args .rate) (d .args .samples .now) (d .args .out .now) (listed (two .before .before)) (whole two) (failed (c .before .is-coded .ensures) (c .if3 .taken))
+    pack-37 (d .args .size) (d .args .rate) (d .args .samples .now) (d .args .out .now) (listed (two .before .before)) (whole two)
+    (failed (c .before .is-coded .ensures) (c .if3 .taken))
 
 div-words : tie.Need-div-words
 div-words c = rw (c .before .before .before .per-word .ensures) (per-some _ (width (c .before .before .before .before)))
@@ -94,7 +96,8 @@ returns-5 c =
     let per = two .before .per-word .ensures in
     let d = two .before .before .before .before .before in
     rw per
-    (pack-accepts (d .args .size) (d .args .rate) (d .args .samples .now) (d .args .out .now) (listed (two .before .before)) (whole two) (all-coded three) _ (room four) (rw per at (c .before .before .pack-sized .ensures)))
+    (pack-accepts (d .args .size) (d .args .rate) (d .args .samples .now) (d .args .out .now)
+    (listed (two .before .before)) (whole two) (all-coded three) _ (room four) (rw per at (c .before .before .pack-sized .ensures)))
 
 pub pack-spec : {M : Type 1} → statement M
 pack-spec =

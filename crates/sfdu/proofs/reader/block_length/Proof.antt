@@ -18,7 +18,10 @@ cast-result c = search needs
 
 returns : tie.Need-returns
 unfolding blockLength
-returns c = (c .load-u16 .ensures, omega (arith, number-lt (c .before .before .args .s .now) (c .before .before .args .at + 2) 2 (c .before .shared-slice-known .given), c .load-u16 .ensures))
+returns c =
+    let known = c .before in
+    let g = known .before .args in
+    (c .load-u16 .ensures, omega (arith, number-lt (g .s .now) (g .at + 2) 2 (known .shared-slice-known .given), c .load-u16 .ensures))
 
 pub block-length-spec : {M : Type 1} → statement M
 block-length-spec = tie.close (tie.spec add-load-u16 load-u16-requires cast-result returns)

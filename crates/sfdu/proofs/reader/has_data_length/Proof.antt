@@ -26,7 +26,10 @@ returns : tie.Need-returns
 returns c =
     let g = c .before .before .before .before in
     let s = g .args .s .now in
-    let rest : g .args .size - c .before .before .data-value-at .result ≡ recordLength s - dataValueAt (g .args .kind) = rw (g .pre .0, c .before .before .data-value-at .ensures) in
+    let rest : g .args .size - c .before .before .data-value-at .result ≡ recordLength s - dataValueAt (g .args .kind) = rw (
+      g .pre .0,
+      c .before .before .data-value-at .ensures,
+    ) in
     rw (c .block-length .ensures .0, c .before .data-at .ensures) (ap (λ (n : ℕ). eqb (blockLength s (dataAt (g .args .kind))) n) rest)
 
 pub has-data-length-spec : {M : Type 1} → statement M

@@ -18,8 +18,11 @@ refused-requires c κs = search needs
 
 returns : tie.Need-returns
 returns c =
-    let s = c .before .before .before .before .before .before .args .s .now in
-    c .refused .ensures ∙ sym (label-wrong 7 s _ _ _ _ _ _ (sym (c .before .before .before .before .judge-aggregation .ensures) ∙ c .before .before .aggregation .given .1))
+    let wrong = c .before .before in
+    let judged = wrong .before .before in
+    let start = judged .before .before in
+    let s = start .args .s .now in
+    c .refused .ensures ∙ sym (label-wrong 7 s _ _ _ _ _ _ (sym (judged .judge-aggregation .ensures) ∙ wrong .aggregation .given .1))
 
 enum-told : tie.Need-enum-told
 enum-told c = search needs
@@ -35,10 +38,15 @@ refused-requires-2 c κs = search needs
 
 returns-2 : tie.Need-returns-2
 returns-2 c =
-    let s = c .before .before .before .before .before .before .before .before .before .args .s .now in
+    let wrong = c .before .before in
+    let judged = wrong .before .before in
+    let first-right = judged .before in
+    let first = first-right .before .before in
+    let start = first .before .before in
+    let s = start .args .s .now in
     c .refused2 .ensures
-    ∙ sym (label-right 7 s _ _ _ _ _ (sym (c .before .before .before .before .before .before .before .judge-aggregation .ensures) ∙ c .before .before .before .before .before .enum-told .given .1)
-    ∙ label-wrong 8 s _ _ _ _ _ _ (sym (c .before .before .before .before .judge-primary .ensures) ∙ c .before .before .primary .given .1))
+    ∙ sym (label-right 7 s _ _ _ _ _ (sym (first .judge-aggregation .ensures) ∙ first-right .enum-told .given .1)
+    ∙ label-wrong 8 s _ _ _ _ _ _ (sym (judged .judge-primary .ensures) ∙ wrong .primary .given .1))
 
 enum-told-2 : tie.Need-enum-told-2
 enum-told-2 c = search needs
@@ -54,11 +62,18 @@ refused-requires-3 c κs = search needs
 
 returns-3 : tie.Need-returns-3
 returns-3 c =
-    let s = c .before .before .before .before .before .before .before .before .before .before .before .before .args .s .now in
+    let wrong = c .before .before in
+    let judged = wrong .before .before in
+    let second-right = judged .before in
+    let second = second-right .before .before in
+    let first-right = second .before in
+    let first = first-right .before .before in
+    let start = first .before .before in
+    let s = start .args .s .now in
     c .refused3 .ensures
-    ∙ sym (label-right 7 s _ _ _ _ _ (sym (c .before .before .before .before .before .before .before .before .before .before .judge-aggregation .ensures) ∙ c .before .before .before .before .before .before .before .before .enum-told .given .1)
-    ∙ label-right 8 s _ _ _ _ _ (sym (c .before .before .before .before .before .before .before .judge-primary .ensures) ∙ c .before .before .before .before .before .enum-told2 .given .1)
-    ∙ label-wrong 9 s _ _ _ _ _ _ (sym (c .before .before .before .before .judge-secondary .ensures) ∙ c .before .before .secondary .given .1))
+    ∙ sym (label-right 7 s _ _ _ _ _ (sym (first .judge-aggregation .ensures) ∙ first-right .enum-told .given .1)
+    ∙ label-right 8 s _ _ _ _ _ (sym (second .judge-primary .ensures) ∙ second-right .enum-told2 .given .1)
+    ∙ label-wrong 9 s _ _ _ _ _ _ (sym (judged .judge-secondary .ensures) ∙ wrong .secondary .given .1))
 
 enum-told-3 : tie.Need-enum-told-3
 enum-told-3 c = search needs
@@ -68,11 +83,18 @@ read-data-requires c κs = search needs
 
 returns-4 : tie.Need-returns-4
 returns-4 c =
-    let s = c .before .before .before .before .before .before .before .before .before .before .before .args .s .now in
+    let third-right = c .before in
+    let third = third-right .before .before in
+    let second-right = third .before in
+    let second = second-right .before .before in
+    let first-right = second .before in
+    let first = first-right .before .before in
+    let start = first .before .before in
+    let s = start .args .s .now in
     c .read-data .ensures
-    ∙ sym (label-right 7 s _ _ _ _ _ (sym (c .before .before .before .before .before .before .before .before .before .judge-aggregation .ensures) ∙ c .before .before .before .before .before .before .before .enum-told .given .1)
-    ∙ label-right 8 s _ _ _ _ _ (sym (c .before .before .before .before .before .before .judge-primary .ensures) ∙ c .before .before .before .before .enum-told2 .given .1)
-    ∙ label-right 9 s _ _ _ _ _ (sym (c .before .before .before .judge-secondary .ensures) ∙ c .before .enum-told3 .given .1))
+    ∙ sym (label-right 7 s _ _ _ _ _ (sym (first .judge-aggregation .ensures) ∙ first-right .enum-told .given .1)
+    ∙ label-right 8 s _ _ _ _ _ (sym (second .judge-primary .ensures) ∙ second-right .enum-told2 .given .1)
+    ∙ label-right 9 s _ _ _ _ _ (sym (third .judge-secondary .ensures) ∙ third-right .enum-told3 .given .1))
 
 pub read-blocks-spec : {M : Type 1} → statement M
 read-blocks-spec =

@@ -19,7 +19,11 @@ refused-requires c κs = search needs
 
 returns : tie.Need-returns
 unfolding judge
-returns c = rw (failed (c .before .before .before .has-data-type .ensures) (c .before .before .if1 .taken)) (c .refused .ensures ∙ rw (c .before .data-at .ensures))
+returns c =
+    let placed-at = c .before in
+    let tested = placed-at .before in
+    let judged = tested .before in
+    rw (failed (judged .has-data-type .ensures) (tested .if1 .taken)) (c .refused .ensures ∙ rw (placed-at .data-at .ensures))
 
 has-data-length-requires : tie.Need-has-data-length-requires
 has-data-length-requires c κs = search needs
@@ -35,7 +39,10 @@ refused-requires-2 c κs = search needs
 
 returns-2 : tie.Need-returns-2
 unfolding judge
-returns-2 c = rw (passed (c .before .before .before .before .before .has-data-type .ensures) (c .before .before .before .before .if1 .left), failed (c .before .before .before .has-data-length .ensures) (c .before .before .if2 .taken)) (c .refused2 .ensures ∙ rw (c .before .data-at2 .ensures))
+returns-2 c = rw (
+  passed (c .before .before .before .before .before .has-data-type .ensures) (c .before .before .before .before .if1 .left),
+  failed (c .before .before .before .has-data-length .ensures) (c .before .before .if2 .taken),
+) (c .refused2 .ensures ∙ rw (c .before .data-at2 .ensures))
 
 read-primary-requires : tie.Need-read-primary-requires
 read-primary-requires c κs = let k = placed (c .before .before .before .before .before .args .kind) in omega arith
@@ -43,7 +50,11 @@ read-primary-requires c κs = let k = placed (c .before .before .before .before 
 returns-3 : tie.Need-returns-3
 unfolding judge
 returns-3 c =
-    rw (passed (c .before .before .before .before .has-data-type .ensures) (c .before .before .before .if1 .left), passed (c .before .before .has-data-length .ensures) (c .before .if2 .left), c .before .before .before .before .before .before .pre .0) (cc (c .read-primary .ensures))
+    rw (
+      passed (c .before .before .before .before .has-data-type .ensures) (c .before .before .before .if1 .left),
+      passed (c .before .before .has-data-length .ensures) (c .before .if2 .left),
+      c .before .before .before .before .before .before .pre .0,
+    ) (cc (c .read-primary .ensures))
 
 pub read-data-spec : {M : Type 1} → statement M
 read-data-spec =

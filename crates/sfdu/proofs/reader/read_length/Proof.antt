@@ -27,13 +27,22 @@ refused-requires c κs = search needs
 
 returns : tie.Need-returns
 unfolding judge
-returns c = rw (failed (say-range (c .before .before .before .before .before .args .kind) (c .before .before .before .before .before .args .s .now) _ (c .before .before .before .label-length .ensures) (c .before .before .length-in-range .ensures)) (c .before .if1 .taken)) (c .refused .ensures)
+returns c =
+    let tested = c .before in
+    let judged = tested .before in
+    let read = judged .before in
+    let g = read .before .before .args in
+    let says = say-range (g .kind) (g .s .now) _ (read .label-length .ensures) (judged .length-in-range .ensures) in
+    rw (failed says (tested .if1 .taken)) (c .refused .ensures)
 
 add-size : tie.Need-add-size
 add-size c =
-    let k = placed (c .before .before .before .before .args .kind) in
-    let r = in-range (c .before .before .before .before .args .kind) (c .before .before .before .before .args .s .now) (passed (say-range (c .before .before .before .before .args .kind) (c .before .before .before .before .args .s .now) _ (c .before .before .label-length .ensures) (c .before .length-in-range .ensures)) (c .if1 .left)) in
-    omega (arith, c .before .before .label-length .ensures)
+    let judged = c .before in
+    let n = judged .before .label-length .ensures in
+    let g = judged .before .before .before .args in
+    let k = placed (g .kind) in
+    let r = in-range (g .kind) (g .s .now) (passed (say-range (g .kind) (g .s .now) _ n (judged .length-in-range .ensures)) (c .if1 .left)) in
+    omega (arith, n)
 
 refused-requires-2 : tie.Need-refused-requires-2
 refused-requires-2 c κs = search needs
@@ -41,24 +50,38 @@ refused-requires-2 c κs = search needs
 returns-2 : tie.Need-returns-2
 unfolding judge
 returns-2 c =
-    let s = c .before .before .before .before .before .before .args .s .now in
-    let n : labelSize + c .before .before .before .before .label-length .result ≡ recordLength s = record-length s _ (c .before .before .before .before .label-length .ensures) in
-    let e : ltb (length s) (recordLength s) ≡ true = lt-ltb (length s) (recordLength s) (omega arith) in
-    rw (passed (say-range (c .before .before .before .before .before .before .args .kind) (c .before .before .before .before .before .before .args .s .now) _ (c .before .before .before .before .label-length .ensures) (c .before .before .before .length-in-range .ensures)) (c .before .before .if1 .left), e) (c .refused2 .ensures)
+    let ranged = c .before .before in
+    let judged = ranged .before in
+    let read = judged .before in
+    let g = read .before .before .args in
+    let s = g .s .now in
+    let n : labelSize + read .label-length .result ≡ recordLength s = record-length s _ (read .label-length .ensures) in
+    let cut : ltb (length s) (recordLength s) ≡ true = lt-ltb (length s) (recordLength s) (omega arith) in
+    let says = say-range (g .kind) s _ (read .label-length .ensures) (judged .length-in-range .ensures) in
+    rw (passed says (ranged .if1 .left), cut) (c .refused2 .ensures)
 
 read-blocks-requires : tie.Need-read-blocks-requires
 read-blocks-requires c κs =
-    let k = placed (c .before .before .before .before .before .args .kind) in
-    let r = in-range (c .before .before .before .before .before .args .kind) (c .before .before .before .before .before .args .s .now) (passed (say-range (c .before .before .before .before .before .args .kind) (c .before .before .before .before .before .args .s .now) _ (c .before .before .before .label-length .ensures) (c .before .before .length-in-range .ensures)) (c .before .if1 .left)) in
-    (record-length _ _ (c .before .before .before .label-length .ensures), omega (arith, c .before .before .before .label-length .ensures), omega arith)
+    let ranged = c .before in
+    let judged = ranged .before in
+    let n = judged .before .label-length .ensures in
+    let g = judged .before .before .before .args in
+    let k = placed (g .kind) in
+    let r = in-range (g .kind) (g .s .now) (passed (say-range (g .kind) (g .s .now) _ n (judged .length-in-range .ensures)) (ranged .if1 .left)) in
+    (record-length _ _ n, omega (arith, n), omega arith)
 
 returns-3 : tie.Need-returns-3
 unfolding judge
 returns-3 c =
-    let s = c .before .before .before .before .before .before .args .s .now in
-    let n : labelSize + c .before .before .before .before .label-length .result ≡ recordLength s = record-length s _ (c .before .before .before .before .label-length .ensures) in
-    let e : ltb (length s) (recordLength s) ≡ false = le-ltb (length s) (recordLength s) (omega arith) in
-    rw (passed (say-range (c .before .before .before .before .before .before .args .kind) (c .before .before .before .before .before .before .args .s .now) _ (c .before .before .before .before .label-length .ensures) (c .before .before .before .length-in-range .ensures)) (c .before .before .if1 .left), e) (c .read-blocks .ensures)
+    let ranged = c .before .before in
+    let judged = ranged .before in
+    let read = judged .before in
+    let g = read .before .before .args in
+    let s = g .s .now in
+    let n : labelSize + read .label-length .result ≡ recordLength s = record-length s _ (read .label-length .ensures) in
+    let whole : ltb (length s) (recordLength s) ≡ false = le-ltb (length s) (recordLength s) (omega arith) in
+    let says = say-range (g .kind) s _ (read .label-length .ensures) (judged .length-in-range .ensures) in
+    rw (passed says (ranged .if1 .left), whole) (c .read-blocks .ensures)
 
 pub read-length-spec : {M : Type 1} → statement M
 read-length-spec =

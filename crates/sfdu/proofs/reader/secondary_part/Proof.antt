@@ -64,9 +64,12 @@ part-result-end-2 c = search needs
 returns : tie.Need-returns
 unfolding part
 returns c =
-    let s = c .before .before .before .before .before .before .before .args .s .now in
-    let g = c .before .before .before .found .given in
-    let f = found s (g .0 .0) (g .0 .1 .0) (primaryWords (g .0 .1 .1 .0)) (sym (ap wordsOf (g .1)) ∙ c .before .before .before .before .before .read-one .ensures) in
+    let told = c .before .before .before in
+    let read = told .before .before in
+    let start = read .before .before in
+    let s = start .args .s .now in
+    let g = told .found .given in
+    let f = found s (g .0 .0) (g .0 .1 .0) (primaryWords (g .0 .1 .1 .0)) (sym (ap wordsOf (g .1)) ∙ read .read-one .ensures) in
     let p = placed (g .0 .0) in
     let n : c .before .data-at .result - secondaryValueAt ≡ secondaryLength (g .0 .0) = omega (arith, c .before .data-at .ensures) in
     (rw (secondary-part s _ _ _ f) (ap (λ (m : ℕ). part s secondaryValueAt m) n), refl, omega (arith, secondary-start s _ _ _ f))

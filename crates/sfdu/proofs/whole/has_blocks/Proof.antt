@@ -26,7 +26,12 @@ is-data-requires c κs = search needs
 returns : tie.Need-returns
 returns c =
     let k = c .before .before .before .before .before in
-    rw (c .before .before .before .is-aggregation .ensures, c .before .before .is-label .ensures, c .before .is-secondary .ensures, c .is-data .ensures) (sym (blocks-test (k .args .kind) (k .args .s .now)))
+    rw (
+      c .before .before .before .is-aggregation .ensures,
+      c .before .before .is-label .ensures,
+      c .before .is-secondary .ensures,
+      c .is-data .ensures,
+    ) (sym (blocks-test (k .args .kind) (k .args .s .now)))
 
 pub has-blocks-spec : {M : Type 1} → statement M
 has-blocks-spec =

@@ -33,7 +33,8 @@ add-size c =
     let k = c .before .before .before .before in
     let n = c .before .before .label-length .ensures in
     let p = placed (k .args .kind) in
-    let r = in-range (k .args .kind) (k .args .s .now) (passed (say-range (k .args .kind) (k .args .s .now) _ n (c .before .length-in-range .ensures)) (c .if1 .left)) in
+    let says = say-range (k .args .kind) (k .args .s .now) _ n (c .before .length-in-range .ensures) in
+    let r = in-range (k .args .kind) (k .args .s .now) (passed says (c .if1 .left)) in
     omega (arith, n)
 
 returns-2 : tie.Need-returns-2
@@ -63,7 +64,11 @@ returns-3 c =
     let n = c .before .before .before .before .before .label-length .ensures in
     let size : labelSize + c .before .before .before .before .before .label-length .result ≡ recordLength s = record-length s _ n in
     let uncut : ltb (length s) (recordLength s) ≡ false = le-ltb (length s) (recordLength s) (omega arith) in
-    rw (passed (say-range (k .args .kind) s _ n (c .before .before .before .before .length-in-range .ensures)) (c .before .before .before .if1 .left), uncut, sym (c .before .has-blocks .ensures) ∙ c .if3 .taken) size
+    rw (
+      passed (say-range (k .args .kind) s _ n (c .before .before .before .before .length-in-range .ensures)) (c .before .before .before .if1 .left),
+      uncut,
+      sym (c .before .has-blocks .ensures) ∙ c .if3 .taken,
+    ) size
 
 returns-4 : tie.Need-returns-4
 unfolding judge
@@ -73,7 +78,11 @@ returns-4 c =
     let n = c .before .before .before .before .before .label-length .ensures in
     let size : labelSize + c .before .before .before .before .before .label-length .result ≡ recordLength s = record-length s _ n in
     let uncut : ltb (length s) (recordLength s) ≡ false = le-ltb (length s) (recordLength s) (omega arith) in
-    rw (passed (say-range (k .args .kind) s _ n (c .before .before .before .before .length-in-range .ensures)) (c .before .before .before .if1 .left), uncut, sym (c .before .has-blocks .ensures) ∙ c .if3 .left)
+    rw (
+      passed (say-range (k .args .kind) s _ n (c .before .before .before .before .length-in-range .ensures)) (c .before .before .before .if1 .left),
+      uncut,
+      sym (c .before .has-blocks .ensures) ∙ c .if3 .left,
+    )
 
 pub size-as-spec : {M : Type 1} → statement M
 size-as-spec =

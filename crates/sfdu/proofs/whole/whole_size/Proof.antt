@@ -28,7 +28,11 @@ has-control-requires c κs = search needs
 returns-3 : tie.Need-returns-3
 unfolding wholeSize accepts judge kindOf
 returns-3 c =
-    rw (le-ltb _ _ (c .before .before .before .before .if1 .left), passed (c .before .before .before .has-authority .ensures) (c .before .before .if2 .left), failed (c .before .has-control .ensures) (c .if3 .taken))
+    rw (
+      le-ltb _ _ (c .before .before .before .before .if1 .left),
+      passed (c .before .before .before .has-authority .ensures) (c .before .before .if2 .left),
+      failed (c .before .has-control .ensures) (c .if3 .taken),
+    )
 
 load-u32-requires : tie.Need-load-u32-requires
 load-u32-requires c κs = search needs
@@ -39,9 +43,20 @@ size-as-requires c κs = search needs
 returns-4 : tie.Need-returns-4
 unfolding wholeSize accepts judge kindOf
 returns-4 c =
-    let s = c .before .before .before .before .before .before .before .before .before .args .s .now in
-    let here = tag-same Telemetry s (c .before .before .before .before .before .before .before .before .shared-slice-known .given) (c .before .before .before .before .before .before .before .if1 .left) (sym (c .before .before .load-u32 .ensures) ∙ c .before .if4 .taken) in
-    rw (le-ltb _ _ (c .before .before .before .before .before .before .before .if1 .left), passed (c .before .before .before .before .before .before .has-authority .ensures) (c .before .before .before .before .before .if2 .left), passed (c .before .before .before .before .has-control .ensures) (c .before .before .before .if3 .left), here) (c .size-as .ensures)
+    let tested = c .before in
+    let tag = tested .before in
+    let classed = tag .before in
+    let ours = classed .before .before in
+    let long = ours .before .before in
+    let known = long .before in
+    let s = known .before .args .s .now in
+    let here = tag-same Telemetry s (known .shared-slice-known .given) (long .if1 .left) (sym (tag .load-u32 .ensures) ∙ tested .if4 .taken) in
+    rw (
+      le-ltb _ _ (long .if1 .left),
+      passed (ours .before .has-authority .ensures) (ours .if2 .left),
+      passed (classed .before .has-control .ensures) (classed .if3 .left),
+      here,
+    ) (c .size-as .ensures)
 
 size-as-requires-2 : tie.Need-size-as-requires-2
 size-as-requires-2 c κs = search needs
@@ -49,22 +64,47 @@ size-as-requires-2 c κs = search needs
 returns-5 : tie.Need-returns-5
 unfolding wholeSize accepts judge kindOf
 returns-5 c =
-    let s = c .before .before .before .before .before .before .before .before .before .before .args .s .now in
-    let bytes = c .before .before .before .before .before .before .before .before .before .shared-slice-known .given in
-    let tag = c .before .before .before .load-u32 .ensures in
-    let other = tag-other Telemetry s bytes (c .before .before .before .before .before .before .before .before .if1 .left) (λ e. c .before .before .if4 .left (tag ∙ e)) in
-    let here = tag-same Rsr s bytes (c .before .before .before .before .before .before .before .before .if1 .left) (sym tag ∙ c .before .if5 .taken) in
-    rw (le-ltb _ _ (c .before .before .before .before .before .before .before .before .if1 .left), passed (c .before .before .before .before .before .before .before .has-authority .ensures) (c .before .before .before .before .before .before .if2 .left), passed (c .before .before .before .before .before .has-control .ensures) (c .before .before .before .before .if3 .left), other, here) (c .size-as2 .ensures)
+    let tested = c .before in
+    let other-kind = tested .before in
+    let read = other-kind .before in
+    let classed = read .before in
+    let ours = classed .before .before in
+    let long = ours .before .before in
+    let known = long .before in
+    let s = known .before .args .s .now in
+    let bytes = known .shared-slice-known .given in
+    let tag = read .load-u32 .ensures in
+    let other = tag-other Telemetry s bytes (long .if1 .left) (λ e. other-kind .if4 .left (tag ∙ e)) in
+    let here = tag-same Rsr s bytes (long .if1 .left) (sym tag ∙ tested .if5 .taken) in
+    rw (
+      le-ltb _ _ (long .if1 .left),
+      passed (ours .before .has-authority .ensures) (ours .if2 .left),
+      passed (classed .before .has-control .ensures) (classed .if3 .left),
+      other,
+      here,
+    ) (c .size-as2 .ensures)
 
 returns-6 : tie.Need-returns-6
 unfolding wholeSize accepts judge kindOf
 returns-6 c =
-    let s = c .before .before .before .before .before .before .before .before .before .args .s .now in
-    let bytes = c .before .before .before .before .before .before .before .before .shared-slice-known .given in
-    let tag = c .before .before .load-u32 .ensures in
-    let other = tag-other Telemetry s bytes (c .before .before .before .before .before .before .before .if1 .left) (λ e. c .before .if4 .left (tag ∙ e)) in
-    let neither = tag-other Rsr s bytes (c .before .before .before .before .before .before .before .if1 .left) (λ e. c .if5 .left (tag ∙ e)) in
-    rw (le-ltb _ _ (c .before .before .before .before .before .before .before .if1 .left), passed (c .before .before .before .before .before .before .has-authority .ensures) (c .before .before .before .before .before .if2 .left), passed (c .before .before .before .before .has-control .ensures) (c .before .before .before .if3 .left), other, neither)
+    let other-kind = c .before in
+    let read = other-kind .before in
+    let classed = read .before in
+    let ours = classed .before .before in
+    let long = ours .before .before in
+    let known = long .before in
+    let s = known .before .args .s .now in
+    let bytes = known .shared-slice-known .given in
+    let tag = read .load-u32 .ensures in
+    let other = tag-other Telemetry s bytes (long .if1 .left) (λ e. other-kind .if4 .left (tag ∙ e)) in
+    let neither = tag-other Rsr s bytes (long .if1 .left) (λ e. c .if5 .left (tag ∙ e)) in
+    rw (
+      le-ltb _ _ (long .if1 .left),
+      passed (ours .before .has-authority .ensures) (ours .if2 .left),
+      passed (classed .before .has-control .ensures) (classed .if3 .left),
+      other,
+      neither,
+    )
 
 pub whole-size-spec : {M : Type 1} → statement M
 whole-size-spec =

@@ -27,9 +27,12 @@ kind-number-requires c κs = search needs
 
 returns : tie.Need-returns
 returns c =
-    let s = c .before .before .before .before .before .before .before .args .s .now in
-    let g = c .before .before .before .found .given in
-    let f = found s (g .0 .0) (g .0 .1 .0) (primaryWords (g .0 .1 .1 .0)) (sym (ap wordsOf (g .1)) ∙ c .before .before .before .before .before .read-one .ensures) in
+    let told = c .before .before .before in
+    let read = told .before .before in
+    let start = read .before .before in
+    let s = start .args .s .now in
+    let g = told .found .given in
+    let f = found s (g .0 .0) (g .0 .1 .0) (primaryWords (g .0 .1 .1 .0)) (sym (ap wordsOf (g .1)) ∙ read .read-one .ensures) in
     sym (wrong-kind _ s (f .accepted) (λ e. c .if1 .taken (e ∙ sym (c .before .kind-number .ensures ∙ ap kindNumber (f .kind)))))
 
 enum-told : tie.Need-enum-told
@@ -37,21 +40,30 @@ enum-told c = search needs
 
 fields-requires : tie.Need-fields-requires
 fields-requires c κs =
-    let s = c .before .before .before .before .before .before .before .before .before .args .s .now in
-    let g = c .before .before .before .before .before .found .given in
-    let f = found s (g .0 .0) (g .0 .1 .0) (primaryWords (g .0 .1 .1 .0)) (sym (ap wordsOf (g .1)) ∙ c .before .before .before .before .before .before .before .read-one .ensures) in
+    let told = c .before .before .before .before .before in
+    let read = told .before .before in
+    let start = read .before .before in
+    let s = start .args .s .now in
+    let g = told .found .given in
+    let f = found s (g .0 .0) (g .0 .1 .0) (primaryWords (g .0 .1 .1 .0)) (sym (ap wordsOf (g .1)) ∙ read .read-one .ensures) in
     let long = room s _ _ _ f in
     let low : dataValueAt Telemetry ≤ length s = omega (arith, ap dataValueAt (c .enum-told .given .1), long .0, long .1) in
     (f .size, primary-found f, low)
 
 returns-2 : tie.Need-returns-2
 returns-2 c =
-    let s = c .before .before .before .before .before .before .before .before .before .before .args .s .now in
-    let g = c .before .before .before .before .before .before .found .given in
-    let f = found s (g .0 .0) (g .0 .1 .0) (primaryWords (g .0 .1 .1 .0)) (sym (ap wordsOf (g .1)) ∙ c .before .before .before .before .before .before .before .before .read-one .ensures) in
-    let e = (c .before .enum-told .given .1) in
+    let kind-told = c .before in
+    let tested = kind-told .before .before in
+    let numbered = tested .before in
+    let told = numbered .before .before in
+    let read = told .before .before in
+    let start = read .before .before in
+    let s = start .args .s .now in
+    let g = told .found .given in
+    let f = found s (g .0 .0) (g .0 .1 .0) (primaryWords (g .0 .1 .1 .0)) (sym (ap wordsOf (g .1)) ∙ read .read-one .ensures) in
+    let e = (kind-told .enum-told .given .1) in
     let kind = sym (f .kind) ∙ e in
-    let same = c .before .before .before .if1 .left ∙ c .before .before .before .before .kind-number .ensures ∙ ap kindNumber (f .kind) in
+    let same = tested .if1 .left ∙ numbered .kind-number .ensures ∙ ap kindNumber (f .kind) in
     c .fields .ensures ∙ sym (right-kind _ s (f .accepted) same ∙ ap (λ (k : Kind). judgedFields k s) kind)
 
 enum-told-2 : tie.Need-enum-told-2
@@ -59,21 +71,30 @@ enum-told-2 c = search needs
 
 fields-requires-2 : tie.Need-fields-requires-2
 fields-requires-2 c κs =
-    let s = c .before .before .before .before .before .before .before .before .before .args .s .now in
-    let g = c .before .before .before .before .before .found .given in
-    let f = found s (g .0 .0) (g .0 .1 .0) (primaryWords (g .0 .1 .1 .0)) (sym (ap wordsOf (g .1)) ∙ c .before .before .before .before .before .before .before .read-one .ensures) in
+    let told = c .before .before .before .before .before in
+    let read = told .before .before in
+    let start = read .before .before in
+    let s = start .args .s .now in
+    let g = told .found .given in
+    let f = found s (g .0 .0) (g .0 .1 .0) (primaryWords (g .0 .1 .1 .0)) (sym (ap wordsOf (g .1)) ∙ read .read-one .ensures) in
     let long = room s _ _ _ f in
     let low : dataValueAt Rsr ≤ length s = omega (arith, ap dataValueAt (c .enum-told2 .given .1), long .0, long .1) in
     (f .size, primary-found f, low)
 
 returns-3 : tie.Need-returns-3
 returns-3 c =
-    let s = c .before .before .before .before .before .before .before .before .before .before .args .s .now in
-    let g = c .before .before .before .before .before .before .found .given in
-    let f = found s (g .0 .0) (g .0 .1 .0) (primaryWords (g .0 .1 .1 .0)) (sym (ap wordsOf (g .1)) ∙ c .before .before .before .before .before .before .before .before .read-one .ensures) in
-    let e = (c .before .enum-told2 .given .1) in
+    let kind-told = c .before in
+    let tested = kind-told .before .before in
+    let numbered = tested .before in
+    let told = numbered .before .before in
+    let read = told .before .before in
+    let start = read .before .before in
+    let s = start .args .s .now in
+    let g = told .found .given in
+    let f = found s (g .0 .0) (g .0 .1 .0) (primaryWords (g .0 .1 .1 .0)) (sym (ap wordsOf (g .1)) ∙ read .read-one .ensures) in
+    let e = (kind-told .enum-told2 .given .1) in
     let kind = sym (f .kind) ∙ e in
-    let same = c .before .before .before .if1 .left ∙ c .before .before .before .before .kind-number .ensures ∙ ap kindNumber (f .kind) in
+    let same = tested .if1 .left ∙ numbered .kind-number .ensures ∙ ap kindNumber (f .kind) in
     c .fields2 .ensures ∙ sym (right-kind _ s (f .accepted) same ∙ ap (λ (k : Kind). judgedFields k s) kind)
 
 enum-known-found-2 : tie.Need-enum-known-found-2

@@ -28,7 +28,11 @@ load-u16-requires-2 : tie.Need-load-u16-requires-2
 load-u16-requires-2 c κs = search needs
 
 returns : tie.Need-returns
-returns c = rw (c .before .before .before .before .before .before .before .load-u16 .ensures, c .before .before .before .before .before .before .number .ensures, c .load-u162 .ensures)
+returns c = rw (
+  c .before .before .before .before .before .before .before .load-u16 .ensures,
+  c .before .before .before .before .before .before .number .ensures,
+  c .load-u162 .ensures,
+)
 
 pub read-source-spec : {M : Type 1} → statement M
 read-source-spec =

@@ -40,7 +40,10 @@ sub-result : tie.Need-sub-result
 sub-result c = rw (wide16 (c .before .args .b) (c .before .fits .b .fits)) (low16 (c .before .args .b) (c .if1 .left) (c .before .fits .b .fits))
 
 cast-result-3 : tie.Need-cast-result-3
-cast-result-3 c = rw (wide16 (c .before .args .b) (c .before .fits .b .fits), toZ-ofZ w16 _ (low16 (c .before .args .b) (c .if1 .left) (c .before .fits .b .fits))) (low8 (c .before .args .b) (c .if1 .left) (c .before .fits .b .fits))
+cast-result-3 c = rw (
+  wide16 (c .before .args .b) (c .before .fits .b .fits),
+  toZ-ofZ w16 _ (low16 (c .before .args .b) (c .if1 .left) (c .before .fits .b .fits)),
+) (low8 (c .before .args .b) (c .if1 .left) (c .before .fits .b .fits))
 
 returns-2 : tie.Need-returns-2
 unfolding signedByte

@@ -22,11 +22,17 @@ is-band-requires c κs = search needs
 
 returns-2 : tie.Need-returns-2
 unfolding fault judge
-returns-2 c = rw (passed (c .before .before .before .before .has-band .ensures) (c .before .before .before .if1 .left), sym (c .before .is-band .ensures) ∙ c .if2 .taken)
+returns-2 c = rw (
+  passed (c .before .before .before .before .has-band .ensures) (c .before .before .before .if1 .left),
+  sym (c .before .is-band .ensures) ∙ c .if2 .taken,
+)
 
 returns-3 : tie.Need-returns-3
 unfolding fault judge
-returns-3 c = rw (passed (c .before .before .before .before .has-band .ensures) (c .before .before .before .if1 .left), sym (c .before .is-band .ensures) ∙ c .if2 .left)
+returns-3 c = rw (
+  passed (c .before .before .before .before .has-band .ensures) (c .before .before .before .if1 .left),
+  sym (c .before .is-band .ensures) ∙ c .if2 .left,
+)
 
 pub band-fault-spec : {M : Type 1} → statement M
 band-fault-spec =

@@ -49,9 +49,10 @@ returns-2 c =
     let s = start .args .s .now in
     let f = read .read-fields in
     let key = telemetry-key s (f .result) _ (f .ensures) (keyed .telemetry-key-of .ensures) in
+    let parts = c .split .ensures ∙ received-parts s (f .result) (known .shared-slice-known .given) (f .ensures) in
     let right = sym (judged .band-fault .ensures) ∙ passed .enum-told .given .1 in
     same-accepted Telemetry _ _ (primaryWords (start .args .primary)) _ (telemetryFieldWords (f .result)) _ _ _
-    (receivedWords (c .split .result)) _ (start .pre .0) (start .pre .1) (f .ensures) key (c .split .ensures ∙ received-parts s (f .result) (known .shared-slice-known .given) (f .ensures))
+    (receivedWords (c .split .result)) _ (start .pre .0) (start .pre .1) (f .ensures) key parts
     ∙ sym (all-right outOfRange (fieldRules Telemetry s) _ right)
 
 pub fields-spec : {M : Type 1} → statement M

@@ -28,7 +28,13 @@ load-u16-requires : tie.Need-load-u16-requires
 load-u16-requires c κs = search needs
 
 returns : tie.Need-returns
-returns c = rw (c .before .before .before .before .before .before .spacecraft .ensures, c .before .before .before .before .load-u64 .ensures, c .before .before .before .number .ensures, c .before .before .before .before .before .before .before .band .ensures, c .load-u16 .ensures)
+returns c = rw (
+  c .before .before .before .before .before .before .spacecraft .ensures,
+  c .before .before .before .before .load-u64 .ensures,
+  c .before .before .before .number .ensures,
+  c .before .before .before .before .before .before .before .band .ensures,
+  c .load-u16 .ensures,
+)
 
 pub read-fields-spec : {M : Type 1} → statement M
 read-fields-spec =

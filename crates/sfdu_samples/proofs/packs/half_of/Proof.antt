@@ -48,11 +48,15 @@ shared-slice-copy-out-z : tie.Need-shared-slice-copy-out-z Inv-loop μ-loop
 shared-slice-copy-out-z c = omega arith
 
 taken : (c : tie.In-loop Inv-loop μ-loop)
-    → let d = c .before .before .before .before in let loop = c .before .loop in Turn (d .args .size) (loop .left) (d .args .at) (loop .half) (d .args .samples .now)
+    → let d = c .before .before .before .before in
+    let loop = c .before .loop in
+    Turn (d .args .size) (loop .left) (d .args .at) (loop .half) (d .args .samples .now)
 taken c =
     let d = c .before .before .before .before in
     let loop = c .before .loop in
-    turn (d .args .size) (loop .left) (d .args .at) (loop .half) (d .args .samples .now) (d .pre .0) (coded (d .args .size) (d .args .samples .now) (d .pre .2)) (omega arith) (loop .inv .1) (d .pre .1) (loop .inv .2)
+    let all-coded = coded (d .args .size) (d .args .samples .now) (d .pre .2) in
+    turn (d .args .size) (loop .left) (d .args .at) (loop .half) (d .args .samples .now)
+    (d .pre .0) all-coded (omega arith) (loop .inv .1) (d .pre .1) (loop .inv .2)
 
 same : (c : tie.After-z Inv-loop μ-loop)
     → let d = c .before .before .before .before .before in
@@ -88,7 +92,9 @@ returns c =
     let e = rw (all-of-it, start) at (loop .inv .2) in
     let xs = d .args .samples .now in
     let long : 2 * perHalf (d .args .size) ≤ length (drop (d .args .at) xs) + 1 = rw length-drop (omega (arith, d .pre .1)) in
-    (e, rw e (half-small (d .args .size) (perHalf (d .args .size)) (drop (d .args .at) xs) (d .pre .0) (coded-drop (d .args .size) (d .args .at) xs (coded (d .args .size) xs (d .pre .2))) (omega arith) long))
+    let w = d .args .size in
+    let rest = coded-drop w (d .args .at) xs (coded w xs (d .pre .2)) in
+    (e, rw e (half-small w (perHalf w) (drop (d .args .at) xs) (d .pre .0) rest (omega arith) long))
 
 pub half-of-spec : {M : Type 1} → statement M
 half-of-spec =

@@ -18,7 +18,8 @@ use Rattle.sfdu_samples.proofs.packs.pack_words.Tie as tie
 
 abbrev Inv-loop : tie.InvT-loop
 Inv-loop samples words size out₀ per at₀ i₀ out at i =
-    (i ≤ words) × (at ≡ i * perWord size) × (length out ≡ length out₀) × (sets out (i * 4) (packedWords size (words - i) (drop at samples)) ≡ sets out₀ 0 (packedWords size words samples))
+    (i ≤ words) × (at ≡ i * perWord size) × (length out ≡ length out₀)
+    × (sets out (i * 4) (packedWords size (words - i) (drop at samples)) ≡ sets out₀ 0 (packedWords size words samples))
 
 abbrev μ-loop : tie.MeasureT-loop
 μ-loop samples words size out₀ per at₀ i₀ out at i = words - i
@@ -50,7 +51,9 @@ add-at : tie.Need-add-at Inv-loop μ-loop
 add-at c =
     let d = c .before .before .before .before .before .before .before .before .before in
     let loop = c .before .before .before .before .before .before .loop in
-    omega (arith, d .good .0 .0, c .before .before .before .before .before .before .before .per-word .ensures, loop .inv .1, d .pre .1, next-within (loop .i) (d .args .words) (perWord (d .args .size)) (omega arith))
+    let per = c .before .before .before .before .before .before .before .per-word .ensures in
+    let within = next-within (loop .i) (d .args .words) (perWord (d .args .size)) (omega arith) in
+    omega (arith, d .good .0 .0, per, loop .inv .1, d .pre .1, within)
 
 add-i : tie.Need-add-i Inv-loop μ-loop
 add-i c = omega arith
@@ -69,7 +72,11 @@ loop-again c =
       omega arith,
       rw (per, loop .inv .1, add-one, suc-mul (loop .i) (perWord (d .args .size))),
       rw (e, length-sets) (loop .inv .2),
-      rw (e, per, word .ensures) (packed-more (loop .out) (d .args .size) (loop .i) (d .args .words) (loop .at) (d .args .samples .now) (omega arith)) ∙ loop .inv .3,
+      rw (
+        e,
+        per,
+        word .ensures,
+      ) (packed-more (loop .out) (d .args .size) (loop .i) (d .args .words) (loop .at) (d .args .samples .now) (omega arith)) ∙ loop .inv .3,
     )
 
 same-length : tie.Need-same-length Inv-loop μ-loop

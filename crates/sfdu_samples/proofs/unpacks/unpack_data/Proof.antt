@@ -70,7 +70,8 @@ returns-4 c =
     let d = c .before .before .before .before .before .before .before .before .before in
     let three = c .before .before .before in
     rw (c .before .before .before .before .per-word .ensures)
-    (data-accepts (d .args .size) (d .args .rate) (d .args .d .now) (d .args .list .now) (listed (three .before .before .before)) (three .before .before .if2 .left) _ (room three) (c .before .unpack-sized .ensures))
+    (data-accepts (d .args .size) (d .args .rate) (d .args .d .now) (d .args .list .now)
+    (listed (three .before .before .before)) (three .before .before .if2 .left) _ (room three) (c .before .unpack-sized .ensures))
 
 pub unpack-data-spec : {M : Type 1} → statement M
 unpack-data-spec =

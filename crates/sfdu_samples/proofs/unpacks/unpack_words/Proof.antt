@@ -15,7 +15,8 @@ use Rattle.sfdu_samples.proofs.unpacks.unpack_words.Tie as tie
 
 abbrev Inv-loop : tie.InvT-loop
 Inv-loop d words size list₀ per to₀ i₀ list to i =
-    (i ≤ words) × (to ≡ i * perWord size) × (length list ≡ length list₀) × (sets list to (unpackedWords size (words - i) (drop (i * 4) d)) ≡ sets list₀ 0 (unpackedWords size words d))
+    (i ≤ words) × (to ≡ i * perWord size) × (length list ≡ length list₀)
+    × (sets list to (unpackedWords size (words - i) (drop (i * 4) d)) ≡ sets list₀ 0 (unpackedWords size words d))
 
 abbrev μ-loop : tie.MeasureT-loop
 μ-loop d words size list₀ per to₀ i₀ list to i = words - i
@@ -44,7 +45,9 @@ add-to : tie.Need-add-to Inv-loop μ-loop
 add-to c =
     let d = c .before .before .before .before .before .before .before .before in
     let loop = c .before .before .before .before .before .loop in
-    omega (arith, d .good .1 .1 .1 .0 .0, c .before .before .before .before .before .before .per-word .ensures, loop .inv .1, d .pre .2, next-within (loop .i) (d .args .words) (perWord (d .args .size)) (omega arith))
+    let per = c .before .before .before .before .before .before .per-word .ensures in
+    let within = next-within (loop .i) (d .args .words) (perWord (d .args .size)) (omega arith) in
+    omega (arith, d .good .1 .1 .1 .0 .0, per, loop .inv .1, d .pre .2, within)
 
 add-i : tie.Need-add-i Inv-loop μ-loop
 add-i c = omega arith
@@ -61,7 +64,11 @@ loop-again c =
       omega arith,
       rw (per, loop .inv .1, add-one, suc-mul (loop .i) (perWord (d .args .size))),
       rw (e, length-sets) (loop .inv .2),
-      rw (e, per, c .before .before .before .load-u32 .ensures) (words-more (loop .list) (loop .to) (d .args .size) (loop .i) (d .args .words) (d .args .d .now) (omega arith)) ∙ loop .inv .3,
+      rw (
+        e,
+        per,
+        c .before .before .before .load-u32 .ensures,
+      ) (words-more (loop .list) (loop .to) (d .args .size) (loop .i) (d .args .words) (d .args .d .now) (omega arith)) ∙ loop .inv .3,
     )
 
 same-length : tie.Need-same-length Inv-loop μ-loop
