@@ -4,9 +4,10 @@ use mathlib.Core.Bool.{Bool, cond, _&&_}
 use mathlib.Core.List.{List, [], _∷_}
 use lib.Bits.{bitXor}
 use lib.Dec.{eqb, ltb}
-use lib.ListN.{length, getD}
+use lib.ListN.{length, getD, drop}
 use Rattle.ledger_sheet.specs.Sheet.{sheetSize, rowCount, rowAt}
 use Rattle.ledger_counts.specs.inner.Counts.{reportWords}
+use Rattle.ledger_season.specs.Report.{mostSheets}
 use Rattle.sfdu_headers.specs.Words.{Word, number, signed, none}
 
 -- What a word adds to a number. A signed word and none add nothing.
@@ -41,6 +42,18 @@ dateNumber words = cond (eqb (getD words 0 0) 0) (1000 * getD words 1 0 + getD w
 -- The count of an answer's words, or the refusal's number.
 abbrev pub tallied : List ℕ → ℕ
 tallied words = cond (eqb (getD words 0 0) 0) (getD words 1 0) (getD words 0 0)
+
+-- The first four numbers of an answer, one on the other.
+abbrev pub fewOnto : List ℕ → ℕ
+fewOnto numbers = bitXor (getD numbers 0 0) (bitXor (getD numbers 1 0) (bitXor (getD numbers 2 0) (getD numbers 3 0)))
+
+-- The three counts of a sheet or of a season, and a season's number of sheets and counts in all: behind the refusal's number, the number of
+-- sheets and three counts of each of 16.
+abbrev pub countsOnto : List ℕ → ℕ
+countsOnto words = bitXor (getD words 0 0) (bitXor (getD words 1 0) (getD words 2 0))
+
+abbrev pub seasonOnto : List ℕ → ℕ
+seasonOnto words = bitXor (getD words 1 0) (countsOnto (drop (2 + 3 * mostSheets) words))
 
 -- The numbers of an answer, added up.
 abbrev pub sumOf : List ℕ → ℕ

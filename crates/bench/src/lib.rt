@@ -1,5 +1,6 @@
 // The calls that `reference bench` times, for its Rust program to link: numbers, and slices as a pointer and a length.
 pub mod calendar;
+pub mod few;
 pub mod replays;
 pub mod samples;
 pub mod tapes;

@@ -53,7 +53,10 @@ returns c =
 
 returns-2 : tie.Need-returns-2
 returns-2 c =
-    c .accepted-onto2 .ensures ∙ rw (c .before .rsr-onto .ensures) (ap digest (sym (ap wordsOf (c .before .before .before .found2 .given .1)) ∙ c .before .before .before .before .before .read-headers .ensures))
+    let fielded = c .before in
+    let told = fielded .before .before in
+    c .accepted-onto2 .ensures
+    ∙ rw (fielded .rsr-onto .ensures) (ap digest (sym (ap wordsOf (told .found2 .given .1)) ∙ told .before .before .read-headers .ensures))
 
 returns-3 : tie.Need-returns-3
 returns-3 c =

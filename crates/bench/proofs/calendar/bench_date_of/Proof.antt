@@ -50,7 +50,8 @@ returns c =
 returns-2 : tie.Need-returns-2
 returns-2 c =
     let told = c .before .before in
-    c .number .ensures ∙ sym (refused (told .found2 .given .0 .0)) ∙ ap dateNumber (sym (ap wordsOf (told .found2 .given .1)) ∙ told .before .before .date-of .ensures)
+    let words = sym (ap wordsOf (told .found2 .given .1)) ∙ told .before .before .date-of .ensures in
+    c .number .ensures ∙ sym (refused (told .found2 .given .0 .0)) ∙ ap dateNumber words
 
 pub bench-date-of-spec : {M : Type 1} → statement M
 bench-date-of-spec =
