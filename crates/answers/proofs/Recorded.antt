@@ -17,7 +17,8 @@ use Rattle.idr.specs.declared.Count.{Count}
 use Rattle.idr.specs.declared.Count.the-variants.{Samples, Unknown}
 use Rattle.idr.specs.declared.Read.the-variants.{Tagged, Refused}
 use Rattle.idr.specs.Read.{wordsOf, originWords, timeWords, recorderWords, reductionWords, statusWords}
-use Rattle.answers.specs.Numbers.{numbersIn, withNone, tapeCount, countNumber}
+use Rattle.answers.specs.Numbers.{numbersIn, withNone}
+use Rattle.answers.specs.inner.Numbers.{tapeCount, countNumber}
 
 -- The fields, each group behind the one before, are the numbers of a record with a time tag.
 abbrev filled : Origin → Time → Recorder → Reduction → Status → Count → List ℕ

@@ -7,7 +7,8 @@ use Rattle.refusals.specs.Table.{numberOf}
 use Rattle.refusals.specs.declared.Refusal.{Refusal}
 use Rattle.refusals.proofs.Laws.{number-positive}
 use Rattle.sfdu_headers.specs.Words.{Word}
-use Rattle.answers.specs.Numbers.{Numbers, Few, plain, withNone}
+use Rattle.answers.specs.Numbers.{plain, withNone}
+use Rattle.answers.specs.inner.Numbers.{Numbers, Few}
 
 pub told-few : {A : Type 0} {a b : A} {numbers : List ℕ} (words : A → List Word) → a ≡ b → Few numbers (words b) → Few numbers (words a)
 told-few {numbers = ns} words e h = subst⁻¹ (λ x. Few ns (words x)) e h

@@ -1,17 +1,9 @@
 -- The words of a season in all (document 02, Req 13, for Req 06's answers): without those of each sheet, which are too many. Assumes nothing.
 use Prim.Native.Nat.{ℕ}
-use mathlib.Core.List.{List, [], _∷_, _++_}
-use Rattle.refusals.specs.Table.{numberOf}
+use mathlib.Core.List.{[]}
 use Rattle.ledger_sheet.specs.declared.Answer.{Answer}
 use Rattle.ledger_sheet.specs.declared.Answer.the-variants as A
-use Rattle.ledger_season.specs.declared.SheetCounts.{SheetCounts}
-use Rattle.ledger_season.specs.declared.SeasonGap.{SeasonGap}
-use Rattle.ledger_season.specs.Season.{countsWords, orFurther}
 
 -- How many numbers an accepted one has: 0, the count of sheets, three counts in all, three of the gap.
 abbrev pub inAllCount : ℕ
 inAllCount = 8
-
-abbrev pub inAllWords : Answer → (count : ℕ) → SheetCounts → SeasonGap → List ℕ
-inAllWords A.Done count total gap = 0 ∷ count ∷ countsWords total ++ orFurther gap []
-inAllWords (A.Refused r) count total gap = numberOf r ∷ []

@@ -5,7 +5,8 @@ use crate::refused;
 use settings::Answer;
 use settings::Asked;
 ghost use Rattle.settings.specs.Words.{answerWords, askedWords};
-ghost use Rattle.answers.specs.Numbers.{Few, plain};
+ghost use Rattle.answers.specs.Numbers.{plain};
+ghost use Rattle.answers.specs.inner.Numbers.{Few};
 
 pub fn answer(answer: Answer) -> [u64; FEW]
     ensures { λ r. ⌜ Few r (plain (answerWords answer)) ⌝ }

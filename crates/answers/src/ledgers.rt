@@ -9,7 +9,8 @@ use ledger_sheet::ReportAnswer;
 use ledger_sheet::RowAnswer;
 ghost use mathlib.Core.List.{[], _∷_};
 ghost use Rattle.ledger_sheet.specs.Words.{answerWords, rowWords, reportAnswerWords, gapWords};
-ghost use Rattle.answers.specs.Numbers.{Few, plain, withNone};
+ghost use Rattle.answers.specs.Numbers.{plain, withNone};
+ghost use Rattle.answers.specs.inner.Numbers.{Few};
 
 pub fn answer(answer: Answer) -> [u64; FEW]
     ensures { λ r. ⌜ Few r (plain (answerWords answer)) ⌝ }

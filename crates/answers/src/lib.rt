@@ -18,7 +18,8 @@ ghost use Rattle.refusals.specs.Table.{numberOf};
 ghost use Rattle.sfdu.specs.Read.{faultWords};
 ghost use Rattle.dates.specs.Answers as Dates;
 ghost use Rattle.keys.specs.Words as Keys;
-ghost use Rattle.answers.specs.Numbers.{plain, Few};
+ghost use Rattle.answers.specs.Numbers.{plain};
+ghost use Rattle.answers.specs.inner.Numbers.{Few};
 
 // How many numbers an answer has, and how many bytes each.
 pub const NUMBERS: usize = 32;

@@ -6,7 +6,8 @@ use crate::refused;
 use ledger_replay::Replayed;
 ghost use mathlib.Core.List.{[], _∷_};
 ghost use Rattle.ledger_replay.specs.Replay.{replayedWords};
-ghost use Rattle.answers.specs.Numbers.{Few, plain, withNone};
+ghost use Rattle.answers.specs.Numbers.{plain, withNone};
+ghost use Rattle.answers.specs.inner.Numbers.{Few};
 
 // Where every call answers as written, no entry differs.
 pub fn replayed(answer: Replayed) -> [u64; FEW]

@@ -8,7 +8,8 @@ use sfdu_gain::GainAnswer;
 use sfdu_samples::Answer;
 ghost use Rattle.sfdu_gain.specs.Gain as Gain;
 ghost use Rattle.sfdu_samples.specs.Calls as Samples;
-ghost use Rattle.answers.specs.Numbers.{Few, plain};
+ghost use Rattle.answers.specs.Numbers.{plain};
+ghost use Rattle.answers.specs.inner.Numbers.{Few};
 
 // The old edition has no multiplier.
 pub fn gain(answer: GainAnswer) -> [u64; FEW]

@@ -21,7 +21,8 @@ ghost use Rattle.sfdu.specs.Nesting.{kindNumber};
 ghost use Rattle.sfdu.specs.Read.{primaryWords, faultWords};
 ghost use Rattle.sfdu_headers.specs.Words.{number, signed};
 ghost use Rattle.sfdu_headers.specs.Headers.{accepted, wordsOf, bandWord, telemetryFieldWords, sourceWords, signalWords, timeWords, receivedWords};
-ghost use Rattle.answers.specs.Numbers.{Numbers, numbersOf, plain, valueOf};
+ghost use Rattle.answers.specs.Numbers.{numbersOf, plain, valueOf};
+ghost use Rattle.answers.specs.inner.Numbers.{Numbers};
 
 pub fn headers(found: Headers) -> [u64; NUMBERS]
     ensures { λ r. ⌜ Numbers r (wordsOf found) ⌝ }

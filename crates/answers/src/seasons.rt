@@ -10,8 +10,10 @@ ghost use mathlib.Core.List.{[], _∷_, _++_};
 ghost use mathlib.Core.Path.{_≡_};
 ghost use Rattle.refusals.specs.Table.{numberOf};
 ghost use Rattle.ledger_season.specs.Season.{countsWords, orFurther};
-ghost use Rattle.answers.specs.Numbers.{Numbers, numbersOf, plain, withNone};
-ghost use Rattle.answers.specs.Seasons.{inAllWords, inAllCount};
+ghost use Rattle.answers.specs.Numbers.{numbersOf, plain, withNone};
+ghost use Rattle.answers.specs.inner.Numbers.{Numbers};
+ghost use Rattle.answers.specs.Seasons.{inAllCount};
+ghost use Rattle.answers.specs.inner.Seasons.{inAllWords};
 
 pub fn in_all(answer: Answer, count: u32, total: SheetCounts, gap: SeasonGap) -> [u64; NUMBERS]
     ensures { λ r. ⌜ Numbers r (withNone inAllCount (inAllWords answer count total gap)) ⌝ }

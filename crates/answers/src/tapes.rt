@@ -13,7 +13,8 @@ ghost use mathlib.Core.List.{[], _∷_};
 ghost use lib.Seq.{sets};
 ghost use Rattle.idr.specs.declared.Read.the-variants.{Untagged};
 ghost use Rattle.idr.specs.Read.{wordsOf, originWords, timeWords, recorderWords, reductionWords, statusWords};
-ghost use Rattle.answers.specs.Numbers.{numbersIn, withNone, tapeCount, countNumber};
+ghost use Rattle.answers.specs.Numbers.{numbersIn, withNone};
+ghost use Rattle.answers.specs.inner.Numbers.{tapeCount, countNumber};
 
 // How many numbers they are.
 pub const FIELDS: usize = 34;

@@ -11,8 +11,9 @@ use Rattle.ledger_season.specs.declared.SeasonReport.{SeasonReport}
 use Rattle.ledger_season.specs.Report.{mostSheets}
 use Rattle.ledger_season.specs.Season.{countsWords, sheetsWords, orFurther, Answers}
 use Rattle.sfdu_headers.specs.Words.{Word}
-use Rattle.answers.specs.Numbers.{numbersOf, Few}
-use Rattle.bench.specs.Digest.{fewOnto, countsOnto, seasonOnto}
+use Rattle.answers.specs.Numbers.{numbersOf}
+use Rattle.answers.specs.inner.Numbers.{Few}
+use Rattle.bench.specs.inner.Digest.{fewOnto, countsOnto, seasonOnto}
 
 zeros-at : (k i : ℕ) → _≡_ {A = ℕ} (getD (replicate k 0) i 0) 0
 zeros-at zero i = refl

@@ -1,1 +1,1 @@
-pub mod Digest
+pub mod inner

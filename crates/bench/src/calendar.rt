@@ -1,7 +1,7 @@
 // The date of a day count.
 ghost use mathlib.Core.Path.{_≡_};
 ghost use Rattle.dates.specs.Calendar.{dateOf};
-ghost use Rattle.bench.specs.Digest.{dateNumber};
+ghost use Rattle.bench.specs.inner.Digest.{dateNumber};
 use dates::DateAnswer;
 
 const THOUSAND: u64 = 1000;

@@ -12,7 +12,7 @@ ghost use Rattle.sfdu_gain.specs.Gain.{gaining};
 ghost use Rattle.ledger_convert.specs.Convert.{convertOn};
 ghost use Rattle.ledger_season.specs.Season.{season, countsWords};
 ghost use Rattle.answers.specs.Numbers.{numbersOf, plain};
-ghost use Rattle.bench.specs.Digest.{fewOnto, countsOnto, seasonOnto};
+ghost use Rattle.bench.specs.inner.Digest.{fewOnto, countsOnto, seasonOnto};
 
 fn onto(numbers: [u64; FEW]) -> u64
     ensures { λ r. ⌜ r ≡ fewOnto numbers ⌝ }

@@ -30,7 +30,7 @@ ghost use Rattle.sfdu_stream.specs.Listing.{walked};
 ghost use Rattle.ledger_sheet.specs.Sheet.{right};
 ghost use Rattle.ledger_model.specs.Step.{Tick, Untick, Ask, RowReport};
 ghost use Rattle.ledger_layout.specs.Layout.{call, onSheet};
-ghost use Rattle.bench.specs.Digest.{value, onto, digest, flag, counts, counted};
+ghost use Rattle.bench.specs.inner.Digest.{value, onto, digest, flag, counts, counted};
 
 // The words of an accepted answer that the kinds begin with, and that of a kind not asked for; and what adds nothing to a number.
 const ACCEPTED: u64 = 0;

@@ -2,7 +2,7 @@
 use ledger_replay::Replayed;
 ghost use mathlib.Core.Path.{_≡_};
 ghost use Rattle.ledger_replay.specs.Replay.{replayedWords, replayOn};
-ghost use Rattle.bench.specs.Digest.{sumOf};
+ghost use Rattle.bench.specs.inner.Digest.{sumOf};
 
 #[no_mangle]
 pub extern "C" fn bench_replay(t: &[u8], s: &mut [u8]) -> u64

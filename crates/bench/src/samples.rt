@@ -1,7 +1,7 @@
 // The samples of a record, unpacked, and numbers packed.
 ghost use mathlib.Core.Path.{_≡_};
 ghost use Rattle.sfdu_samples.specs.Calls.{wordsOf, unpacking, packing};
-ghost use Rattle.bench.specs.Digest.{tallied};
+ghost use Rattle.bench.specs.inner.Digest.{tallied};
 use sfdu_samples::Answer;
 
 #[no_mangle]

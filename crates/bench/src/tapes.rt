@@ -3,7 +3,7 @@ ghost use mathlib.Core.Path.{_≡_};
 ghost use mathlib.Core.List.{_++_, map};
 ghost use Rattle.sfdu_headers.specs.Words.{number};
 ghost use Rattle.idr.specs.Read.{readRecord, originWords, timeWords, recorderWords, reductionWords, statusWords, countWords};
-ghost use Rattle.bench.specs.Digest.{onto, digest};
+ghost use Rattle.bench.specs.inner.Digest.{onto, digest};
 use crate::ACCEPTED;
 use crate::NOTHING;
 use idr::Count;

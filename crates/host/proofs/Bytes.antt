@@ -9,7 +9,8 @@ use lib.Seq.{drop-length, take-length, take-suc, length-take-le}
 use Rattle.octets.specs.Octets.{bytesOf, put}
 use Rattle.octets.proofs.Laws.{length-bytesOf}
 use Rattle.octets.proofs.Puts.{put-start, put-next}
-use Rattle.answers.specs.Numbers.{numberCount, fewCount}
+use Rattle.answers.specs.Numbers.{numberCount}
+use Rattle.answers.specs.inner.Numbers.{fewCount}
 use Rattle.host.specs.Exported.{answerSize, numberSize, answerBytes}
 
 -- one number more

@@ -9,7 +9,8 @@ use Rattle.refusals.specs.Table.{numberOf}
 use Rattle.refusals.specs.declared.Refusal.the-variants.{AnswerLength}
 use Rattle.sfdu_headers.specs.Words.{Word}
 use Rattle.answers.specs.Numbers.{numbersOf}
-use Rattle.host.specs.Exported.{answerSize, exported, exportedAs, Written}
+use Rattle.host.specs.Exported.{answerSize, exported, exportedAs}
+use Rattle.host.specs.inner.Written.{Written}
 
 pub unwritten : {r : ℕ} (words : List Word) (answer : List ℕ) → length answer ≢ answerSize → r ≡ numberOf AnswerLength → (r, answer) ≡ exported words answer
 unfolding exported

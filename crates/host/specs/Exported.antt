@@ -3,7 +3,6 @@
 use Prim.Native.Nat.{ℕ}
 use mathlib.Core.Bool.{cond}
 use mathlib.Core.List.{List, [], _∷_, _++_}
-use mathlib.Core.Path.{_≡_}
 use lib.Dec.{eqb}
 use lib.ListN.{length, getD}
 use Rattle.octets.specs.Octets.{bytesOf}
@@ -23,10 +22,6 @@ numberSize = 8
 unfoldable pub answerBytes : List ℕ → List ℕ
 answerBytes [] = []
 answerBytes (n ∷ ns) = bytesOf numberSize n ++ answerBytes ns
-
--- What is returned and left in the answer's slice where these are all the numbers of the answer.
-abbrev pub Written : ℕ → (left numbers : List ℕ) → Type 0
-Written r left numbers = (r ≡ getD numbers 0 0) × (left ≡ answerBytes numbers)
 
 -- The number that is returned: the first of the answer's.
 abbrev pub returned : List Word → ℕ

@@ -1,3 +1,4 @@
 -- What the contracts of `host` cite.
 pub mod Exported
 pub mod Seasons
+pub mod inner

@@ -13,8 +13,10 @@ ghost use lib.ListN.{length, getD, replicate};
 ghost use Rattle.octets.specs.Octets.{put};
 ghost use Rattle.refusals.specs.Table.{numberOf};
 ghost use Rattle.refusals.specs.declared.Refusal.the-variants.{AnswerLength};
-ghost use Rattle.answers.specs.Numbers.{numberCount, fewCount};
-ghost use Rattle.host.specs.Exported.{answerSize, numberSize, answerBytes, Written};
+ghost use Rattle.answers.specs.Numbers.{numberCount};
+ghost use Rattle.answers.specs.inner.Numbers.{fewCount};
+ghost use Rattle.host.specs.Exported.{answerSize, numberSize, answerBytes};
+ghost use Rattle.host.specs.inner.Written.{Written};
 
 // The bytes of a few numbers.
 const FEW_BYTES: usize = NUMBER * FEW;

@@ -20,9 +20,11 @@ use Rattle.text.specs.declared.State.{State}
 use Rattle.text.specs.State.{emptied}
 use Rattle.turns.specs.declared.Piece.{Piece}
 use Rattle.turns.specs.declared.Turn.{Turn}
-use Rattle.turns.specs.Turn.{textSize, Behind}
+use Rattle.turns.specs.Turn.{textSize}
+use Rattle.turns.specs.inner.Turn.{Behind}
 use Rattle.turns.proofs.Rounds as turns
-use Rattle.idr_list.specs.Turn.{Going, Holds, Stands, Turns}
+use Rattle.idr_list.specs.Turn.{Stands, Turns}
+use Rattle.idr_list.specs.inner.Turn.{Going, Holds}
 
 -- ---- the run
 

@@ -1,6 +1,6 @@
 -- What the program's own functions keep: its run of the listing (`Run`, whose promise is the listing of the whole tape), over the
 -- turns of `turns/specs/Turn.antt`. Assumes nothing.
-use Prim.Native.Nat.{ℕ, _+_, _≤_}
+use Prim.Native.Nat.{ℕ}
 use mathlib.Core.Bool.{Bool, false}
 use mathlib.Core.List.{List, _++_}
 use mathlib.Core.Path.{_≡_}
@@ -10,14 +10,7 @@ use Rattle.turns.specs.declared.Turn.{Turn}
 use Rattle.turns.specs.Turn as turns
 use Rattle.idr.specs.Words.{recordSize}
 use Rattle.idr_listing.specs.Text.{mostLine}
-use Rattle.idr_listing.specs.Run.{Lists, Run}
-
--- The first `held` bytes of w were listed, and the next record is to come.
-pub record Holds (w : List ℕ) (held : ℕ) (out : List ℕ) (s : State) (out′ : List ℕ) (r : State) : Type 0 where
-  pub lists : Lists (take held w) (s .place) out out′ (s .text) (record { end = r .text; done = r .done })
-  pub place : r .place ≡ s .place + recordSize
-  pub have : r .have ≡ 0
-  pub few : r .text ≤ s .text + mostLine
+use Rattle.idr_listing.specs.Run.{Run}
 
 -- A run stands at a state, with what the buffers hold and what was written before; the tape has not ended unless the listing is done.
 pub record Stands (w out : List ℕ) (s : State) : Type 0 where
@@ -26,9 +19,6 @@ pub record Stands (w out : List ℕ) (s : State) : Type 0 where
   pub written : List ℕ
   pub run : Run read ended (s .done) (s .place) (take (s .have) w) (written ++ take (s .text) out)
   pub goes : s .done ≡ false → ended ≡ false
-
-abbrev pub Going : (w out : List ℕ) → State → Type 0
-Going = turns.Going recordSize mostLine
 
 abbrev pub Turns : (w out : List ℕ) → State → (w′ out′ : List ℕ) → Turn → Type 0
 Turns = turns.Turns Stands recordSize mostLine

@@ -6,17 +6,10 @@ use mathlib.Core.List.{List, [], _++_}
 use mathlib.Core.Path.{_≡_}
 use lib.ListN.{length}
 use lib.Dec.{eqb}
-use Rattle.text.specs.Text.{Puts}
 use Rattle.idr.specs.Words.{recordSize}
 use Rattle.idr.specs.Read.{accepts}
-use Rattle.idr_listing.specs.declared.Listed.{Listed}
 use Rattle.idr_listing.specs.Text.{heading}
 use Rattle.idr_listing.specs.Listing.{lineOf, listing}
-
--- `list_record`: what stands at a place is r, and its line was put in; the listing goes on where it is a record that is accepted.
-pub record Lists (r : List ℕ) (place : ℕ) (old new : List ℕ) (at : ℕ) (l : Listed) : Type 0 where
-  pub puts : Puts old new at (l .end) (lineOf place r)
-  pub goes : l .done ≡ not (accepts r)
 
 -- Where a run can stand: what was read and whether that was all, whether the last line is laid out, the place of what is held, the
 -- bytes that are held, and all the text that was laid out.

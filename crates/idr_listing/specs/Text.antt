@@ -114,18 +114,5 @@ why n =
 unfoldable pub lastLine : (place number : ℕ) → List ℕ
 lastLine place number = word place space ++ word number space ++ why number
 
--- The most bytes of each, by those of a word: a line has nine and the clock.
-abbrev pub mostWhy : ℕ
-mostWhy = 28
-
-abbrev pub mostOrigin : ℕ
-mostOrigin = 105
-
-abbrev pub mostTime : ℕ
-mostTime = 37
-
-abbrev pub mostReduction : ℕ
-mostReduction = 63
-
 abbrev pub mostLine : ℕ
 mostLine = 205

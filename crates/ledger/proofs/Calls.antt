@@ -9,7 +9,8 @@ use Rattle.refusals.specs.Judge.{Rule, _when_}
 use Rattle.ledger_model.specs.Step.{Find, RowReport, FirstGap, Call, Enrol, Ask, Open, Mark, Save, Drop, Strike}
 use Rattle.octets.proofs.Laws.{Bytes}
 use Rattle.ledger_sheet.specs.Sheet.{rowCount, rowAt, right}
-use Rattle.ledger_sheet.specs.Outcome.{Outcome, done}
+use Rattle.ledger_sheet.specs.Outcome.{Outcome}
+use Rattle.ledger_sheet.specs.inner.Done.{done}
 use Rattle.ledger_rows.specs.inner.Scans.{rowWith, freeRow}
 use Rattle.ledger_changes.specs.inner.Bytes.{enrolAt, strikeAt, openAt, clearDesk, markDesk, saveAt}
 use Rattle.ledger_counts.specs.inner.Counts.{reportWords, gapFrom}

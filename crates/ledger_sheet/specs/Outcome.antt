@@ -12,6 +12,3 @@ Outcome = List ℕ × List ℕ
 -- A call judged by rows of the refusal table, in the table's order: a refusal leaves the sheet as it was.
 unfoldable pub judged : List (Rule ℕ) → Outcome → List ℕ → Outcome
 judged rules outcome s = cond (eqb (verdict rules) 0) outcome (verdict rules ∷ [], s)
-
-abbrev pub done : List ℕ
-done = 0 ∷ []

@@ -9,7 +9,8 @@ use Rattle.octets.specs.Octets.{numberAt, bytesOf, part, put}
 use Rattle.octets.proofs.Laws.{Bytes, length-bytesOf, length-put, put-none}
 use Rattle.octets.proofs.Parts.{number-first, number-second, number-bytes, bytes-number, part-join}
 use Rattle.octets.proofs.Puts.{put-put}
-use Rattle.settings.specs.Fields.{Field, _holding_, widthOf, fieldBytes}
+use Rattle.settings.specs.Fields.{Field, _holding_, fieldBytes}
+use Rattle.settings.specs.inner.Widths.{widthOf}
 
 -- Each value fits its width.
 abbrev pub AllFit : List Field → Type 0

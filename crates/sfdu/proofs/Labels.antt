@@ -7,7 +7,8 @@ use Rattle.refusals.specs.Judge.{Rule, judge, answered}
 use Rattle.refusals.proofs.Judged.{Outcome, none, first, outcome, none-judge, first-judge, judge-each}
 use Rattle.sfdu.specs.declared.Checked.{Checked}
 use Rattle.sfdu.specs.declared.Checked.the-variants.{Right, Wrong}
-use Rattle.sfdu.specs.Read.{_giving_, checked, typeAndLength, blockRules}
+use Rattle.sfdu.specs.Read.{_giving_, typeAndLength, blockRules}
+use Rattle.sfdu.specs.inner.Checked.{checked}
 
 module _ {B : Type 0} (f : ℕ → B) (rules : List (Rule ℕ)) (answer : B) where
   pub all-right : checked rules ≡ Right → judge f rules answer ≡ answer

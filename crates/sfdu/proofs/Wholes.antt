@@ -33,7 +33,8 @@ use Rattle.sfdu.specs.Nesting.{
   dataType,
   mostData,
 }
-use Rattle.sfdu.specs.Read.{hasKind, recordLength, blockType, blockLength, isLabel, headerRules, dataRules}
+use Rattle.sfdu.specs.Read.{hasKind, recordLength, blockType, blockLength, headerRules, dataRules}
+use Rattle.sfdu.specs.inner.Checked.{isLabel}
 
 -- ---- a label
 

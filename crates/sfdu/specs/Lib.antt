@@ -1,3 +1,4 @@
 pub mod Nesting
 pub mod Read
 pub mod Nested
+pub mod inner

@@ -5,15 +5,13 @@ use mathlib.Core.Bool.{Bool, not, cond, _&&_, _||_}
 use mathlib.Core.List.{List, [], _∷_, _++_}
 use lib.ListN.{length, getD}
 use lib.Dec.{eqb, leb, ltb}
-use Rattle.refusals.specs.Judge.{Rule, _when_, judge, each, answered, noneApplies}
+use Rattle.refusals.specs.Judge.{Rule, _when_, each, answered, noneApplies}
 use Rattle.refusals.specs.Table.{numberOf}
 use Rattle.octets.specs.Octets.{numberAt, part, sameAt}
 use Rattle.sfdu.specs.declared.Kind.{Kind}
 use Rattle.sfdu.specs.declared.Kind.the-variants.{Telemetry, Rsr}
 use Rattle.sfdu.specs.declared.Fault.{Fault}
 use Rattle.sfdu.specs.declared.Primary.{Primary}
-use Rattle.sfdu.specs.declared.Checked.{Checked}
-use Rattle.sfdu.specs.declared.Checked.the-variants.{Right, Wrong}
 use Rattle.sfdu.specs.declared.Read.{Read}
 use Rattle.sfdu.specs.declared.Read.the-variants.{Record, Refused}
 use Rattle.sfdu.specs.Nesting.{
@@ -84,14 +82,6 @@ blockType s at = numberAt s at wordSize
 unfoldable pub blockLength : List ℕ → ℕ → ℕ
 blockLength s at = numberAt s (at + wordSize) wordSize
 
--- It has that type and that length.
-abbrev pub isLabel : List ℕ → (at type size : ℕ) → Bool
-isLabel s at type size = eqb (blockType s at) type && eqb (blockLength s at) size
-
--- What a check of fields finds: the offset that its rules give, or that all are right.
-abbrev pub checked : List (Rule ℕ) → Checked
-checked rules = judge Wrong rules Right
-
 -- ---- the refusals, in the table's order
 
 unfoldable pub lengthInRange : Kind → List ℕ → Bool
@@ -157,10 +147,6 @@ inStream place (n ∷ m ∷ rest) = n ∷ cond (isCount n) m (place + m) ∷ res
 -- Read one accepts the slice.
 unfoldable pub accepts : List ℕ → Bool
 accepts s = noneApplies (readRules s)
-
--- N, and 0 where read one refuses.
-unfoldable pub wholeSize : List ℕ → ℕ
-wholeSize s = cond (accepts s) (recordLength s) 0
 
 -- ---- the calls
 

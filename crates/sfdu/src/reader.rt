@@ -46,13 +46,13 @@ ghost use Rattle.sfdu.specs.Read.{
   recordLength,
   blockType,
   blockLength,
-  checked,
   typeAndLength,
   secondaryPart,
   secondaryStart,
   dataPart,
   dataStart,
 };
+ghost use Rattle.sfdu.specs.inner.Checked.{checked};
 use crate::Checked;
 use crate::Fault;
 use crate::Kind;

@@ -20,7 +20,8 @@ ghost use Rattle.sfdu.specs.Nesting.{
   secondaryLength,
   mostData,
 };
-ghost use Rattle.sfdu.specs.Read.{recordLength, lengthRules, headerRules, dataRules, isLabel, wholeSize};
+ghost use Rattle.sfdu.specs.Read.{recordLength, lengthRules, headerRules, dataRules};
+ghost use Rattle.sfdu.specs.inner.Checked.{isLabel, wholeSize};
 use crate::Kind;
 use crate::loads::load_u32;
 use crate::nesting;

@@ -20,7 +20,7 @@ use Rattle.sfdu_headers.specs.Words.{Word, number}
 use Rattle.sfdu_headers.specs.Fields.{year, day}
 use Rattle.sfdu_rsr.specs.Record.{only, rsrRules, mission}
 use Rattle.sfdu_gain.specs.Gain.{gainOf, gainRules, gaining, agreed, editionOf, askedRules, agreedRules, agreedGain}
-use Rattle.sfdu_gain.specs.Inner.{toldGain}
+use Rattle.sfdu_gain.specs.inner.Told.{toldGain}
 
 -- Rules behind those of read headers: where one of these applies it decides, and else they do.
 module _ (s : List ℕ) (more : List (Rule (List ℕ))) (answer : List Word) where

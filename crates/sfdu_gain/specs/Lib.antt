@@ -1,3 +1,3 @@
 pub mod Gain
-pub mod Inner
 pub mod Agreed
+pub mod inner

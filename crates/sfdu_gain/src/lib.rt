@@ -8,7 +8,7 @@ ghost use Rattle.sfdu.specs.declared.Kind.the-variants.{Rsr as RsrKind};
 ghost use Rattle.sfdu.specs.Nesting.{dataValueAt};
 ghost use Rattle.sfdu_headers.specs.Words.{number};
 ghost use Rattle.sfdu_gain.specs.Gain.{wordsOf, gainOf, gaining, agreedGain};
-ghost use Rattle.sfdu_gain.specs.Inner.{toldGain};
+ghost use Rattle.sfdu_gain.specs.inner.Told.{toldGain};
 use octets::read_u32;
 use refusals::Refusal;
 use settings::Asked;

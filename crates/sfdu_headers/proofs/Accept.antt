@@ -15,7 +15,7 @@ use Rattle.sfdu_headers.specs.declared.RsrSource.{RsrSource}
 use Rattle.sfdu_headers.specs.Words.{Word, number}
 use Rattle.sfdu_headers.specs.Fields.{spacecraft, source, received, equipment, virtualStream, rsrSpacecraft, station, receiver, subchannel}
 use Rattle.sfdu_headers.specs.Headers.{accepted, telemetryFieldWords, sourceWords, sourceOf, fieldsOf, keyOf, addedOf}
-use Rattle.sfdu_headers.specs.Parts.{extendedValues, millisecondValues}
+use Rattle.sfdu_headers.specs.inner.Parts.{extendedValues, millisecondValues}
 
 pub same-accepted : (k : Kind) (size n : ℕ) (p q : List ℕ) (f g : List Word) (key l : ℕ) (x y : List Word) → size ≡ n → p ≡ q → f ≡ g
     → key ≡ l → x ≡ y → accepted k size p f key x ≡ accepted k n q g l y

@@ -13,7 +13,7 @@ use Rattle.dates.specs.Calendar.{isYear, isDay, isDate, dayCount}
 use Rattle.dates.specs.Answers.{countOf}
 use Rattle.sfdu_headers.specs.declared.Dated.{Dated}
 use Rattle.sfdu_headers.specs.Fields.{year, day, yearAt, dayAt}
-use Rattle.sfdu_headers.specs.Dated.{IsDated}
+use Rattle.sfdu_headers.specs.inner.Dated.{IsDated}
 
 -- What the two tests say of the answer of the day count.
 abbrev answerOf : (isYear isDay : Bool) (count : ℕ) → CountAnswer

@@ -11,7 +11,7 @@ use lib.Seq.{drop-cons}
 use Rattle.refusals.specs.Judge.{judge}
 use Rattle.sfdu.specs.declared.Checked.{Checked}
 use Rattle.sfdu.specs.declared.Checked.the-variants.{Right, Wrong}
-use Rattle.sfdu.specs.Read.{checked}
+use Rattle.sfdu.specs.inner.Checked.{checked}
 use Rattle.octets.specs.Octets.{all}
 use Rattle.octets.proofs.Laws.{all-at}
 use Rattle.sfdu_headers.specs.declared.Allowed.the-variants.{Between}

@@ -3,5 +3,4 @@ pub mod Fields
 pub mod Ranges
 pub mod Headers
 pub mod Keys
-pub mod Dated
-pub mod Parts
+pub mod inner

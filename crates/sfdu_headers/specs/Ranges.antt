@@ -8,9 +8,7 @@ use lib.ListN.{getD}
 use Rattle.refusals.specs.Judge.{Rule, _when_}
 use Rattle.sfdu.specs.declared.Kind.{Kind}
 use Rattle.sfdu.specs.declared.Kind.the-variants.{Telemetry, Rsr}
-use Rattle.sfdu.specs.declared.Checked.{Checked}
 use Rattle.sfdu.specs.Nesting.{primaryValueAt, secondaryAt}
-use Rattle.sfdu.specs.Read.{checked}
 use Rattle.dates.specs.Calendar.{isYear, isDay}
 use Rattle.sfdu_headers.specs.declared.Allowed.{Allowed}
 use Rattle.sfdu_headers.specs.declared.Allowed.the-variants.{Between, Bands}
@@ -86,7 +84,3 @@ dateRules s = ((secondaryAt + yearAt) when not (isYear (year s))) ∷ ((secondar
 abbrev pub fieldRules : Kind → List ℕ → List (Rule ℕ)
 fieldRules Telemetry s = ((secondaryAt + uplinkAt) when (hasBand s && not (isBand (uplink s)))) ∷ []
 fieldRules Rsr s = byteRules s ++ dateRules s
-
--- The lowest field out of range.
-unfoldable pub fault : Kind → List ℕ → Checked
-fault k s = checked (fieldRules k s)

@@ -6,9 +6,10 @@ ghost use Prim.Native.Nat.{_≤_, _+_};
 ghost use lib.ListN.{length};
 ghost use Rattle.sfdu.specs.declared.Kind.the-variants.{Rsr};
 ghost use Rattle.sfdu.specs.Nesting.{dataValueAt, secondaryAt};
-ghost use Rattle.sfdu.specs.Read.{primaryWords, primaryOf, recordLength, checked};
+ghost use Rattle.sfdu.specs.Read.{primaryWords, primaryOf, recordLength};
+ghost use Rattle.sfdu.specs.inner.Checked.{checked};
 ghost use Rattle.dates.specs.Calendar.{isYear};
-ghost use Rattle.sfdu_headers.specs.Dated.{IsDated};
+ghost use Rattle.sfdu_headers.specs.inner.Dated.{IsDated};
 ghost use Rattle.sfdu_headers.specs.Fields.{recordNumber, signedByte, yearAt, dayAt};
 ghost use Rattle.sfdu_headers.specs.Headers.{
   wordsOf,

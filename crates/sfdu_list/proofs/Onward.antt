@@ -12,14 +12,17 @@ use Rattle.text.specs.declared.State.{State}
 use Rattle.text.specs.State.{emptied}
 use Rattle.sfdu_listing.specs.Text.{heading}
 use Rattle.sfdu_listing.specs.Listing.{bufferSize}
-use Rattle.sfdu_listing.specs.Window.{mostText, Ready, Lists}
+use Rattle.sfdu_listing.specs.Window.{mostText, Lists}
+use Rattle.sfdu_listing.specs.inner.Window.{Ready}
 use Rattle.sfdu_listing.specs.Run.{Run, begins, lists, writes, begun}
 use Rattle.text.proofs.Laid.{grown}
 use Rattle.turns.specs.declared.Piece.{Piece}
 use Rattle.turns.specs.declared.Turn.{Turn}
-use Rattle.turns.specs.Turn.{textSize, Behind}
+use Rattle.turns.specs.Turn.{textSize}
+use Rattle.turns.specs.inner.Turn.{Behind}
 use Rattle.turns.proofs.Rounds as turns
-use Rattle.sfdu_list.specs.Turn.{Going, Stands, Turns}
+use Rattle.sfdu_list.specs.Turn.{Stands, Turns}
+use Rattle.sfdu_list.specs.inner.Turn.{Going}
 
 -- ---- the run
 

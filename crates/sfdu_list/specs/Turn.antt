@@ -18,9 +18,6 @@ pub record Stands (w out : List ℕ) (s : State) : Type 0 where
   pub written : List ℕ
   pub run : Run read ended written s (take (s .have) w) (take (s .text) out)
 
-abbrev pub Going : (w out : List ℕ) → State → Type 0
-Going = turns.Going bufferSize mostText
-
 abbrev pub Turns : (w out : List ℕ) → State → (w′ out′ : List ℕ) → Turn → Type 0
 Turns = turns.Turns Stands bufferSize mostText
 

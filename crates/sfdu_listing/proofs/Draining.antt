@@ -9,9 +9,11 @@ use lib.Seq.{take-length}
 use Rattle.text.specs.Text.{Puts}
 use Rattle.sfdu.specs.declared.Kind.{Kind}
 use Rattle.sfdu.specs.Nesting.{kindNumber}
-use Rattle.sfdu_listing.specs.Text.{line, lastLine, lineRoom, mostLast}
+use Rattle.sfdu_listing.specs.Text.{line, lastLine, mostLast}
+use Rattle.sfdu_listing.specs.inner.Room.{lineRoom}
 use Rattle.sfdu_listing.specs.Listing.{bufferSize}
-use Rattle.sfdu_listing.specs.Window.{Drains, foundIn, cutShort, mostText}
+use Rattle.sfdu_listing.specs.Window.{cutShort, mostText}
+use Rattle.sfdu_listing.specs.inner.Window.{Drains, foundIn}
 use Rattle.sfdu_listing.proofs.Judging.{whole-record, FoundRecord, FoundStop, found-record, found-stop, found-more}
 use Rattle.text.proofs.Laid.{nothing, then}
 use Rattle.sfdu_listing.proofs.Streams.{Underway, begins, goes, stops}

@@ -50,8 +50,10 @@ use Rattle.sfdu.proofs.Placed.{placed}
 use Rattle.sfdu.proofs.Accepted.{in-range, record-length, same-kind}
 use Rattle.sfdu_headers.specs.Fields.{recordNumber}
 use Rattle.sfdu_stream.specs.Walk.{wholeBy, full, refusalBy}
-use Rattle.sfdu_listing.specs.Listing.{bufferSize, overRule, listRules, whole, orZero, stopWords}
-use Rattle.sfdu_listing.specs.Window.{givesCount, foundAt, cutShort, foundIn}
+use Rattle.sfdu_listing.specs.Listing.{bufferSize, overRule, listRules, orZero}
+use Rattle.sfdu_listing.specs.inner.Stops.{whole, stopWords}
+use Rattle.sfdu_listing.specs.Window.{givesCount, cutShort}
+use Rattle.sfdu_listing.specs.inner.Window.{foundAt, foundIn}
 use Rattle.sfdu_listing.proofs.Rows.{skip, pass, first-front, first-behind, Stands, before, there, behind, stands}
 
 -- ---- the rules between 1 and 6, and behind 6

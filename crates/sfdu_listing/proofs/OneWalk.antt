@@ -16,7 +16,8 @@ use Rattle.sfdu.specs.Nesting.{labelSize}
 use Rattle.sfdu.specs.Read.{kindOf, recordLength, cutRule, readRules, accepts, inStream, readOne}
 use Rattle.sfdu.proofs.Accepted.{Reads, accepted-one, refused-one, reads}
 use Rattle.sfdu_stream.specs.declared.Entry.{Entry}
-use Rattle.sfdu_stream.specs.Walk.{Rules, wholeBy, full, refusalBy, whole, past, refusal}
+use Rattle.sfdu_stream.specs.Walk.{Rules, wholeBy, full, refusalBy, whole, past}
+use Rattle.sfdu_stream.specs.inner.Refusal.{refusal}
 use Rattle.sfdu_stream.specs.Listing.{Listing as Walk, entryOf, entryAt, stopped, prepend, walkBy, walkFrom}
 use Rattle.sfdu_stream.specs.Laws.{StopsAtEnd, StopsRefused}
 use Rattle.sfdu_stream.proofs.Places.{whole-record}

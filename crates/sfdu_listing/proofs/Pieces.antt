@@ -12,7 +12,8 @@ use Rattle.octets.proofs.Laws.{length-part}
 use Rattle.octets.proofs.Puts.{put-start}
 use Rattle.sfdu_listing.specs.declared.Drained.{Drained}
 use Rattle.text.specs.declared.State.{State}
-use Rattle.sfdu_listing.specs.Window.{Drains, Ready, Lists}
+use Rattle.sfdu_listing.specs.Window.{Lists}
+use Rattle.sfdu_listing.specs.inner.Window.{Drains, Ready}
 use Rattle.sfdu_listing.proofs.Judging.{cut-room}
 
 -- the rest of the first bytes

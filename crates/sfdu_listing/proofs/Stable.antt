@@ -35,7 +35,8 @@ use Rattle.sfdu.specs.Read.{hasKind, kindOf, labelLength, recordLength, lengthI
 use Rattle.sfdu.proofs.Placed.{placed}
 use Rattle.sfdu_headers.specs.Fields.{recordNumber}
 use Rattle.sfdu_stream.specs.Listing.{entryOf}
-use Rattle.sfdu_listing.specs.Listing.{overRule, listRules, whole, stopWords}
+use Rattle.sfdu_listing.specs.Listing.{overRule, listRules}
+use Rattle.sfdu_listing.specs.inner.Stops.{whole, stopWords}
 use Rattle.sfdu_listing.specs.Window.{givesCount, cutShort}
 use Rattle.sfdu_listing.proofs.Rows.{pass, first-behind, agree}
 use Rattle.sfdu_listing.proofs.Judging.{

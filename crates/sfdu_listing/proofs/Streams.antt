@@ -13,7 +13,8 @@ use Rattle.sfdu.specs.Read.{recordLength}
 use Rattle.sfdu_stream.specs.Listing.{entryOf}
 use Rattle.sfdu_stream.proofs.Listings.{Bounded, goes-by, stops-by}
 use Rattle.sfdu_listing.specs.Text.{line, lastLine}
-use Rattle.sfdu_listing.specs.Listing.{listRules, whole, stopWords, lineOf, linesOf, textOf, linesFrom}
+use Rattle.sfdu_listing.specs.Listing.{listRules, lineOf, linesOf, textOf, linesFrom}
+use Rattle.sfdu_listing.specs.inner.Stops.{whole, stopWords}
 use Rattle.sfdu_listing.specs.Window.{cutShort, GoesOn}
 use Rattle.sfdu_listing.proofs.Judging.{whole-record, FoundRecord, FoundStop}
 use Rattle.sfdu_listing.proofs.Stable.{whole-stays, record-same, stop-stays}

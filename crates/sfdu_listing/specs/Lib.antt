@@ -3,3 +3,4 @@ pub mod Listing
 pub mod OneWalk
 pub mod Window
 pub mod Run
+pub mod inner

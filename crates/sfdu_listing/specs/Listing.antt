@@ -1,13 +1,11 @@
 -- The listing of a whole stream. Document 01, "The program", "Walk" and refusal 17; document 02, Req 05. Assumes nothing.
 use Prim.Native.Nat.{ℕ}
-use mathlib.Core.Bool.{Bool}
 use mathlib.Core.List.{List, [], _∷_, _++_}
 use lib.Dec.{ltb}
 use Rattle.refusals.specs.Judge.{Rule, _when_}
 use Rattle.sfdu.specs.Read.{kindOf, recordLength, labelRules, rangeRule, cutRule, headerRules, dataRules}
 use Rattle.sfdu_stream.specs.declared.Entry.{Entry}
-use Rattle.sfdu_stream.specs.Walk.{wholeBy, refusalBy}
-use Rattle.sfdu_stream.specs.Listing.{Listing as Walk, walkBy}
+use Rattle.sfdu_stream.specs.Listing.{walkBy}
 use Rattle.sfdu_listing.specs.Text.{heading, line, lastLine}
 
 -- The bytes of the program's buffer.
@@ -25,19 +23,12 @@ abbrev pub listRules : List ℕ → List (Rule (List ℕ))
 listRules s =
     labelRules s ++ (rangeRule (kindOf s) s ∷ overRule s ∷ cutRule s ∷ []) ++ headerRules (kindOf s) s ++ dataRules (kindOf s) s
 
--- A whole record stands there: none of them applies.
-unfoldable pub whole : List ℕ → Bool
-whole s = wholeBy listRules s
-
 -- Why the listing stops there: 0 at the end, else the refusal of the record that is not passed; and the number that goes with it, 0
 -- where none does.
 abbrev pub orZero : List ℕ → List ℕ
 orZero [] = []
 orZero (n ∷ []) = n ∷ 0 ∷ []
 orZero (n ∷ m ∷ rest) = n ∷ m ∷ rest
-
-unfoldable pub stopWords : (place : ℕ) → List ℕ → List ℕ
-stopWords place s = orZero (refusalBy listRules place s)
 
 -- ---- the text
 

@@ -21,14 +21,6 @@ heading =
 unfoldable pub line : (place size kind number : ℕ) → List ℕ
 line place size kind number = word place space ++ word size space ++ (letter kind ∷ space ∷ []) ++ word number lineEnd
 
--- Its most bytes: the place has 20 digits at most, the length 5, and the record number 10.
-abbrev pub mostLine : ℕ
-mostLine = 40
-
--- The room that it is put in: the record number, at most 29 bytes on, as any number of 64 bits.
-abbrev pub lineRoom : ℕ
-lineRoom = 50
-
 -- Numbers, a space between them.
 unfoldable pub numbersLine : List ℕ → List ℕ
 numbersLine [] = []

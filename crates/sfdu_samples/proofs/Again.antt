@@ -45,7 +45,7 @@ use Rattle.sfdu_samples.specs.Packing.{
   packed,
   allCoded,
 }
-use Rattle.sfdu_samples.specs.Inner.{Width}
+use Rattle.sfdu_samples.specs.inner.Unpacking.{Width}
 use Rattle.sfdu_samples.proofs.Values.{codes-some, value-code, code-value}
 use Rattle.sfdu_samples.proofs.Judged.{per-some}
 use Rattle.sfdu_samples.proofs.Unpacking.{length-samples, length-unpacked}

@@ -31,7 +31,7 @@ use mir.Val.{SFits}
 use Rattle.octets.specs.Octets.{all}
 use Rattle.octets.proofs.Laws.{all-at}
 use Rattle.sfdu_samples.specs.Packing.{twos, perHalf, halfWord}
-use Rattle.sfdu_samples.specs.Inner.{Width}
+use Rattle.sfdu_samples.specs.inner.Unpacking.{Width}
 use Rattle.sfdu_samples.proofs.Values.{minus, negated, doubled, codes-most}
 
 -- ---- a number in a run of digits

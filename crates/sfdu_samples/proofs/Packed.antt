@@ -12,7 +12,7 @@ use lib.Seq.{sets, drop-drop, getD-drop}
 use Rattle.octets.specs.Octets.{bytesOf}
 use Rattle.octets.proofs.Laws.{all-at, length-bytesOf}
 use Rattle.sfdu_samples.specs.Packing.{hasCode, codeOf, perHalf, perWord, halfWord, halfOf, wordOf, packedWords, allCoded}
-use Rattle.sfdu_samples.specs.Inner.{Width}
+use Rattle.sfdu_samples.specs.inner.Unpacking.{Width}
 use Rattle.sfdu_samples.proofs.Values.{codes-some, code-value}
 use Rattle.sfdu_samples.proofs.Runs.{sets-append}
 

@@ -12,7 +12,7 @@ use Rattle.sfdu_samples.specs.declared.Listed.{Listed}
 use Rattle.octets.proofs.Laws.{and-split}
 use Rattle.sfdu_samples.specs.Packing.{perHalf, halfWord}
 use Rattle.sfdu_samples.specs.Rates.{table, among, isListed}
-use Rattle.sfdu_samples.specs.Inner.{Width}
+use Rattle.sfdu_samples.specs.inner.Unpacking.{Width}
 
 abbrev pub rows : ℕ
 rows = 36

@@ -9,7 +9,7 @@ use lib.Dec.{eqb, ltb, lit<}
 use lib.IntN.{ℤ, pos, negsuc, negℤ, _+ℤ_, _-ℤ_, _*ℤ_}
 use Rattle.octets.proofs.Laws.{and-split, and-true, and-false}
 use Rattle.sfdu_samples.specs.Packing.{twos, valueOf, hasCode, codeOf, perHalf}
-use Rattle.sfdu_samples.specs.Inner.{Width, raised}
+use Rattle.sfdu_samples.specs.inner.Unpacking.{Width, raised}
 
 -- ---- integers
 

@@ -5,7 +5,7 @@ ghost use Prim.Native.Nat.{_+_, _*_, _≤_, _<_};
 ghost use lib.ListN.{length, drop};
 ghost use lib.Seq.{sets};
 ghost use Rattle.sfdu_samples.specs.Packing.{codeOf, hasCode, halfWord, perHalf, perWord, halfOf, wordOf, packedWords, allCoded};
-ghost use Rattle.sfdu_samples.specs.Inner.{Width, raised};
+ghost use Rattle.sfdu_samples.specs.inner.Unpacking.{Width, raised};
 use crate::unpacks::HALF;
 use crate::unpacks::WORD;
 use crate::unpacks::codes;

@@ -5,7 +5,7 @@ ghost use lib.ListN.{length};
 ghost use lib.Seq.{sets};
 ghost use Rattle.sfdu_samples.specs.Packing.{perHalf, perWord, twos, valueOf, samplesOf, unpackedWords};
 ghost use Rattle.sfdu_samples.specs.Calls.{wordsOf};
-ghost use Rattle.sfdu_samples.specs.Inner.{Width, unpackingData};
+ghost use Rattle.sfdu_samples.specs.inner.Unpacking.{Width, unpackingData};
 use crate::Answer;
 use crate::rates::is_listed;
 use refusals::Refusal;

@@ -10,7 +10,7 @@ use Rattle.sfdu_stream.specs.declared.Entry.{Entry}
 use Rattle.sfdu_stream.specs.declared.Turn.{Turn}
 use Rattle.sfdu_stream.specs.Walk.{wordsOf}
 use Rattle.sfdu_stream.specs.Listing.{Listing, listing, answer, fills, Columns, shortest, fillsColumns, listNumbers}
-use Rattle.sfdu_stream.specs.Turn.{TurnAt}
+use Rattle.sfdu_stream.specs.inner.Turn.{TurnAt}
 use Rattle.sfdu_stream.proofs.Filled.{fills-more, fills-length}
 use Rattle.sfdu_stream.proofs.Underway as Underway
 use Rattle.sfdu_stream.proofs.Underway.{Underway}

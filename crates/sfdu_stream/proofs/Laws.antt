@@ -12,7 +12,8 @@ use borrow.Author.Tests.{leb-true, leb-false}
 use Rattle.sfdu.specs.Read.{inStream, accepts, readOne}
 use Rattle.sfdu.proofs.Accepted.{Reads, accepted-one, refused-one, reads}
 use Rattle.sfdu_stream.specs.declared.Entry.{Entry}
-use Rattle.sfdu_stream.specs.Walk.{whole, past, full, refusal, wholeBy}
+use Rattle.sfdu_stream.specs.Walk.{whole, past, full, wholeBy}
+use Rattle.sfdu_stream.specs.inner.Refusal.{refusal}
 use Rattle.sfdu_stream.specs.Listing.{
   Listing,
   entryAt,

@@ -8,7 +8,8 @@ use lib.ListN.{length, drop, length-drop}
 use lib.Seq.{drop-drop}
 use Rattle.sfdu.specs.Read.{recordLength, readRules, accepts}
 use Rattle.sfdu.proofs.Accepted.{accepted}
-use Rattle.sfdu_stream.specs.Walk.{Rules, wholeBy, refusalBy, whole, past, full, refusal}
+use Rattle.sfdu_stream.specs.Walk.{Rules, wholeBy, refusalBy, whole, past, full}
+use Rattle.sfdu_stream.specs.inner.Refusal.{refusal}
 use Rattle.sfdu_stream.specs.Listing.{Listing, entryOf, entryAt, stopped, prepend, listingBy, listing, walkBy, walkFrom}
 
 -- ---- one place, by any rules

@@ -5,7 +5,8 @@ use mathlib.Core.Bool.{true, false}
 use mathlib.Core.List.{List, [], _∷_}
 use mathlib.Core.Path.{_≡_, sym, ap, _∙_}
 use lib.ListN.{length}
-use Rattle.sfdu_stream.specs.Walk.{whole, past, refusal}
+use Rattle.sfdu_stream.specs.Walk.{whole, past}
+use Rattle.sfdu_stream.specs.inner.Refusal.{refusal}
 use Rattle.sfdu_stream.specs.Listing.{Listing, stopped, walkFrom, walked}
 use Rattle.sfdu_stream.proofs.Places.{whole-record}
 use Rattle.sfdu_stream.proofs.Listings.{goes-on, stops}

@@ -12,12 +12,14 @@ use Rattle.refusals.specs.Judge.{judge}
 use Rattle.refusals.proofs.Judged.{Outcome, none, first, outcome, none-judge, first-judge}
 use Rattle.sfdu.specs.declared.Kind.{Kind}
 use Rattle.sfdu.specs.Nesting.{kindNumber, dataValueAt}
-use Rattle.sfdu.specs.Read.{kindOf, recordLength, readRules, inStream, accepts, wholeSize, recordWords, readOne}
+use Rattle.sfdu.specs.Read.{kindOf, recordLength, readRules, inStream, accepts, recordWords, readOne}
+use Rattle.sfdu.specs.inner.Checked.{wholeSize}
 use Rattle.sfdu.proofs.Placed.{placed}
 use Rattle.sfdu.proofs.Accepted.{accepted, found, words-refused, accepted-words, Reads, accepted-one, refused-one, reads}
 use Rattle.sfdu.proofs.Within.{second-inside}
-use Rattle.sfdu_stream.specs.Walk.{atEnd, whole, past, full, refusal, step, wholeBy, refusalBy}
-use Rattle.sfdu_stream.specs.Turn.{RecordAt}
+use Rattle.sfdu_stream.specs.Walk.{atEnd, whole, past, full, step, wholeBy, refusalBy}
+use Rattle.sfdu_stream.specs.inner.Refusal.{refusal}
+use Rattle.sfdu_stream.specs.inner.Turn.{RecordAt}
 
 -- Where a whole record stands, the place past it lies further on, and within the stream.
 pub record Whole (s : List ℕ) (at : ℕ) : Type 0 where

@@ -15,9 +15,10 @@ use Rattle.sfdu_headers.specs.Fields.{recordNumber}
 use Rattle.sfdu_stream.specs.declared.Entry.{Entry}
 use Rattle.sfdu_stream.specs.declared.Turn.{Turn}
 use Rattle.sfdu_stream.specs.declared.Walked.{Walked}
-use Rattle.sfdu_stream.specs.Walk.{wordsOf, whole, past, full, refusal}
+use Rattle.sfdu_stream.specs.Walk.{wordsOf, whole, past, full}
+use Rattle.sfdu_stream.specs.inner.Refusal.{refusal}
 use Rattle.sfdu_stream.specs.Listing.{Listing, entryAt, stopped, prepend, listing, answer, fills, listEntries, entryOf}
-use Rattle.sfdu_stream.specs.Turn.{RecordAt, TurnAt, noTurn}
+use Rattle.sfdu_stream.specs.inner.Turn.{RecordAt, TurnAt, noTurn}
 use Rattle.sfdu_stream.proofs.Places.{from-there, StepNone}
 use Rattle.sfdu_stream.proofs.Listings.{lists, lists-none, lists-full}
 

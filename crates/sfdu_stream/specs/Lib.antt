@@ -1,5 +1,5 @@
 pub mod Walk
 pub mod Listing
-pub mod Turn
 pub mod Laws
 pub mod Room
+pub mod inner

@@ -10,7 +10,7 @@ use Rattle.sfdu.specs.Read.{primaryWords, faultWords, recordLength, readRules, 
 use Rattle.sfdu_stream.specs.declared.Step.{Step}
 use Rattle.sfdu_stream.specs.declared.Step.the-variants.{Found, Done, Refused}
 use Rattle.sfdu_stream.specs.declared.Stop.{Stop}
-use Rattle.sfdu_stream.specs.declared.Stop.the-variants.{End, Refused as StopRefused}
+use Rattle.sfdu_stream.specs.declared.Stop.the-variants.{End}
 use Rattle.sfdu_stream.specs.declared.Walked.{Walked}
 
 -- ---- what the answers of the calls say
@@ -60,9 +60,6 @@ whole s at = wholeBy readRules (drop at s)
 -- The place past the whole record there.
 unfoldable pub past : List ℕ → ℕ → ℕ
 past s at = at + recordLength (drop at s)
-
-unfoldable pub refusal : List ℕ → ℕ → List ℕ
-refusal s at = refusalBy readRules at (drop at s)
 
 -- ---- the step
 

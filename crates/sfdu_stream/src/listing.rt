@@ -3,7 +3,7 @@ ghost use mathlib.Core.Path.{_≡_};
 ghost use Prim.Native.Nat.{min};
 ghost use Rattle.sfdu_stream.specs.Walk.{wordsOf};
 ghost use Rattle.sfdu_stream.specs.Listing.{entryAt, listNumbers, listEntries};
-ghost use Rattle.sfdu_stream.specs.Turn.{RecordAt, TurnAt, noTurn};
+ghost use Rattle.sfdu_stream.specs.inner.Turn.{RecordAt, TurnAt, noTurn};
 use crate::Cursor;
 use crate::Entry;
 use crate::Step;

@@ -27,10 +27,6 @@ decimal n = digits 10 (placesIn n n) n
 unfoldable pub word : ℕ → (after : ℕ) → List ℕ
 word n after = decimal n ++ (after ∷ [])
 
--- The most bytes of a word of a number of 64 bits: 20 digits, and the byte behind them.
-abbrev pub mostWord : ℕ
-mostWord = 21
-
 -- `new` is `old` with the text t put in from `at` on, which ends before r.
 pub record Puts (old new : List ℕ) (at r : ℕ) (t : List ℕ) : Type 0 where
   pub bytes : new ≡ put old at t

@@ -1,7 +1,8 @@
 // Text laid out in a lent slice. Each function puts its text from index `at` on and answers where it ends.
 ghost use Prim.Native.Nat.{_+_, _≤_};
 ghost use lib.ListN.{length};
-ghost use Rattle.text.specs.Text.{word, mostWord, Puts};
+ghost use Rattle.text.specs.Text.{word, Puts};
+ghost use Rattle.text.specs.inner.Room.{mostWord};
 
 pub const SPACE: u8 = b' ';
 

@@ -11,7 +11,8 @@ use lib.ListN.{length}
 use Rattle.text.specs.declared.State.{State}
 use Rattle.text.specs.State.{emptied}
 use Rattle.turns.specs.declared.Turn.{Turn}
-use Rattle.turns.specs.Turn.{textSize, Keeps, Going, Turns, Ends}
+use Rattle.turns.specs.Turn.{textSize, Keeps, Turns, Ends}
+use Rattle.turns.specs.inner.Turn.{Going}
 
 -- a test does not come out both ways
 never : {A : Type 0} (b : Bool) → b ≡ true → b ≡ false → A

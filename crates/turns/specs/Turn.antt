@@ -1,14 +1,13 @@
 -- What the turns of a listing program keep. No contract can say what the system reads or writes; these say what the buffers hold, and
 -- that each turn goes on with a run of the listing: `Stands` is the program's own, that a run stands at a state with what the buffers
 -- hold. `size` is the length of the buffer that is read into, and `most` the most text of a turn. Assumes nothing.
-use Prim.Native.Nat.{ℕ, _+_, _≤_, _<_, _^_}
+use Prim.Native.Nat.{ℕ, _+_, _≤_, _<_}
 use mathlib.Core.Bool.{true, false}
 use mathlib.Core.List.{List}
 use mathlib.Core.Path.{_≡_}
-use lib.ListN.{length, take}
+use lib.ListN.{length}
 use Rattle.text.specs.declared.State.{State}
 use Rattle.turns.specs.declared.Turn.{Turn}
-use Rattle.turns.specs.declared.Piece.{Piece}
 
 -- The text's buffer.
 abbrev pub textSize : ℕ
@@ -17,21 +16,6 @@ textSize = 65536
 -- What a program keeps of the two buffers and the state.
 abbrev pub Keeps : Type 1
 Keeps = List ℕ → List ℕ → State → Type 0
-
--- The listing goes on: there is room to read a piece more, in the text's buffer room for that of another turn, and the place does not
--- wrap.
-pub record Going (size most : ℕ) (w out : List ℕ) (s : State) : Type 0 where
-  pub window : length w ≡ size
-  pub buffer : length out ≡ textSize
-  pub room : s .have < size
-  pub text : s .text + most ≤ textSize
-  pub place : s .place + size < 2 ^ 64
-  pub on : s .done ≡ false
-
--- A piece stands behind the first `have` bytes, which are as they were.
-pub record Behind (w : List ℕ) (have : ℕ) (w′ : List ℕ) (p : Piece) : Type 0 where
-  pub held : take have w′ ≡ take have w
-  pub within : have + p .got ≤ length w′
 
 -- A turn goes on with the run, whether or not it failed, and where it did not fail and the listing goes on, so can the next turn.
 pub record Turns (Stands : Keeps) (size most : ℕ) (w out : List ℕ) (s : State) (w′ out′ : List ℕ) (r : Turn) : Type 0 where

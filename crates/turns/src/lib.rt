@@ -3,7 +3,7 @@ ghost use mathlib.Core.Path.{_≡_};
 ghost use Prim.Native.Nat.{_≤_, _<_};
 ghost use lib.ListN.{length};
 ghost use Rattle.text.specs.State.{emptied};
-ghost use Rattle.turns.specs.Turn.{Behind};
+ghost use Rattle.turns.specs.inner.Turn.{Behind};
 use libc::STDERR_FILENO;
 use libc::STDOUT_FILENO;
 use text::State;

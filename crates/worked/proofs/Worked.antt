@@ -10,7 +10,8 @@ use Rattle.sfdu_write.specs.Write.{labelBytes, block, primaryBlock, headBytes, 
 use Rattle.sfdu_headers.specs.Words.{number}
 use Rattle.sfdu_headers.specs.Fields.{signedByte, recordNumber}
 use Rattle.dates.specs.Calendar.{isLeap, yearLength, isYear, isDay}
-use Rattle.sfdu_headers.specs.Ranges.{isRsrBand, isBand, inRange, judgedBytes, fault}
+use Rattle.sfdu_headers.specs.Ranges.{isRsrBand, isBand, inRange, judgedBytes}
+use Rattle.sfdu_headers.specs.inner.Fault.{fault}
 use Rattle.sfdu_headers.specs.Headers.{readHeaders}
 use Rattle.keys.specs.Key.{validKey, telemetryKeyCall}
 use Rattle.keys.specs.Numbers.{modulus}

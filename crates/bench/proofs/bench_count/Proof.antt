@@ -1,7 +1,7 @@
 -- `bench::bench_count` meets its contract. Assumes nothing.
 use mathlib.Core.Path.{ap, _∙_}
 use borrow.Author.Tests.{eq-eqb, ne-eqb, lt-ltb, le-ltb}
-use Rattle.bench.specs.Digest.{counts}
+use Rattle.bench.specs.inner.Digest.{counts}
 use borrow.Author.Needs.{needs}
 use Rattle.bench.proofs.bench_count.Statement.{statement}
 use Rattle.bench.proofs.bench_count.Tie as tie

@@ -1,7 +1,7 @@
 -- `bench::bench_read_headers` meets its contract. Assumes nothing.
 use mathlib.Core.Path.{ap, sym, _∙_}
 use Rattle.sfdu_headers.specs.Headers.{wordsOf}
-use Rattle.bench.specs.Digest.{digest}
+use Rattle.bench.specs.inner.Digest.{digest}
 use borrow.Author.Needs.{needs}
 use Rattle.bench.proofs.bench_read_headers.Statement.{statement}
 use Rattle.bench.proofs.bench_read_headers.Tie as tie

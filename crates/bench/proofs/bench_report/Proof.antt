@@ -1,6 +1,6 @@
 -- `bench::bench_report` meets its contract. Assumes nothing.
 use mathlib.Core.Path.{ap, _∙_}
-use Rattle.bench.specs.Digest.{counts}
+use Rattle.bench.specs.inner.Digest.{counts}
 use borrow.Author.Needs.{needs}
 use Rattle.bench.proofs.bench_report.Statement.{statement}
 use Rattle.bench.proofs.bench_report.Tie as tie

@@ -3,7 +3,7 @@ use mathlib.Core.Path.{ap, sym, _∙_}
 use borrow.Author.Tests.{ne-eqb}
 use Rattle.refusals.proofs.Laws.{number-positive}
 use Rattle.ledger_sheet.specs.Words.{reportAnswerWords}
-use Rattle.bench.specs.Digest.{counts}
+use Rattle.bench.specs.inner.Digest.{counts}
 use borrow.Author.Needs.{needs}
 use Rattle.bench.proofs.reported.Statement.{statement}
 use Rattle.bench.proofs.reported.Tie as tie

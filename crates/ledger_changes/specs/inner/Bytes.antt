@@ -9,7 +9,8 @@ use Rattle.ledger_model.specs.Positions.{position, inRow}
 use Rattle.ledger_model.specs.Step.{alreadySo}
 use Rattle.ledger_sheet.specs.Sheet.{rowSize, openedAt, workedAt, deskSize}
 use Rattle.ledger_sheet.specs.Sheet.{headerNumberSize, usedAt, rowAt, deskAt, used, keyAt, firstNumberAt, deskRow}
-use Rattle.ledger_sheet.specs.Outcome.{Outcome, judged, done}
+use Rattle.ledger_sheet.specs.Outcome.{Outcome, judged}
+use Rattle.ledger_sheet.specs.inner.Done.{done}
 use Rattle.ledger_rows.specs.Ticks.{tickedAt}
 use Rattle.ledger_changes.specs.Rows.{rowBytes}
 use Rattle.ledger_changes.specs.inner.Rows.{setTick, clearTick, blankTicks}

@@ -2,7 +2,7 @@
 use mathlib.Core.Path.{sym, ap, _∙_}
 use mathlib.Core.List.{List}
 use Rattle.settings.specs.declared.Asked.{Asked}
-use Rattle.sfdu_gain.specs.Inner.{toldGain}
+use Rattle.sfdu_gain.specs.inner.Told.{toldGain}
 use borrow.Author.Needs.{needs}
 use Rattle.sfdu_gain.proofs.told_gain.Statement.{statement}
 use Rattle.sfdu_gain.proofs.told_gain.Tie as tie

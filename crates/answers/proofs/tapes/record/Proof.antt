@@ -2,7 +2,8 @@
 use mathlib.Core.Path.{_≡_, sym, ap, _∙_}
 use Rattle.idr.specs.declared.Read.{Read}
 use Rattle.idr.specs.Read.{wordsOf}
-use Rattle.answers.specs.Numbers.{numbersIn, withNone, tapeCount}
+use Rattle.answers.specs.Numbers.{numbersIn, withNone}
+use Rattle.answers.specs.inner.Numbers.{tapeCount}
 use Rattle.answers.proofs.Recorded.{tagged-numbers, refused-numbers}
 use borrow.Author.Needs.{needs}
 use Rattle.answers.proofs.tapes.record.Statement.{statement}

@@ -6,7 +6,7 @@ use Rattle.refusals.specs.declared.Refusal.{Refusal}
 use Rattle.refusals.specs.Table.{numberOf}
 use Rattle.refusals.proofs.Laws.{number-positive}
 use Rattle.dates.specs.Answers.{wordsOf}
-use Rattle.bench.specs.Digest.{dateNumber}
+use Rattle.bench.specs.inner.Digest.{dateNumber}
 use borrow.Author.Needs.{needs}
 use Rattle.bench.proofs.calendar.bench_date_of.Statement.{statement}
 use Rattle.bench.proofs.calendar.bench_date_of.Tie as tie

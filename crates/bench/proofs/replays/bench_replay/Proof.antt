@@ -1,7 +1,7 @@
 -- `replays::bench_replay` meets its contract. Assumes nothing.
 use mathlib.Core.Path.{ap, _∙_}
 use borrow.Author.Needs.{needs}
-use Rattle.bench.specs.Digest.{sumOf}
+use Rattle.bench.specs.inner.Digest.{sumOf}
 use Rattle.bench.proofs.replays.bench_replay.Statement.{statement}
 use Rattle.bench.proofs.replays.bench_replay.Tie as tie
 

@@ -7,7 +7,7 @@ use Rattle.refusals.specs.Table.{numberOf}
 use Rattle.refusals.proofs.Laws.{number-positive}
 use Rattle.sfdu_samples.specs.declared.Answer.{Answer}
 use Rattle.sfdu_samples.specs.Calls.{wordsOf}
-use Rattle.bench.specs.Digest.{tallied}
+use Rattle.bench.specs.inner.Digest.{tallied}
 use borrow.Author.Needs.{needs}
 use Rattle.bench.proofs.samples.tally.Statement.{statement}
 use Rattle.bench.proofs.samples.tally.Tie as tie

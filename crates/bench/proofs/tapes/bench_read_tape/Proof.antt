@@ -4,7 +4,7 @@ use mathlib.Core.List.{List, map}
 use mathlib.Core.Path.{sym, ap, _∙_}
 use Rattle.sfdu_headers.specs.Words.{number}
 use Rattle.idr.specs.Read.{wordsOf}
-use Rattle.bench.specs.Digest.{digest}
+use Rattle.bench.specs.inner.Digest.{digest}
 use borrow.Author.Needs.{needs}
 use Rattle.bench.proofs.tapes.bench_read_tape.Statement.{statement}
 use Rattle.bench.proofs.tapes.bench_read_tape.Tie as tie

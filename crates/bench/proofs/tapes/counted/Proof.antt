@@ -4,7 +4,7 @@ use mathlib.Core.Path.{sym, ap}
 use Rattle.sfdu_headers.specs.Words.{number}
 use Rattle.idr.specs.declared.Count.{Count}
 use Rattle.idr.specs.Read.{countWords}
-use Rattle.bench.specs.Digest.{digest}
+use Rattle.bench.specs.inner.Digest.{digest}
 use borrow.Author.Needs.{needs}
 use Rattle.bench.proofs.tapes.counted.Statement.{statement}
 use Rattle.bench.proofs.tapes.counted.Tie as tie

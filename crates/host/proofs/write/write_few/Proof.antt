@@ -5,7 +5,8 @@ use mathlib.Core.Path.{sym}
 use lib.ListN.{replicate, List·getD-append}
 use mir.Syntax.{w64}
 use borrow.Kind.Array.{eInt, good-length}
-use Rattle.answers.specs.Numbers.{numberCount, fewCount}
+use Rattle.answers.specs.Numbers.{numberCount}
+use Rattle.answers.specs.inner.Numbers.{fewCount}
 use Rattle.host.proofs.Bytes.{put-few}
 use borrow.Author.Needs.{needs}
 use Rattle.host.proofs.write.write_few.Statement.{statement}

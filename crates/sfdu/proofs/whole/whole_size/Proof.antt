@@ -4,7 +4,8 @@ use borrow.Author.Tests.{lt-ltb, le-ltb}
 use Rattle.refusals.specs.Judge.{judge}
 use Rattle.octets.proofs.Laws.{failed, passed}
 use Rattle.sfdu.specs.declared.Kind.the-variants.{Telemetry, Rsr}
-use Rattle.sfdu.specs.Read.{kindOf, accepts, wholeSize}
+use Rattle.sfdu.specs.Read.{kindOf, accepts}
+use Rattle.sfdu.specs.inner.Checked.{wholeSize}
 use Rattle.sfdu.proofs.Wholes.{tag-same, tag-other}
 use borrow.Author.Needs.{needs}
 use Rattle.sfdu.proofs.whole.whole_size.Statement.{statement}

@@ -3,7 +3,7 @@
 use native.Mathlib.Omega.{arith}
 use Prim.Native.Nat.{_≤_, _-_}
 use mathlib.Core.Path.{_≡_, refl, ap, sym, _∙_}
-use Rattle.sfdu.specs.Read.{checked}
+use Rattle.sfdu.specs.inner.Checked.{checked}
 use Rattle.octets.proofs.Laws.{failed, passed}
 use Rattle.sfdu_headers.specs.Ranges.{judgedBytes, byteRules}
 use Rattle.sfdu_headers.proofs.Table.{entries, faultFrom, from-start, from-end, fault-here, fault-past, at-low}

@@ -2,7 +2,7 @@
 use mathlib.Core.Path.{sym, _∙_}
 use Rattle.refusals.specs.Judge.{judge}
 use Rattle.octets.proofs.Laws.{failed, passed}
-use Rattle.sfdu_headers.specs.Ranges.{fault}
+use Rattle.sfdu_headers.specs.inner.Fault.{fault}
 use borrow.Author.Needs.{needs}
 use Rattle.sfdu_headers.proofs.telemetry.band_fault.Statement.{statement}
 use Rattle.sfdu_headers.proofs.telemetry.band_fault.Tie as tie

@@ -1,7 +1,8 @@
 -- `sfdu_headers::telemetry::fields` meets its contract. Assumes nothing.
 use mathlib.Core.Path.{sym, _∙_}
 use Rattle.sfdu.proofs.Labels.{all-right, one-wrong}
-use Rattle.sfdu_headers.specs.Ranges.{fault, fieldRules}
+use Rattle.sfdu_headers.specs.Ranges.{fieldRules}
+use Rattle.sfdu_headers.specs.inner.Fault.{fault}
 use Rattle.sfdu.specs.declared.Kind.the-variants.{Telemetry}
 use Rattle.sfdu.specs.Read.{primaryWords}
 use Rattle.sfdu_headers.specs.Headers.{outOfRange, telemetryFieldWords, receivedWords}

@@ -5,7 +5,7 @@ use native.Mathlib.Omega.{arith}
 use Prim.Native.Nat.{_+_, _-_}
 use mathlib.Core.Path.{sym, ap, _∙_}
 use lib.ListN.{length}
-use Rattle.sfdu_listing.specs.Window.{wordsOf}
+use Rattle.sfdu_listing.specs.inner.Window.{wordsOf}
 use Rattle.sfdu_listing.proofs.Draining.{
   part-length,
   record-there,

@@ -7,7 +7,7 @@ use mir.Syntax.{w32}
 use mir.Val.{SFits}
 use mir.ValLaws.{toZ-ofZ}
 use Rattle.sfdu_samples.specs.Bits.{bitsOf}
-use Rattle.sfdu_samples.specs.Inner.{raised}
+use Rattle.sfdu_samples.specs.inner.Unpacking.{raised}
 use borrow.Author.Needs.{needs}
 use Rattle.sfdu_samples.proofs.bits.to_bits.Statement.{statement}
 use Rattle.sfdu_samples.proofs.bits.to_bits.Tie as tie

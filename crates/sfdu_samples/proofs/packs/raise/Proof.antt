@@ -8,7 +8,7 @@ use lib.IntN.{ℤ, pos, negsuc, _+ℤ_}
 use mir.Syntax.{w32, w64}
 use mir.Val.{SFits}
 use mir.ValLaws.{toZ-pos, toZ-ofZ}
-use Rattle.sfdu_samples.specs.Inner.{raised}
+use Rattle.sfdu_samples.specs.inner.Unpacking.{raised}
 use Rattle.sfdu_samples.proofs.packs.raise.Statement.{statement}
 use Rattle.sfdu_samples.proofs.packs.raise.Tie as tie
 

@@ -115,7 +115,7 @@ use denote.Triple.Walked.{says, Stays, stay-none-slice, stay-slice, walkOf, AllG
 use denote.Triple.Clauses.{ensured, lasts}
 use denote.Exit.{yes}
 use Rattle.sfdu_stream.specs.Listing.{fills}
-use Rattle.sfdu_stream.specs.Turn.{TurnAt}
+use Rattle.sfdu_stream.specs.inner.Turn.{TurnAt}
 use Rattle.sfdu_stream.specs.declared.Entry.{Entry}
 use Rattle.sfdu_stream.specs.declared.Turn.{Turn}
 use Rattle.sfdu_stream.specs.declared.Walked.{Walked}

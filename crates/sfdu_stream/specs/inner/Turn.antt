@@ -9,7 +9,8 @@ use Rattle.sfdu.specs.declared.Kind.{Kind}
 use Rattle.sfdu.specs.Read.{kindOf, recordLength}
 use Rattle.sfdu_stream.specs.declared.Turn.{Turn}
 use Rattle.sfdu_stream.specs.declared.Walked.{Walked}
-use Rattle.sfdu_stream.specs.Walk.{wordsOf, whole, past, full, refusal}
+use Rattle.sfdu_stream.specs.Walk.{wordsOf, whole, past, full}
+use Rattle.sfdu_stream.specs.inner.Refusal.{refusal}
 use Rattle.sfdu_stream.specs.Listing.{entryAt}
 
 -- A whole record of that kind and length stands at a place.

@@ -3,7 +3,7 @@ use Prim.Native.Nat.{ℕ}
 use mathlib.Core.List.{List}
 use mathlib.Core.Path.{_≡_}
 use Rattle.sfdu.specs.declared.Checked.the-variants.{Right}
-use Rattle.sfdu.specs.Read.{checked}
+use Rattle.sfdu.specs.inner.Checked.{checked}
 use Rattle.dates.specs.Calendar.{dayCount}
 use Rattle.sfdu_headers.specs.declared.Dated.{Dated}
 use Rattle.sfdu_headers.specs.Fields.{year, day}

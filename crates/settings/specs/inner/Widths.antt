@@ -1,0 +1,9 @@
+-- How many bytes fields have. Assumes nothing.
+use Prim.Native.Nat.{ℕ, _+_}
+use mathlib.Core.List.{List, [], _∷_}
+use Rattle.settings.specs.Fields.{Field}
+
+-- Fields one after the other: how many bytes they are, and their bytes.
+abbrev pub widthOf : List Field → ℕ
+widthOf [] = 0
+widthOf ((w holding v) ∷ fs) = w + widthOf fs

@@ -1,0 +1,3 @@
+pub mod Stops
+pub mod Room
+pub mod Window

@@ -1,0 +1,11 @@
+-- Why a walk stops at a place in a stream, by read one's rules. Assumes nothing.
+use Prim.Native.Nat.{ℕ}
+use mathlib.Core.List.{List, []}
+use lib.ListN.{drop}
+use Rattle.sfdu.specs.Read.{readRules}
+use Rattle.sfdu_stream.specs.Walk.{refusalBy}
+
+-- ---- the same at a place in the stream s, by read one's rules
+
+unfoldable pub refusal : List ℕ → ℕ → List ℕ
+refusal s at = refusalBy readRules at (drop at s)
