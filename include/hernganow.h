@@ -1,8 +1,8 @@
 /* Hernganow's calls on records, samples, stream keys, dates, ledger sheets and mission agreements, for programs in C and C++. Link
  * libhost.a (`rt staticlib host`).
  *
- * Each call answers as the proved library's call does, for every input whose pointers are good for their lengths and whose slices do not
- * overlap. It returns 0, or the number of the refusal, and writes its answer, a refusal's too, into the last slice: HERNGANOW_ANSWER
+ * Each call answers as the proved library's call does, whatever the bytes and numbers are. The caller sees to it that every pointer has
+ * as many bytes or numbers as its length says, and that no two slices overlap. A call returns 0, or the number of the refusal, and writes its answer, a refusal's too, into the last slice: HERNGANOW_ANSWER
  * bytes, 32 numbers of 8 bytes, most significant byte first. The first is the number that is returned; HERNGANOW_AT_.. name the others.
  * Each number of a none is HERNGANOW_NONE; numbers that the answer does not have are 0. A signed number is in two's complement.
  *
@@ -33,7 +33,7 @@ enum hernganow_refusal {
     /* Records: the reader. */
     HERNGANOW_REFUSED_TOO_SHORT = 1, /* fewer bytes than a label */
     HERNGANOW_REFUSED_AUTHORITY = 2, /* bytes 0 to 3 are not NJPL */
-    HERNGANOW_REFUSED_LABEL_CONTROL = 3, /* bytes 4 to 7 are not 2I00 */
+    HERNGANOW_REFUSED_VERSION_CLASS = 3, /* bytes 4 to 7 are not 2I00 */
     HERNGANOW_REFUSED_UNKNOWN_KIND = 4, /* bytes 8 to 11 name no kind */
     HERNGANOW_REFUSED_LABEL_LENGTH = 5, /* label length out of bounds */
     HERNGANOW_REFUSED_TRUNCATED = 6, /* the record ends past the slice */
@@ -326,7 +326,7 @@ uint32_t hernganow_convert(
 
 /* Makes the slice a fresh sheet, whatever it held, and plays a trace of a night's calls over it, up to the first that answers otherwise than is
  * written. Answers that entry, counted from 0, the number that its call answered, and enrol's row or 0; where every call answers as written,
- * none: all three all ones. The sheet is left as after that entry's call, or the last. docs/INTERFACE.md has the trace's bytes.
+ * none: all three all ones. The sheet is left as that entry's call made it, or the last call. docs/INTERFACE.md has the trace's bytes.
  * Refused: 20, where the slice is not HERNGANOW_SHEET bytes; 40, where the trace is not well-formed: the sheet stays as it was. */
 uint32_t hernganow_replay(
     const uint8_t *trace, size_t trace_length,

@@ -16,7 +16,7 @@ numberCount = 32
 abbrev pub allOnes : ℕ
 allOnes = 18446744073709551615
 
--- A number below zero, of which the first is -1, has the bits that the numbers from 0 on have, each turned.
+-- A number below zero, of which the first is -1, has the bits that the numbers from 0 on have, each inverted.
 abbrev pub twosComplement : ℤ → ℕ
 twosComplement (pos n) = n
 twosComplement (negsuc n) = allOnes - n

@@ -18,7 +18,7 @@ rsrStart = 2 ^ 42
 abbrev pub rsrEnd : ℕ
 rsrEnd = rsrStart + 2 ^ 32
 
--- An RSR key (the house's own rule): a byte each of subchannel, receiver, station and spacecraft, above 2^42.
+-- An RSR key: a byte each of subchannel, receiver, station and spacecraft, above 2^42.
 abbrev pub rsrKey : (spacecraft station receiver subchannel : ℕ) → ℕ
 rsrKey spacecraft station receiver subchannel = rsrStart + spacecraft * 2 ^ 24 + station * 2 ^ 16 + receiver * 2 ^ 8 + subchannel
 

@@ -1,5 +1,5 @@
 -- A call as its code makes it, by rows of the table and then what it does to the bytes, is the model's call on the book that the
--- sheet holds: the law of `layout`. Assumes nothing.
+-- sheet holds: the law of `ledger_layout`. Assumes nothing.
 use Prim.Native.Nat.{ℕ}
 use mathlib.Core.List.{List, [], _∷_}
 use native.Mathlib.Omega.{arith}

@@ -1,4 +1,4 @@
--- "a row starts from a blank map of 128 zero bytes": the row that `enrol` answers reads back, by its contract, as the value with the
+-- A row starts blank: the one that `enrol` answers reads back, by its contract, as the value with the
 -- key, the first number and no ticks. Assumes nothing.
 use Prim.Native.Nat.{ℕ, _<_, _^_}
 use mathlib.Core.Bool.{Bool, true, false}

@@ -51,7 +51,7 @@ pub fn find(s: &[u8], key: u64) -> RowAnswer
     RowAnswer::Row(find_row(s, key) as u32)
 }
 
-// Opens a row at a desk (the paper's "open").
+// Opens a row at a desk.
 pub fn open(s: &mut [u8], desk: u32, row: u32) -> Answer
     ensures { λ r. ⌜ (answerWords r, now (s .exit)) ≡ onSheet (call (Open desk row)) (now (s .entry)) ⌝ }
 {

@@ -98,7 +98,7 @@ value-is s a key first ticks l k f t agree =
     ∙ row-ticks key first ticks t in
     rw (ek, ef, et)
 
--- ---- enrol, then read: "a row starts from a blank map of 128 zero bytes"
+-- ---- enrol, then read: a row starts with 128 zero bytes of ticks
 
 pub enrolled-blank : (s : List ℕ) (i key first : ℕ) → length s ≡ sheetSize → i < rowCount → key < 256 ^ keySize → first < 256 ^ firstSize
     → rowValueAt (enrolAt i key first s) (rowAt i) ≡ blankRow key first

@@ -1,4 +1,4 @@
--- What the contracts of `changes` cite.
+-- What the contracts of `ledger_changes` cite.
 pub mod Rows
 pub mod Bytes
 pub mod inner

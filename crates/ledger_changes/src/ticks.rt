@@ -16,7 +16,7 @@ ghost use Rattle.ledger_sheet.specs.Words.{answerWords};
 // How many positions a row has.
 pub const POSITIONS: usize = sheet::BYTE_BITS * sheet::TICKS;
 
-// Ticks or unticks number n in the worked copy of desk d, which is lent on as that middle part of the sheet.
+// Ticks or unticks number n in the worked copy of desk d: those bytes alone are lent on.
 pub fn mark_desk(s: &mut [u8], d: usize, n: u32, on: bool) -> Answer
     requires { ⌜ (length (now s) ≡ sheetSize) × (d < deskCount) ⌝ }
     ensures { λ r. ⌜ (answerWords r, now (s .exit)) ≡ markDesk on d n (now (s .entry)) ⌝ }

@@ -40,7 +40,7 @@ converted-answers old new t e =
       same-calls = λ c. ap (onSheet (call c)) (a .1) ∙ on-layout (call c) (oldBookOf old) fine;
     }
 
--- "an old sheet given to a new call is 20"
+-- A new call refuses an old sheet with 20.
 pub old-refused : (old : List ℕ) → Old.right old ≡ true → (f : Book → List ℕ × Book) → onSheet f old ≡ (20 ∷ [], old)
 unfolding onSheet right
 old-refused old r f = rw (ne-eqb (length old) sheetSize (λ e. omega (arith, long old r)))

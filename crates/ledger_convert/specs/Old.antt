@@ -168,7 +168,7 @@ openNames s d =
     isClosed s d
     || (ltb (deskRow s d) (used s) && carries s (deskAt d + openedAt) (deskRow s d) && carries s (deskAt d + workedAt) (deskRow s d))
 
--- What the paragraph says of desk d.
+-- Desk d is right.
 unfoldable pub deskRight : List ℕ → ℕ → Bool
 deskRight s d = closedZero s d && deskMarked s d && openNames s d
 

@@ -34,7 +34,7 @@ module _ (key first n r : ℕ) where
   unfolding numberAt
   rsr-number k e = rw (rsr-modulus key k) (omega arith)
 
--- "With first 65,530, number 2 stands at position 8." The number after 65,535 is 0.
+-- In an RSR row from 65,530, number 2 has position 8 (document 02, Req 03): the number after 65,535 is 0.
 pub example-03 : (position rsrStart 65530 2 ≡ 8) × (numberAt rsrStart 65530 6 ≡ 0)
 unfolding position numberAt modulus
 example-03 = (refl, refl)

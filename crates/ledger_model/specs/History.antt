@@ -1,5 +1,5 @@
 -- The serial history of a log, document 01's "tidy list": the accepted enrolments, strikes and saves in their order, each save
--- with its transaction (the paper's "visit") before it, as if the desks had taken turns. Assumes nothing.
+-- with its transaction (a visit, in document 01) before it, as if the desks had taken turns. Assumes nothing.
 use Prim.Native.Nat.{ℕ}
 use mathlib.Core.Bool.{Bool, false, cond, _&&_}
 use mathlib.Core.List.{List, [], _∷_, _++_}

@@ -1,5 +1,5 @@
--- The model of the ledger, document 01's "The plain book": what each call answers, and what it changes. The model is fed the calls
--- with their keys and numbers, in order, and nothing else; it sees no sheet, so 20 never arises in it. Assumes nothing.
+-- The model of the ledger, document 01's "The plain book": what each call answers, and what it changes. It has places and
+-- desks and no bytes, and its calls have no sheet, so none is refused with 20. Assumes nothing.
 use Prim.Native.Nat.{ℕ}
 use mathlib.Core.Bool.{Bool, true, false, cond, not, Bool·beq}
 use mathlib.Core.List.{List, [], _∷_, map}

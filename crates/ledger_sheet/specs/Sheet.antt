@@ -163,7 +163,7 @@ count (suc n) p = count n p + cond (p n) 1 0
 unfoldable pub countRight : List ℕ → Bool
 countRight s = eqb (count rowCount (isUsed s)) (used s)
 
--- The keys of used rows are valid, and no two the same.
+-- The keys of used rows are valid.
 unfoldable pub validKeys : List ℕ → Bool
 validKeys s = all rowCount (λ i. not (isUsed s i) || validKey (keyAt s (rowAt i)))
 
@@ -171,6 +171,7 @@ validKeys s = all rowCount (λ i. not (isUsed s i) || validKey (keyAt s (rowAt i
 unfoldable pub isNew : List ℕ → (n key : ℕ) → Bool
 isNew s n key = all n (λ j. not (isUsed s j) || not (eqb (keyAt s (rowAt j)) key))
 
+-- No two used rows have the same key.
 unfoldable pub differentKeys : List ℕ → Bool
 differentKeys s = all rowCount (λ i. not (isUsed s i) || isNew s i (keyAt s (rowAt i)))
 
@@ -199,7 +200,7 @@ openNames s d =
     isClosed s d
     || (isRow s (deskRow s d) && carries s (deskAt d + openedAt) (deskRow s d) && carries s (deskAt d + workedAt) (deskRow s d))
 
--- What the paragraph says of desk d.
+-- Desk d is right.
 unfoldable pub deskRight : List ℕ → ℕ → Bool
 deskRight s d = closedZero s d && deskMarked s d && openNames s d
 

@@ -9,7 +9,7 @@ use Rattle.refusals.specs.declared.Refusal.{Refusal}
 use Rattle.refusals.specs.declared.Refusal.the-variants.{
   TooShort,
   Authority,
-  LabelControl,
+  VersionClass,
   UnknownKind,
   LabelLength,
   Truncated,
@@ -63,7 +63,7 @@ use Rattle.refusals.specs.Table.{numberOf}
 -- The table back from the numbers: entry n is the refusal with number n; where no refusal has the number, the first.
 back : List Refusal
 back =
-    TooShort ∷ TooShort ∷ Authority ∷ LabelControl ∷ UnknownKind ∷ LabelLength ∷ Truncated ∷ AggregationLabel ∷ PrimaryLabel
+    TooShort ∷ TooShort ∷ Authority ∷ VersionClass ∷ UnknownKind ∷ LabelLength ∷ Truncated ∷ AggregationLabel ∷ PrimaryLabel
     ∷ SecondaryLabel ∷ DataType ∷ DataLength ∷ FieldRange ∷ WriterSpace ∷ WriterInput ∷ WrongKind ∷ ListFull ∷ BufferSize
     ∷ TooShort ∷ SamplePair ∷ NotSheet ∷ NoDesk ∷ BadKey ∷ AlreadyEnrolled ∷ LedgerFull ∷ NoRow ∷ DeskOpen ∷ DeskClosed
     ∷ OutsideRow ∷ AlreadyTicked ∷ NotTicked ∷ Stale ∷ FirstNumber ∷ DayCount ∷ SampleWords ∷ SampleSpace ∷ RowOpen ∷ SampleValue
@@ -77,7 +77,7 @@ found : (r : Refusal) → refusalOf (numberOf r) ≡ r
 unfolding refusalOf back
 found TooShort = refl
 found Authority = refl
-found LabelControl = refl
+found VersionClass = refl
 found UnknownKind = refl
 found LabelLength = refl
 found Truncated = refl

@@ -4,7 +4,7 @@ use Rattle.refusals.specs.declared.Refusal.{Refusal}
 use Rattle.refusals.specs.declared.Refusal.the-variants.{
   TooShort,
   Authority,
-  LabelControl,
+  VersionClass,
   UnknownKind,
   LabelLength,
   Truncated,
@@ -57,7 +57,7 @@ use Rattle.refusals.specs.declared.Refusal.the-variants.{
 abbrev pub numberOf : Refusal → ℕ
 numberOf TooShort = 1
 numberOf Authority = 2
-numberOf LabelControl = 3
+numberOf VersionClass = 3
 numberOf UnknownKind = 4
 numberOf LabelLength = 5
 numberOf Truncated = 6

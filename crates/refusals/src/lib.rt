@@ -6,7 +6,7 @@ pub enum Refusal {
     // Records: the reader.
     TooShort,
     Authority,
-    LabelControl,
+    VersionClass,
     UnknownKind,
     LabelLength,
     Truncated,
@@ -71,7 +71,7 @@ pub fn number(r: Refusal) -> u32
     match r {
         Refusal::TooShort => 1,
         Refusal::Authority => 2,
-        Refusal::LabelControl => 3,
+        Refusal::VersionClass => 3,
         Refusal::UnknownKind => 4,
         Refusal::LabelLength => 5,
         Refusal::Truncated => 6,

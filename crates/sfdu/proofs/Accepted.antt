@@ -15,9 +15,9 @@ use Rattle.sfdu.specs.declared.Kind.the-variants.{Telemetry, Rsr}
 use Rattle.sfdu.specs.Nesting.{
   kindNumber,
   authority,
-  control,
+  versionClass,
   authorityAt,
-  controlAt,
+  versionClassAt,
   tagSize,
   labelSize,
   aggregationAt,
@@ -189,7 +189,7 @@ primary-found f = let w = f .words in cc
 pub record Accepted (s : List ℕ) : Type 0 where
   pub label : labelSize ≤ length s
   pub authority-right : sameAt s authorityAt authority 0 tagSize ≡ true
-  pub control-right : sameAt s controlAt control 0 tagSize ≡ true
+  pub versionClass-right : sameAt s versionClassAt versionClass 0 tagSize ≡ true
   pub kind-right : hasKind (kindOf s) s ≡ true
   pub least : leastLabelLength (kindOf s) ≤ labelLength s
   pub most : labelLength s ≤ mostLabelLength (kindOf s)
@@ -222,7 +222,7 @@ accepted s a =
     record {
       label = ltb-false _ _ (h .0);
       authority-right = not-false _ (h .1 .0);
-      control-right = not-false _ (h .1 .1 .0);
+      versionClass-right = not-false _ (h .1 .1 .0);
       kind-right = picked s (not-false _ (h .1 .1 .1 .0));
       least = r .0;
       most = r .1;

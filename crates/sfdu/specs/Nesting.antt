@@ -16,8 +16,8 @@ kindNumber Rsr = 2
 abbrev pub authority : List ℕ
 authority = 78 ∷ 74 ∷ 80 ∷ 76 ∷ []
 
-abbrev pub control : List ℕ
-control = 50 ∷ 73 ∷ 48 ∷ 48 ∷ []
+abbrev pub versionClass : List ℕ
+versionClass = 50 ∷ 73 ∷ 48 ∷ 48 ∷ []
 
 abbrev pub kindBytes : Kind → List ℕ
 kindBytes Telemetry = 48 ∷ 56 ∷ 48 ∷ 48 ∷ []
@@ -26,8 +26,8 @@ kindBytes Rsr = 67 ∷ 57 ∷ 57 ∷ 55 ∷ []
 abbrev pub authorityAt : ℕ
 authorityAt = 0
 
-abbrev pub controlAt : ℕ
-controlAt = 4
+abbrev pub versionClassAt : ℕ
+versionClassAt = 4
 
 abbrev pub kindAt : ℕ
 kindAt = 8

@@ -17,10 +17,10 @@ use Rattle.sfdu.specs.declared.Read.the-variants.{Record, Refused}
 use Rattle.sfdu.specs.Nesting.{
   kindNumber,
   authority,
-  control,
+  versionClass,
   kindBytes,
   authorityAt,
-  controlAt,
+  versionClassAt,
   kindAt,
   tagSize,
   lengthAt,
@@ -96,7 +96,7 @@ n giving m = n ∷ m ∷ []
 abbrev pub tagRules : List ℕ → List (Rule (List ℕ))
 tagRules s =
     (2 giving authorityAt when not (sameAt s authorityAt authority 0 tagSize))
-    ∷ (3 giving controlAt when not (sameAt s controlAt control 0 tagSize))
+    ∷ (3 giving versionClassAt when not (sameAt s versionClassAt versionClass 0 tagSize))
     ∷ (4 giving kindAt when not (hasKind Telemetry s || hasKind Rsr s))
     ∷ []
 

@@ -11,7 +11,7 @@ pub const RSR_NUMBER: u32 = 2;
 // The label: three tags of four bytes, and the length of what follows it.
 pub const AUTHORITY_AT: usize = 0;
 
-pub const CONTROL_AT: usize = 4;
+pub const VERSION_CLASS_AT: usize = 4;
 
 pub const KIND_AT: usize = 8;
 
@@ -19,7 +19,7 @@ pub const TAG: usize = 4;
 
 pub const AUTHORITY: [u8; TAG] = *b"NJPL";
 
-pub const CONTROL: [u8; TAG] = *b"2I00";
+pub const VERSION_CLASS: [u8; TAG] = *b"2I00";
 
 pub const TELEMETRY: [u8; TAG] = *b"0800";
 

@@ -11,9 +11,9 @@ ghost use Rattle.refusals.specs.Table.{numberOf};
 ghost use Rattle.octets.specs.Octets.{sameAt};
 ghost use Rattle.sfdu.specs.Nesting.{
   authority,
-  control,
+  versionClass,
   authorityAt,
-  controlAt,
+  versionClassAt,
   tagSize,
   labelSize,
   blockLabelSize,
@@ -77,8 +77,8 @@ pub fn read_one(s: &[u8]) -> Read
     if !has_authority(s) {
         return refused(Refusal::Authority, nesting::AUTHORITY_AT);
     }
-    if !has_control(s) {
-        return refused(Refusal::LabelControl, nesting::CONTROL_AT);
+    if !has_version_class(s) {
+        return refused(Refusal::VersionClass, nesting::VERSION_CLASS_AT);
     }
     let tag = load_u32(s, nesting::KIND_AT);
     if tag == nesting::TELEMETRY_TAG {
@@ -109,11 +109,17 @@ pub fn has_authority(s: &[u8]) -> bool
     )
 }
 
-pub fn has_control(s: &[u8]) -> bool
+pub fn has_version_class(s: &[u8]) -> bool
     requires { ⌜ labelSize ≤ length (now s) ⌝ }
-    ensures { λ r. ⌜ r ≡ sameAt (now (s .entry)) controlAt control 0 tagSize ⌝ }
+    ensures { λ r. ⌜ r ≡ sameAt (now (s .entry)) versionClassAt versionClass 0 tagSize ⌝ }
 {
-    is_same(s, nesting::CONTROL_AT, &nesting::CONTROL, 0, nesting::TAG)
+    is_same(
+        s,
+        nesting::VERSION_CLASS_AT,
+        &nesting::VERSION_CLASS,
+        0,
+        nesting::TAG,
+    )
 }
 
 // The refusals from the label's length on.

@@ -26,7 +26,7 @@ use crate::Kind;
 use crate::loads::load_u32;
 use crate::nesting;
 use crate::reader::has_authority;
-use crate::reader::has_control;
+use crate::reader::has_version_class;
 use crate::reader::label_length;
 use crate::reader::length_in_range;
 
@@ -42,7 +42,7 @@ pub fn whole_size(s: &[u8]) -> usize
     if !has_authority(s) {
         return 0;
     }
-    if !has_control(s) {
+    if !has_version_class(s) {
         return 0;
     }
     let tag = load_u32(s, nesting::KIND_AT);

@@ -1,5 +1,5 @@
 // Lists streams of records: the files that its arguments name, one after the other, or standard input where there is none. The
-// work is in `listing`, on slices; here are the calls of the system.
+// work is in `sfdu_listing`, on slices; here are the calls of the system.
 ghost use mathlib.Core.Path.{_≡_};
 ghost use lib.ListN.{length};
 ghost use Rattle.sfdu_listing.specs.Listing.{bufferSize};

@@ -1,4 +1,4 @@
--- Document 01's example: "The program, given one telemetry record of 120 bytes, number 7, writes exactly" these three lines.
+-- Document 01's example, as request 05 has it: what the program writes for one telemetry record of 120 bytes, number 7.
 -- Assumes nothing.
 use mathlib.Core.List.{List, [], _∷_, _++_}
 use mathlib.Core.Path.{_≡_, refl}

@@ -17,9 +17,9 @@ use Rattle.sfdu.specs.declared.Kind.the-variants.{Telemetry, Rsr}
 use Rattle.refusals.proofs.Judged.{NoneHolds, First, here}
 use Rattle.sfdu.specs.Nesting.{
   authority,
-  control,
+  versionClass,
   authorityAt,
-  controlAt,
+  versionClassAt,
   kindBytes,
   kindAt,
   tagSize,
@@ -145,7 +145,7 @@ module _ (s m : List ℕ) where
   first-same h =
       rw (
         same-first authorityAt authority tagSize (omega arith),
-        same-first controlAt control tagSize (omega arith),
+        same-first versionClassAt versionClass tagSize (omega arith),
         kind-first h Telemetry,
         kind-first h Rsr,
         kind-same h,

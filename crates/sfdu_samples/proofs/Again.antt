@@ -210,7 +210,7 @@ module _ (w : ℕ) (h : Width w) where
   pub unpacked-whole : (s : List ℕ) → length (unpacked w s) % perWord w ≡ 0
   unpacked-whole s = rw length-unpacked (mul-mod-left (length s / 4) (perWord w))
 
-  -- "Unpacking then packing gives the same data part."
+  -- Packing what was unpacked gives the data part again.
   pub packed-unpacked : (s : List ℕ) → Bytes s → length s % 4 ≡ 0 → packed w (unpacked w s) ≡ s
   packed-unpacked s b e =
       let n : length (unpacked w s) / perWord w ≡ length s / 4 = rw length-unpacked (mul-div-cancel (length s / 4) per) in

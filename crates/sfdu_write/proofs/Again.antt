@@ -15,10 +15,10 @@ use Rattle.octets.proofs.Parts.{bytes-number, part-join, part-whole, same-part}
 use Rattle.sfdu.specs.declared.Primary.{Primary}
 use Rattle.sfdu.specs.Nesting.{
   authority,
-  control,
+  versionClass,
   kindBytes,
   authorityAt,
-  controlAt,
+  versionClassAt,
   kindAt,
   tagSize,
   lengthAt,
@@ -75,11 +75,11 @@ module _ (s : List ℕ) (b : Bytes s) (f : Accepted s) where
   label-part =
       let n : recordLength s - labelSize ≡ labelLength s = omega (arith, f .size) in
       let one = tag s authorityAt authority refl (omega (arith, f .label)) (f .authority-right) in
-      let two = tag s controlAt control refl (omega (arith, f .label)) (f .control-right) in
+      let two = tag s versionClassAt versionClass refl (omega (arith, f .label)) (f .versionClass-right) in
       let three = tag s kindAt (kindBytes (kindOf s)) (length-kind (kindOf s)) (omega (arith, f .label)) (f .kind-right) in
-      let tags : authority ++ control ≡ part s 0 kindAt =
-      ap (λ (x : List ℕ). x ++ control) one ∙ ap (λ (x : List ℕ). part s authorityAt tagSize ++ x) two
-      ∙ part-join s 0 tagSize controlAt tagSize kindAt refl refl in
+      let tags : authority ++ versionClass ≡ part s 0 kindAt =
+      ap (λ (x : List ℕ). x ++ versionClass) one ∙ ap (λ (x : List ℕ). part s authorityAt tagSize ++ x) two
+      ∙ part-join s 0 tagSize versionClassAt tagSize kindAt refl refl in
       ap (λ (x : List ℕ). x ++ kindBytes (kindOf s) ++ bytesOf lengthSize (recordLength s - labelSize)) tags
       ∙ rw (
         three,

@@ -17,10 +17,10 @@ use Rattle.sfdu.specs.declared.Primary.{Primary}
 use Rattle.sfdu.specs.Nesting.{
   kindNumber,
   authority,
-  control,
+  versionClass,
   kindBytes,
   authorityAt,
-  controlAt,
+  versionClassAt,
   kindAt,
   tagSize,
   lengthAt,
@@ -155,19 +155,19 @@ module _ (k : Kind) (p : Primary) (secondary value rest : List ℕ) (hs : length
   unfolding label blocks aggregation head headBytes
   by-label = by-head ∙ simp append-assoc
 
-  by-tags : slice ≡ authority ++ (control ++ (kindBytes k ++ (bytesOf lengthSize (sizeOf k value - labelSize) ++ blocks)))
+  by-tags : slice ≡ authority ++ (versionClass ++ (kindBytes k ++ (bytesOf lengthSize (sizeOf k value - labelSize) ++ blocks)))
   unfolding label labelBytes
   by-tags = by-label ∙ simp append-assoc
 
   has-authority : sameAt slice authorityAt authority 0 tagSize ≡ true
   has-authority = rw by-tags (piece-same [] authority _ 0 tagSize refl refl)
 
-  has-control : sameAt slice controlAt control 0 tagSize ≡ true
-  has-control = rw by-tags (piece-same authority control _ controlAt tagSize refl refl)
+  has-versionClass : sameAt slice versionClassAt versionClass 0 tagSize ≡ true
+  has-versionClass = rw by-tags (piece-same authority versionClass _ versionClassAt tagSize refl refl)
 
   has-kind : hasKind k slice ≡ true
   unfolding hasKind
-  has-kind = rw by-tags (piece-same (authority ++ control) (kindBytes k) _ kindAt tagSize refl (length-kind k))
+  has-kind = rw by-tags (piece-same (authority ++ versionClass) (kindBytes k) _ kindAt tagSize refl (length-kind k))
 
   small : sizeOf k value - labelSize < 256 ^ lengthSize
   small = let q = placed k in omega arith
@@ -176,7 +176,7 @@ module _ (k : Kind) (p : Primary) (secondary value rest : List ℕ) (hs : length
   unfolding labelLength
   label-length =
       rw by-tags
-      (piece-number (authority ++ control ++ kindBytes k) blocks lengthAt lengthSize _ (length-append (authority ++ control) (kindBytes k)
+      (piece-number (authority ++ versionClass ++ kindBytes k) blocks lengthAt lengthSize _ (length-append (authority ++ versionClass) (kindBytes k)
       ∙ rw (length-kind k)) small)
 
   record-length : recordLength slice ≡ sizeOf k value
@@ -266,7 +266,7 @@ module _ (k : Kind) (p : Primary) (secondary value rest : List ℕ) (hs : length
         (
           ap not has-authority,
           (
-            ap not has-control,
+            ap not has-versionClass,
             (
               ap not (either-kind k slice has-kind),
               rw kind-found (

@@ -15,7 +15,7 @@ use Rattle.sfdu_write.specs.declared.Write.the-variants.{Written, Refuse
 use Rattle.sfdu.specs.Nesting.{
   kindNumber,
   authority,
-  control,
+  versionClass,
   kindBytes,
   lengthSize,
   labelSize,
@@ -40,7 +40,7 @@ wordsOf (Refused r) = numberOf r ∷ []
 -- ---- the bytes of a record
 
 unfoldable pub labelBytes : Kind → (n : ℕ) → List ℕ
-labelBytes k n = authority ++ control ++ kindBytes k ++ bytesOf lengthSize (n - labelSize)
+labelBytes k n = authority ++ versionClass ++ kindBytes k ++ bytesOf lengthSize (n - labelSize)
 
 unfoldable pub block : (type : ℕ) → (size : ℕ) → List ℕ
 block type size = bytesOf wordSize type ++ bytesOf wordSize size

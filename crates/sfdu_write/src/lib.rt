@@ -100,7 +100,7 @@ fn write_label(kind: Kind, size: usize, out: &mut [u8])
     ensures { λ _. ⌜ now (out .exit) ≡ put (now (out .entry)) 0 (labelBytes kind size) ⌝ }
 {
     octets::copy_in(&sfdu::AUTHORITY, out, sfdu::AUTHORITY_AT);
-    octets::copy_in(&sfdu::CONTROL, out, sfdu::CONTROL_AT);
+    octets::copy_in(&sfdu::VERSION_CLASS, out, sfdu::VERSION_CLASS_AT);
     octets::copy_in(&sfdu::kind_tag(kind), out, sfdu::KIND_AT);
     write_be(
         out,

@@ -1,4 +1,4 @@
--- One number made of an answer, by which the benchmarks hold two implementations to the same. Assumes nothing.
+-- One number made of an answer, by which the benchmarks compare two implementations. Assumes nothing.
 use Prim.Native.Nat.{ℕ, _+_, _*_, _^_}
 use mathlib.Core.Bool.{Bool, cond, _&&_}
 use mathlib.Core.List.{List, [], _∷_}

@@ -1,5 +1,5 @@
 -- Each call of the ledger on the bytes of a sheet: judged by its rows of the refusal table, and then what it does to them. The law
--- between these and the model's calls is in `layout`. Assumes nothing.
+-- between these and the model's calls is in `ledger_layout`. Assumes nothing.
 use Prim.Native.Nat.{ℕ}
 use mathlib.Core.Bool.{Bool, not}
 use mathlib.Core.List.{List, [], _∷_}

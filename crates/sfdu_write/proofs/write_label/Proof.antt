@@ -7,7 +7,7 @@ use lib.ListN.{length-append}
 use Rattle.octets.specs.Octets.{bytesOf}
 use Rattle.octets.proofs.Laws.{length-bytesOf}
 use Rattle.octets.proofs.Puts.{put-next}
-use Rattle.sfdu.specs.Nesting.{authority, control, kindBytes, labelSize, lengthSize}
+use Rattle.sfdu.specs.Nesting.{authority, versionClass, kindBytes, labelSize, lengthSize}
 use Rattle.sfdu_write.specs.Write.{labelBytes}
 use Rattle.sfdu_write.proofs.Written.{length-kind}
 use borrow.Author.Needs.{needs}
@@ -56,9 +56,9 @@ returns c =
     let k = length-kind (g .kind) in
     let l = length-bytesOf lengthSize (g .size - labelSize) in
     let spelt = rw (at-kind-tag .kind-tag .ensures) at (at-copy-in3 .copy-in3 .ensures) in
-    let one = put-next (g .out .now) 0 authority _ control (at-copy-in .copy-in .ensures) (at-copy-in2 .copy-in2 .ensures) refl (omega arith) in
-    let two = put-next (g .out .now) 0 (authority ++ control) _ (kindBytes (g .kind)) one spelt refl (omega arith) in
-    put-next (g .out .now) 0 (authority ++ control ++ kindBytes (g .kind)) _ (bytesOf lengthSize (g .size - labelSize)) two
+    let one = put-next (g .out .now) 0 authority _ versionClass (at-copy-in .copy-in .ensures) (at-copy-in2 .copy-in2 .ensures) refl (omega arith) in
+    let two = put-next (g .out .now) 0 (authority ++ versionClass) _ (kindBytes (g .kind)) one spelt refl (omega arith) in
+    put-next (g .out .now) 0 (authority ++ versionClass ++ kindBytes (g .kind)) _ (bytesOf lengthSize (g .size - labelSize)) two
     (c .before .before .write-be .ensures) (simp (length-append, length-kind) refl) (omega arith)
 
 pub write-label-spec : {M : Type 1} → statement M
