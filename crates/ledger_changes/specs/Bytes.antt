@@ -1,12 +1,10 @@
--- What each call of the ledger that changes a sheet does to its bytes, and its answer (document 01, "The ledger sheet"). Assumes nothing.
+-- Bytes that a sheet is made of: its header, a fresh sheet, an open desk (document 01, "The ledger sheet"). Assumes nothing.
 use Prim.Native.Nat.{ℕ, _-_}
-use mathlib.Core.List.{List, [], _∷_, _++_}
+use mathlib.Core.List.{List, _∷_, _++_}
 use lib.ListN.{replicate}
 use Rattle.octets.specs.Octets.{bytesOf}
 use Rattle.ledger_sheet.specs.Sheet.{sheetSize, rowCount, rowsStart, deskCount, desksStart}
 use Rattle.ledger_sheet.specs.Sheet.{headerNumberSize, used}
-
--- ---- fresh
 
 -- The header of a sheet with so many rows used.
 unfoldable pub headerBytes : ℕ → List ℕ
@@ -17,8 +15,6 @@ headerBytes n =
 -- A fresh sheet: every row free, every desk closed.
 unfoldable pub freshSheet : List ℕ
 freshSheet = headerBytes 0 ++ replicate (sheetSize - rowsStart) 0
-
--- ---- open, drop
 
 -- An open desk: a 1, the row's number, two zeros, and two copies of the row, as opened and as worked on.
 unfoldable pub openDesk : ℕ → (opened worked : List ℕ) → List ℕ

@@ -1,5 +1,4 @@
--- One row of the sheet, or a desk's copy of one: a position ticked and unticked, its bytes, and its value (document 01, "The ledger sheet").
--- Assumes nothing.
+-- The bytes of a row of the sheet, or of a desk's copy of one (document 01, "The ledger sheet"). Assumes nothing.
 use Prim.Native.Nat.{ℕ}
 use mathlib.Core.List.{List, _++_}
 use Rattle.octets.specs.Octets.{bytesOf}

@@ -1,10 +1,8 @@
--- Demand 3 of a sheet: any list of calls made one after the other on a fresh sheet, each keeping what its contract promises, the
--- next one handed the sheet as the one before left it. Assumes nothing.
+-- What demand 3 needs of a sheet: a call's answer as the model's, and the bytes before the desks. Assumes nothing.
 use Prim.Native.Nat.{ℕ}
 use mathlib.Core.List.{List, [], _∷_}
 use Rattle.octets.specs.Octets.{part}
 use Rattle.refusals.specs.Table.{numberOf}
-use Rattle.ledger_model.specs.Book.{fresh}
 use Rattle.ledger_model.specs.Step.{Answer, gave, done, atRow, refused}
 use Rattle.ledger_sheet.specs.Sheet.{desksStart}
 use Rattle.ledger_sheet.specs.declared.Answer as sheet

@@ -6,7 +6,7 @@ use lib.Dec.{eqb}
 use lib.ListN.{length, getD}
 use Rattle.refusals.specs.Table.{numberOf}
 use Rattle.refusals.specs.Judge.{_when_}
-use Rattle.ledger_model.specs.Step.{Call, answerWords, Entry, _⇒_}
+use Rattle.ledger_model.specs.Step.{answerWords, Entry, _⇒_}
 use Rattle.ledger_sheet.specs.Sheet.{sheetSize}
 use Rattle.ledger_sheet.specs.Outcome.{Outcome, judged}
 use Rattle.ledger_layout.specs.Layout.{call, onSheet, freshOn}

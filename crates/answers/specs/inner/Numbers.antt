@@ -1,6 +1,6 @@
 -- The numbers of an answer as the inner functions hand them on, and those of a medium band record. Assumes nothing.
 use Prim.Native.Nat.{ℕ, _-_, _^_, _<_}
-use mathlib.Core.List.{List, [], _++_}
+use mathlib.Core.List.{List, _++_}
 use mathlib.Core.Path.{_≡_}
 use lib.ListN.{getD, replicate}
 use Rattle.sfdu_headers.specs.Words.{Word, number, none}

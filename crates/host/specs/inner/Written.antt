@@ -1,6 +1,6 @@
 -- What the inner functions write. Assumes nothing.
 use Prim.Native.Nat.{ℕ}
-use mathlib.Core.List.{List, []}
+use mathlib.Core.List.{List}
 use mathlib.Core.Path.{_≡_}
 use lib.ListN.{getD}
 use Rattle.host.specs.Exported.{answerBytes, returned}

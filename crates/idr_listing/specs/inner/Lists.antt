@@ -1,7 +1,7 @@
 -- What listing one record lays out. Assumes nothing.
 use Prim.Native.Nat.{ℕ}
 use mathlib.Core.Bool.{not}
-use mathlib.Core.List.{List, []}
+use mathlib.Core.List.{List}
 use mathlib.Core.Path.{_≡_}
 use Rattle.text.specs.Text.{Puts}
 use Rattle.idr.specs.Read.{accepts}

@@ -1,6 +1,5 @@
 -- The most bytes of each part of a line. Assumes nothing.
 use Prim.Native.Nat.{ℕ}
-use mathlib.Core.List.{[]}
 use Rattle.idr_listing.specs.Text.{clock, line, why}
 
 -- ---- the last line: where it stopped, and why

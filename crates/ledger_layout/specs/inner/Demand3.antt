@@ -2,7 +2,7 @@
 use Prim.Native.Nat.{ℕ}
 use mathlib.Core.Path.{_≡_}
 use mathlib.Core.Logic.{_≢_}
-use mathlib.Core.List.{List, [], map}
+use mathlib.Core.List.{List, map}
 use Rattle.ledger_model.specs.Book.{fresh}
 use Rattle.ledger_model.specs.Step.{Call, Answer, refused, answerWords, Entry, callOf}
 use Rattle.ledger_model.specs.History.{serial}

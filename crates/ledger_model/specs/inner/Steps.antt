@@ -1,6 +1,5 @@
 -- The model's own steps, as a chain has them. Assumes nothing.
 use mathlib.Core.Path.{_≡_}
-use mathlib.Core.List.{[]}
 use Rattle.ledger_model.specs.Book.{Book}
 use Rattle.ledger_model.specs.Step.{Call, Answer, reply, step}
 

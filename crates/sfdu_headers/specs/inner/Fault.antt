@@ -1,6 +1,6 @@
 -- The lowest field out of range, as the inner functions find it. Assumes nothing.
 use Prim.Native.Nat.{ℕ}
-use mathlib.Core.List.{List, []}
+use mathlib.Core.List.{List}
 use Rattle.sfdu.specs.declared.Kind.{Kind}
 use Rattle.sfdu.specs.declared.Checked.{Checked}
 use Rattle.sfdu.specs.inner.Checked.{checked}

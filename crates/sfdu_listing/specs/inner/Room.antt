@@ -1,6 +1,5 @@
 -- The most bytes of a line. Assumes nothing.
 use Prim.Native.Nat.{ℕ}
-use mathlib.Core.List.{[]}
 
 -- Its most bytes: the place has 20 digits at most, the length 5, and the record number 10.
 abbrev pub mostLine : ℕ

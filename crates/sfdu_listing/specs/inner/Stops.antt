@@ -1,7 +1,7 @@
 -- What stands at a place by the program's rules, as the inner functions see it. Assumes nothing.
 use Prim.Native.Nat.{ℕ}
 use mathlib.Core.Bool.{Bool}
-use mathlib.Core.List.{List, []}
+use mathlib.Core.List.{List}
 use Rattle.sfdu_stream.specs.Walk.{wholeBy, refusalBy}
 use Rattle.sfdu_listing.specs.Listing.{listRules, orZero}
 

@@ -1,6 +1,6 @@
 -- Why a walk stops at a place in a stream, by read one's rules. Assumes nothing.
 use Prim.Native.Nat.{ℕ}
-use mathlib.Core.List.{List, []}
+use mathlib.Core.List.{List}
 use lib.ListN.{drop}
 use Rattle.sfdu.specs.Read.{readRules}
 use Rattle.sfdu_stream.specs.Walk.{refusalBy}

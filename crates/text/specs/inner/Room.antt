@@ -1,6 +1,5 @@
 -- The most bytes of a word. Assumes nothing.
 use Prim.Native.Nat.{ℕ}
-use mathlib.Core.List.{[]}
 use Rattle.io.specs.Digits.{digits}
 use Rattle.text.specs.Text.{word}
 
