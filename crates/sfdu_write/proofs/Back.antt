@@ -162,8 +162,8 @@ module _ (k : Kind) (p : Primary) (secondary value rest : List ℕ) (hs : length
   has-authority : sameAt slice authorityAt authority 0 tagSize ≡ true
   has-authority = rw by-tags (piece-same [] authority _ 0 tagSize refl refl)
 
-  has-versionClass : sameAt slice versionClassAt versionClass 0 tagSize ≡ true
-  has-versionClass = rw by-tags (piece-same authority versionClass _ versionClassAt tagSize refl refl)
+  has-version-class : sameAt slice versionClassAt versionClass 0 tagSize ≡ true
+  has-version-class = rw by-tags (piece-same authority versionClass _ versionClassAt tagSize refl refl)
 
   has-kind : hasKind k slice ≡ true
   unfolding hasKind
@@ -266,7 +266,7 @@ module _ (k : Kind) (p : Primary) (secondary value rest : List ℕ) (hs : length
         (
           ap not has-authority,
           (
-            ap not has-versionClass,
+            ap not has-version-class,
             (
               ap not (either-kind k slice has-kind),
               rw kind-found (

@@ -30,8 +30,8 @@ returns-2 c =
     let long = tested .before .before in
     rw (le-ltb _ _ (long .if1 .left), failed (tested .before .has-authority .ensures) (tested .if2 .taken)) (c .refused2 .ensures)
 
-has-versionClass-requires : tie.Need-has-versionClass-requires
-has-versionClass-requires c κs = search needs
+has-version-class-requires : tie.Need-has-version-class-requires
+has-version-class-requires c κs = search needs
 
 refused-requires-3 : tie.Need-refused-requires-3
 refused-requires-3 c κs = search needs
@@ -45,7 +45,7 @@ returns-3 c =
     rw (
       le-ltb _ _ (long .if1 .left),
       passed (ours .before .has-authority .ensures) (ours .if2 .left),
-      failed (tested .before .has-versionClass .ensures) (tested .if3 .taken),
+      failed (tested .before .has-version-class .ensures) (tested .if3 .taken),
     )
     (c .refused3 .ensures)
 
@@ -69,7 +69,7 @@ returns-4 c =
     rw (
       le-ltb _ _ (long .if1 .left),
       passed (ours .before .has-authority .ensures) (ours .if2 .left),
-      passed (classed .before .has-versionClass .ensures) (classed .if3 .left),
+      passed (classed .before .has-version-class .ensures) (classed .if3 .left),
       here,
     )
     (c .read-length .ensures)
@@ -93,7 +93,7 @@ returns-5 c =
     rw (
       le-ltb _ _ (long .if1 .left),
       passed (ours .before .has-authority .ensures) (ours .if2 .left),
-      passed (classed .before .has-versionClass .ensures) (classed .if3 .left),
+      passed (classed .before .has-version-class .ensures) (classed .if3 .left),
       not-telemetry,
       here,
     )
@@ -118,7 +118,7 @@ returns-6 c =
     rw (
       le-ltb _ _ (long .if1 .left),
       passed (ours .before .has-authority .ensures) (ours .if2 .left),
-      passed (classed .before .has-versionClass .ensures) (classed .if3 .left),
+      passed (classed .before .has-version-class .ensures) (classed .if3 .left),
       not-telemetry,
       not-rsr,
     )
@@ -133,7 +133,7 @@ read-one-spec =
     has-authority-requires
     refused-requires-2
     returns-2
-    has-versionClass-requires
+    has-version-class-requires
     refused-requires-3
     returns-3
     load-u32-requires

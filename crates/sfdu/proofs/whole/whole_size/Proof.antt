@@ -23,8 +23,8 @@ unfolding wholeSize accepts judge kindOf
 returns-2 c =
     rw (le-ltb _ _ (c .before .before .if1 .left), failed (c .before .has-authority .ensures) (c .if2 .taken))
 
-has-versionClass-requires : tie.Need-has-versionClass-requires
-has-versionClass-requires c κs = search needs
+has-version-class-requires : tie.Need-has-version-class-requires
+has-version-class-requires c κs = search needs
 
 returns-3 : tie.Need-returns-3
 unfolding wholeSize accepts judge kindOf
@@ -32,7 +32,7 @@ returns-3 c =
     rw (
       le-ltb _ _ (c .before .before .before .before .if1 .left),
       passed (c .before .before .before .has-authority .ensures) (c .before .before .if2 .left),
-      failed (c .before .has-versionClass .ensures) (c .if3 .taken),
+      failed (c .before .has-version-class .ensures) (c .if3 .taken),
     )
 
 load-u32-requires : tie.Need-load-u32-requires
@@ -55,7 +55,7 @@ returns-4 c =
     rw (
       le-ltb _ _ (long .if1 .left),
       passed (ours .before .has-authority .ensures) (ours .if2 .left),
-      passed (classed .before .has-versionClass .ensures) (classed .if3 .left),
+      passed (classed .before .has-version-class .ensures) (classed .if3 .left),
       here,
     ) (c .size-as .ensures)
 
@@ -80,7 +80,7 @@ returns-5 c =
     rw (
       le-ltb _ _ (long .if1 .left),
       passed (ours .before .has-authority .ensures) (ours .if2 .left),
-      passed (classed .before .has-versionClass .ensures) (classed .if3 .left),
+      passed (classed .before .has-version-class .ensures) (classed .if3 .left),
       other,
       here,
     ) (c .size-as2 .ensures)
@@ -102,7 +102,7 @@ returns-6 c =
     rw (
       le-ltb _ _ (long .if1 .left),
       passed (ours .before .has-authority .ensures) (ours .if2 .left),
-      passed (classed .before .has-versionClass .ensures) (classed .if3 .left),
+      passed (classed .before .has-version-class .ensures) (classed .if3 .left),
       other,
       neither,
     )
@@ -114,7 +114,7 @@ whole-size-spec =
     returns
     has-authority-requires
     returns-2
-    has-versionClass-requires
+    has-version-class-requires
     returns-3
     load-u32-requires
     size-as-requires
