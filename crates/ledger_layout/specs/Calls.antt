@@ -3,12 +3,10 @@
 use Prim.Native.Nat.{ℕ}
 use mathlib.Core.Bool.{Bool, not}
 use mathlib.Core.List.{List, [], _∷_}
-use lib.Dec.{eqb}
-use lib.ListN.{length}
 use Rattle.refusals.specs.Judge.{_when_}
-use Rattle.ledger_sheet.specs.Sheet.{sheetSize, rowCount, rowAt, right}
+use Rattle.ledger_sheet.specs.Sheet.{rowCount, rowAt, right}
 use Rattle.ledger_sheet.specs.Outcome.{Outcome, judged, done}
-use Rattle.ledger_changes.specs.Bytes.{freshSheet, enrolAt, strikeAt, openAt, clearDesk, markDesk, saveAt}
+use Rattle.ledger_changes.specs.Bytes.{enrolAt, strikeAt, openAt, clearDesk, markDesk, saveAt}
 use Rattle.ledger_rows.specs.Scans.{rowWith, freeRow}
 use Rattle.ledger_counts.specs.Counts.{reportWords, gapFrom}
 use Rattle.ledger_verdicts.specs.Verdicts.{enrolRows, findRows, openRows, deskRows, reportRows, strikeRows}

@@ -12,13 +12,13 @@ use Rattle.refusals.specs.Judge.{Rule, _when_, judge, verdict}
 use Rattle.octets.proofs.Laws.{Bytes, all-at}
 use Rattle.octets.proofs.Parts.{bytes-part}
 use Rattle.ledger_model.specs.Book.{fresh}
-use Rattle.ledger_sheet.specs.Sheet.{sheetSize, right}
+use Rattle.ledger_sheet.specs.Sheet.{sheetSize}
 use Rattle.ledger_layout.specs.Layout.{bookOf}
 use Rattle.ledger_layout.proofs.Read.{book-fine}
 use Rattle.ledger_layout.proofs.Chunks.{getD-table}
 use Rattle.ledger_season.specs.Report.{mostSheets, keyInTwo, report}
 use Rattle.ledger_season.specs.Season.{sheetAt, sheetCount, booksTo, books, rightTo, seasonRules, season}
-use Rattle.ledger_season.specs.Gathered.{keysOf, keysOfAll, distinct}
+use Rattle.ledger_season.specs.Gathered.{keysOfAll, distinct}
 use Rattle.ledger_season.proofs.Sheets.{length-books}
 use Rattle.ledger_season.proofs.Keys.{keys-law, book-distinct}
 
