@@ -13,12 +13,12 @@ use borrow.Author.Tests.{ltb-true, ltb-false}
 use Rattle.octets.specs.Octets.{part}
 use Rattle.ledger_model.specs.Positions.{Positions}
 use Rattle.ledger_model.specs.Book.{Place, free, Desk, closed, working, Book, desk, withTicks, withWorked}
-use Rattle.ledger_model.specs.Step.{Entry, callOf, bookAfter}
+use Rattle.ledger_model.specs.Step.{callOf, bookAfter}
 use Rattle.ledger_model.specs.WellFormed.{WellFormed}
 use Rattle.ledger_model.specs.Private.{Alike}
 use Rattle.ledger_model.proofs.WellFormed.{run-well-formed}
 use Rattle.ledger_model.proofs.Private.{model-private}
-use Rattle.ledger_sheet.specs.Sheet.{sheetSize, workedAt, deskSize, deskCount, deskAt}
+use Rattle.ledger_sheet.specs.Sheet.{workedAt, deskSize, deskCount, deskAt}
 use Rattle.ledger_changes.specs.Bytes.{headerBytes, openDesk}
 use Rattle.ledger_layout.specs.Layout.{placeBytes, deskBytes, countUsed, layout}
 use Rattle.octets.specs.Lists.{laid}
@@ -26,7 +26,7 @@ use Rattle.ledger_layout.specs.Demand3.{headerAndRows}
 use Rattle.octets.proofs.Parts.{part-seam}
 use Rattle.ledger_layout.proofs.Rows.{length-place}
 use Rattle.ledger_layout.proofs.Places.{length-layout, front-part, desk-part, desk-in, shape}
-use Rattle.ledger.specs.Private.{Night, deskPart, openedPart, Private, Privacy}
+use Rattle.ledger.specs.Private.{deskPart, openedPart, Privacy}
 use Rattle.ledger.proofs.Demand3.{demand-3}
 
 -- ---- a desk's bytes before its worked copy

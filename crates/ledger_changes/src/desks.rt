@@ -1,5 +1,4 @@
 // Desks, and the sheet as a whole: made fresh, opened, saved, cleared.
-use ledger_rows::desk_row;
 use ledger_sheet as sheet;
 use ledger_sheet::Answer;
 use octets::clear;

@@ -3,12 +3,12 @@ use Prim.Native.Nat.{ℕ, _+_, _*_, _-_, _≤_, _<_}
 use native.Mathlib.Omega.{arith}
 use mathlib.Core.Bool.{Bool, true, false, _&&_}
 use mathlib.Core.List.{List}
-use mathlib.Core.Path.{_≡_, refl, sym, _∙_}
+use mathlib.Core.Path.{_≡_, sym, _∙_}
 use lib.Dec.{eqb, ltb, leb, lit≤}
 use lib.ListN.{length}
-use borrow.Author.Tests.{eq-eqb, ne-eqb, lt-leb, le-leb, eqb-true, eqb-false, leb-true, ltb-true}
+use borrow.Author.Tests.{eqb-true, leb-true, ltb-true}
 use Rattle.octets.specs.Octets.{all, zeroAt}
-use Rattle.octets.proofs.Laws.{and-split, and-true, and-assoc, all-at, all-next, zero-join}
+use Rattle.octets.proofs.Laws.{and-split, and-true, all-at}
 use Rattle.ledger_convert.specs.Old.{sheetSize, rowSize, rowCount, rowsStart, deskSize, deskCount, deskZerosAt, deskZerosSize, openedAt}
 use Rattle.ledger_convert.specs.Old.{workedAt, desksStart, lengthAt, rowCountAt, rowsStartAt, deskCountAt, desksStartAt, rowAt, deskAt}
 use Rattle.ledger_convert.specs.Old.{headerNumber, used, deskByte, deskRow, isClosed, carries, headerRight, validKeys, differentKeys}

@@ -6,16 +6,16 @@ use mathlib.Core.Bool.{Bool, true, false, cond, not, Bool·not-not}
 use mathlib.Core.List.{List, [], _∷_, _++_, append-nil}
 use mathlib.Core.Logic.{_⊎_, inl, inr, ⊎-elim}
 use mathlib.Core.Path.{_≡_, refl, sym, ap, _∙_}
-use lib.Dec.{eqb, ltb}
-use lib.ListN.{length, getD, set, replicate, length-append, length-replicate, getD-replicate, length-set}
+use lib.Dec.{ltb}
+use lib.ListN.{length, set, replicate, length-append, length-replicate, getD-replicate, length-set}
 use lib.Seq.{ext-getD}
 use borrow.Author.Tests.{ltb-true, ltb-false, lt-ltb, le-ltb}
-use Rattle.ledger_model.specs.Book.{Place, free, row, Desk, closed, working, place, isFree, withTicks}
+use Rattle.ledger_model.specs.Book.{row, closed, place, withTicks}
 use Rattle.octets.specs.Octets.{bytesOf, part, put}
-use Rattle.octets.proofs.Laws.{Bytes, length-bytesOf, length-part, part-at, length-put}
+use Rattle.octets.proofs.Laws.{Bytes, length-part, part-at, length-put}
 use Rattle.octets.proofs.Parts.{part-join, part-whole, part-first, part-second}
 use Rattle.octets.proofs.Puts.{put-next, set-put}
-use Rattle.ledger_sheet.specs.Sheet.{sheetSize, usedWordSize, rowSize, rowCount, rowsStart, ticksSize, deskSize, deskCount, deskRowAt, deskZerosAt}
+use Rattle.ledger_sheet.specs.Sheet.{sheetSize, usedWordSize, rowSize, rowCount, rowsStart, deskSize, deskCount, deskRowAt, deskZerosAt}
 use Rattle.ledger_sheet.specs.Sheet.{deskZerosSize, openedAt, workedAt, desksStart, headerNumberSize, usedAt, rowAt, deskAt, count}
 use Rattle.ledger_sheet.specs.declared.Row.{Row}
 use Rattle.octets.specs.Lists.{table}
@@ -23,7 +23,6 @@ use Rattle.ledger_changes.specs.Rows.{rowBytes}
 use Rattle.ledger_changes.specs.inner.Rows.{rowValueAt}
 use Rattle.ledger_changes.specs.Bytes.{headerBytes, freshSheet, openDesk}
 use Rattle.ledger_changes.proofs.Puts.{put-outside, part-put}
-use Rattle.ledger_changes.proofs.ReadBack.{length-row}
 use Rattle.ledger_changes.proofs.Written.{length-header}
 use Rattle.ledger_layout.specs.Layout.{placeBytes, deskBytes, countUsed, layout}
 use Rattle.octets.proofs.Lists.{length-table, getD-table, laid-table}

@@ -7,10 +7,9 @@ use mathlib.Core.Bool.{Bool, true, false, cond, not, _&&_}
 use mathlib.Core.Option.{some}
 use mathlib.Core.List.{List}
 use mathlib.Core.Path.{_≡_, refl, sym, ap, _∙_}
-use lib.Dec.{eqb, ltb, leb}
-use lib.ListN.{length, getD, List·getD-eq-default}
-use borrow.Author.Tests.{ltb-true, ltb-false, lt-ltb, le-ltb, leb-true, eqb-true, eqb-false, not-true}
-use Rattle.keys.specs.Key.{validKey}
+use lib.Dec.{ltb}
+use lib.ListN.{length, List·getD-eq-default}
+use borrow.Author.Tests.{ltb-true, ltb-false, lt-ltb, le-ltb, eqb-false, not-true}
 use Rattle.ledger_model.specs.Positions.{rowLength}
 use Rattle.ledger_model.specs.Book.{Place, free, row, closed, Book, place, desk, isFree, withTicks}
 use Rattle.ledger_model.specs.WellFormed.{IsSet, PlaceOk, DeskOk, keyOf, WellFormed}
@@ -28,12 +27,12 @@ use Rattle.ledger_layout.specs.Layout.{tickBytes, placeBytes}
 use Rattle.ledger_layout.proofs.Parts.{number-within}
 use Rattle.octets.proofs.Lists.{length-table, getD-table, table-is}
 use Rattle.ledger_layout.proofs.Ticks.{ticks-bytes}
-use Rattle.ledger_convert.specs.Old.{sheetSize, keySize, firstAt, firstSize, rowCount, deskSize, deskCount, openedAt, workedAt}
-use Rattle.ledger_convert.specs.Old.{rowAt, deskAt, used, keyAt, firstNumberAt, deskByte, deskRow, isClosed, carries}
+use Rattle.ledger_convert.specs.Old.{sheetSize, keySize, firstAt, firstSize, rowCount, deskCount, openedAt, workedAt}
+use Rattle.ledger_convert.specs.Old.{rowAt, deskAt, used, keyAt, firstNumberAt, deskRow, isClosed, carries}
 use Rattle.ledger_convert.specs.Old.{validKeys, differentKeys, firstNumbers, closedZero, deskMarked, openNames, deskRight, right}
 use Rattle.ledger_convert.specs.Old as Old
 use Rattle.ledger_convert.specs.Convert.{oldTickedAt, oldTicksOf, oldPlaceIn, oldDeskIn, oldBookOf}
-use Rattle.ledger_convert.proofs.Clauses.{Right, right-parts, sized, open-row}
+use Rattle.ledger_convert.proofs.Clauses.{Right, right-parts, sized}
 
 -- ---- a row or a copy at offset a, read as a new one at offset b
 

@@ -6,11 +6,11 @@ use mathlib.Core.Logic.{_≢_}
 use mathlib.Core.Path.{_≡_, refl, sym, ap, _∙_}
 use Rattle.refusals.specs.Table.{numberOf}
 use Rattle.refusals.proofs.Laws.{number-positive}
-use Rattle.ledger_model.specs.Book.{Book, idle, fresh}
+use Rattle.ledger_model.specs.Book.{Book, idle}
 use Rattle.ledger_model.specs.Step.{Call, Answer, gave, done, atRow, refused, answerWords, step, Entry, callOf, bookAfter}
 use Rattle.ledger_model.specs.WellFormed.{WellFormed}
 use Rattle.ledger_model.specs.Chain.{Chain}
-use Rattle.ledger_model.proofs.WellFormed.{well-formed, run-well-formed}
+use Rattle.ledger_model.proofs.WellFormed.{run-well-formed}
 use Rattle.ledger_model.proofs.Laws.{Proper, words-injective, step-proper}
 use Rattle.ledger_model.proofs.Claim.{chain-claim}
 use Rattle.ledger_changes.specs.Bytes.{freshSheet}

@@ -1,12 +1,10 @@
 -- A call on any slice of bytes is the model's call on the book that it holds, laid out again, where it is a right sheet, and else
 -- 20: one law for all calls, and one for a fresh sheet. Assumes nothing.
 use Prim.Native.Nat.{ℕ, _+_, _*_}
-use mathlib.Core.Bool.{Bool, true, false, cond}
+use mathlib.Core.Bool.{Bool, true, false}
 use mathlib.Core.List.{List, [], _∷_, _++_, append-assoc}
 use mathlib.Core.Path.{_≡_, refl, sym, ap, _∙_}
-use lib.Dec.{eqb}
-use lib.ListN.{length, replicate, replicate-append-replicate}
-use Rattle.refusals.specs.Judge.{judge}
+use lib.ListN.{replicate, replicate-append-replicate}
 use Rattle.ledger_model.specs.Book.{free, closed, Book, fresh}
 use Rattle.ledger_model.specs.Step.{Question, Find, RowReport, FirstGap, Call, Enrol, Ask, Open, Mark, Save, Drop, Strike, Reply, step}
 use Rattle.ledger_model.specs.WellFormed.{WellFormed}
@@ -14,8 +12,8 @@ use Rattle.ledger_model.proofs.Outcome.{refusal, asking, outcome}
 use Rattle.ledger_model.proofs.Outcome as Model
 use Rattle.ledger_model.proofs.WellFormed.{well-formed}
 use Rattle.octets.proofs.Laws.{Bytes}
-use Rattle.ledger_sheet.specs.Sheet.{sheetSize, rowSize, rowCount, deskSize, deskCount, right}
-use Rattle.ledger_sheet.specs.Outcome.{Outcome, judged}
+use Rattle.ledger_sheet.specs.Sheet.{rowSize, rowCount, deskSize, deskCount, right}
+use Rattle.ledger_sheet.specs.Outcome.{Outcome}
 use Rattle.ledger_changes.specs.Bytes.{headerBytes, freshSheet}
 use Rattle.ledger_layout.specs.inner.Calls.{enrolCall, findCall, openCall, dropCall, markCall, saveCall, reportCall, gapCall, strikeCall}
 use Rattle.ledger_layout.specs.Layout.{placeBytes, deskBytes, countUsed, layout, bookOf, call, laidOut, onSheet, freshOn}

@@ -7,7 +7,7 @@ use mathlib.Core.Bool.{Bool, true, false, cond, not, _||_, false≢true}
 use mathlib.Core.Option.{Option, none, some}
 use mathlib.Core.List.{List, [], _∷_}
 use mathlib.Core.Path.{_≡_, refl, sym, ap, subst, _∙_}
-use lib.Dec.{eqb, ltb, eqb·zero-suc, eqb·suc-suc, leb·zero, leb·suc-zero, leb·suc-suc}
+use lib.Dec.{eqb, ltb, eqb·zero-suc, eqb·suc-suc, leb·zero, leb·suc-suc}
 use lib.ListN.{length, getD, set}
 use Rattle.ledger_model.specs.Positions.{Positions, numberAt, size, missing, least}
 use Rattle.ledger_model.specs.Book.{Place, free, row, isFree, withTicks, hasKey, placeWith, allUsed, lowestFree}

@@ -1,9 +1,9 @@
 -- Positions and numbers of each kind of stream; and they undo each other, over whatever modulus. Assumes nothing.
-use Prim.Native.Nat.{ℕ, zero, _+_, _-_, _^_, _%_, _≤_, _<_}
+use Prim.Native.Nat.{ℕ, _+_, _-_, _^_, _%_, _≤_, _<_}
 use native.Mathlib.Nat.{mod-lt, mod-eq-of-lt, mod-add-mod, add-mod-mod, add-mod-right}
 use native.Mathlib.Omega.{arith}
-use mathlib.Core.Path.{_≡_, refl, sym, ap, _∙_}
-use mathlib.Core.Bool.{true, false}
+use mathlib.Core.Path.{_≡_, refl}
+use mathlib.Core.Bool.{false}
 use borrow.Author.Tests.{lt-ltb, le-ltb}
 use Rattle.keys.specs.Key.{rsrStart}
 use Rattle.keys.specs.Numbers.{modulus, isNumber}

@@ -1,23 +1,21 @@
 -- Which calls are kept: their answers fit an entry, and the others change nothing. Assumes nothing.
-use Prim.Native.Nat.{ℕ, _^_, _<_, _≤_}
+use Prim.Native.Nat.{ℕ, _^_, _<_}
 use native.Mathlib.Omega.{arith}
-use mathlib.Core.Bool.{Bool, true, false, cond, not, _&&_, false≢true}
+use mathlib.Core.Bool.{Bool, true, false, cond, _&&_, false≢true}
 use mathlib.Core.List.{List, [], _∷_}
 use mathlib.Core.Path.{_≡_, refl, sym, ap, _∙_}
 use lib.Dec.{eqb, lit<}
-use lib.ListN.{length}
 use borrow.Author.Tests.{ltb-true, lt-ltb}
 use Rattle.refusals.specs.Judge.{Rule, _when_, judge, verdict}
-use Rattle.keys.specs.Key.{rsrEnd, validKey}
 use Rattle.keys.specs.Numbers.{modulus, isNumber}
 use Rattle.keys.proofs.Laws.{below-valid}
 use Rattle.keys.proofs.Numbers.{modulus-fits}
-use Rattle.ledger_model.specs.Positions.{Positions, inRow, position}
+use Rattle.ledger_model.specs.Positions.{Positions, inRow}
 use Rattle.ledger_model.specs.Book.{Place, free, row, Book, place, isDesk, positionAt, lowestFree}
-use Rattle.ledger_model.specs.Step.{Find, RowReport, FirstGap, Call, Enrol, Ask, Open, Mark, Save, Drop, Strike}
-use Rattle.ledger_model.specs.Step.{Answer, gave, done, refused, Reply, reply, refusals, effect, afterRefusal, judged, step}
+use Rattle.ledger_model.specs.Step.{Call, Enrol, Ask, Open, Mark, Save, Drop, Strike}
+use Rattle.ledger_model.specs.Step.{Answer, refused, Reply, reply, refusals, effect, afterRefusal, judged, step}
 use Rattle.ledger_model.specs.WellFormed.{WellFormed}
-use Rattle.ledger_model.proofs.Basics.{row-in, HasRow, has-row}
+use Rattle.ledger_model.proofs.Basics.{row-in, has-row}
 use Rattle.ledger_model.proofs.Numbers.{outside}
 use Rattle.ledger_model.proofs.Laws.{lowest-in, changes}
 use Rattle.ledger_model.proofs.Outcome.{Outcome, refusal, enrolment, asking, opening, unopened, unmarked, marking, saving, stale, dropping, striking, outcome}

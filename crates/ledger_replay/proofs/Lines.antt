@@ -1,17 +1,17 @@
 -- One entry: written, it is 16 bytes, is well-formed, and reads back. Assumes nothing.
-use Prim.Native.Nat.{ℕ, zero, suc, _+_, _^_, _<_, _≤_}
+use Prim.Native.Nat.{ℕ, _+_, _^_, _<_}
 use native.Mathlib.Nat.{add-zero}
 use native.Mathlib.Omega.{arith}
-use mathlib.Core.Bool.{Bool, true, false, cond, not, _&&_, _||_, false≢true}
+use mathlib.Core.Bool.{Bool, true, false, cond, _||_, false≢true}
 use mathlib.Core.List.{List, [], _∷_, _++_}
-use mathlib.Core.Path.{_≡_, refl, sym, ap, _∙_}
-use lib.Dec.{eqb, leb, lit<}
-use lib.ListN.{length, getD, length-append}
+use mathlib.Core.Path.{_≡_, refl, ap, _∙_}
+use lib.Dec.{eqb, lit<}
+use lib.ListN.{length, length-append}
 use borrow.Author.Tests.{ltb-true, not-true}
 use Rattle.octets.specs.Octets.{numberAt, bytesOf, part}
 use Rattle.octets.proofs.Laws.{and-split, length-bytesOf, part-at}
 use Rattle.octets.proofs.Parts.{number-first, number-second, number-bytes}
-use Rattle.ledger_model.specs.Step.{Call, Enrol, Ask, Open, Mark, Save, Drop, Strike, Answer, gave, done, atRow, refused, Entry, _⇒_}
+use Rattle.ledger_model.specs.Step.{Enrol, Ask, Open, Mark, Save, Drop, Strike, Answer, gave, done, atRow, refused, Entry, _⇒_}
 use Rattle.ledger_layout.proofs.Parts.{number-within}
 use Rattle.ledger_replay.specs.declared.Line.{Line}
 use Rattle.ledger_replay.specs.Trace.{numberSize, recordAt, keyAt, keySize, entrySize, lineAt, isCall, deskRight}

@@ -1,7 +1,7 @@
 -- A night's trace plays as 'same', and 'same' is said of the model's answers alone. Assumes nothing.
 use Prim.Native.Nat.{ℕ, zero, suc, _<_}
 use native.Mathlib.Omega.{arith}
-use mathlib.Core.Bool.{Bool, true, false, cond, not, _&&_, false≢true}
+use mathlib.Core.Bool.{Bool, true, false, cond, not, false≢true}
 use mathlib.Core.List.{List, [], _∷_, map}
 use mathlib.Core.Path.{_≡_, refl, sym, ap, _∙_}
 use lib.Dec.{eqb}
@@ -12,19 +12,18 @@ use Rattle.octets.proofs.Laws.{and-split}
 use Rattle.ledger_model.specs.Lists.{only}
 use Rattle.ledger_model.specs.Book.{Book, fresh}
 use Rattle.ledger_model.specs.Step.{Call, Enrol, Open, Tick, Untick, Save, Drop, Strike, Answer, gave}
-use Rattle.ledger_model.specs.Step.{done, refused, answerWords, step, Entry, _⇒_, callOf, Run, run, bookAfter}
+use Rattle.ledger_model.specs.Step.{refused, answerWords, step, Entry, _⇒_, callOf, run, bookAfter}
 use Rattle.ledger_model.specs.WellFormed.{WellFormed}
 use Rattle.ledger_model.proofs.Outcome.{outcome}
 use Rattle.ledger_model.proofs.WellFormed.{well-formed, fresh-well-formed}
 use Rattle.ledger_sheet.specs.Sheet.{sheetSize}
-use Rattle.ledger_sheet.specs.Outcome.{Outcome, judged}
+use Rattle.ledger_sheet.specs.Outcome.{judged}
 use Rattle.ledger_layout.specs.Layout.{layout, call, freshOn}
 use Rattle.ledger_layout.proofs.Sheets.{on-layout}
-use Rattle.ledger.specs.Private.{Night}
 use Rattle.ledger.proofs.Demand3.{demand-3}
 use Rattle.ledger_replay.specs.declared.Line.{Line}
 use Rattle.ledger_replay.specs.declared.Told.{Told}
-use Rattle.ledger_replay.specs.Trace.{enrolCall, openCall, tickCall, untickCall, saveCall, dropCall, mostEntries, entryAt}
+use Rattle.ledger_replay.specs.Trace.{enrolCall, openCall, tickCall, untickCall, saveCall, dropCall, entryAt}
 use Rattle.ledger_replay.specs.Trace.{lineAt, isTrace, callIn, answerIn, entriesFrom, entriesOf, count}
 use Rattle.ledger_replay.specs.Record.{isKept, recorded, traceOf}
 use Rattle.ledger_replay.specs.Replay.{told, sameTold, differs, replayFrom, replayOn}

@@ -2,13 +2,13 @@
 use Prim.Native.Nat.{ℕ, zero, suc, _+_, _*_, _%_, _/_, _^_, _<_, _≤_}
 use native.Mathlib.Nat.{zero-add, add-zero}
 use native.Mathlib.Omega.{arith}
-use mathlib.Core.Bool.{Bool, true, false, _&&_}
+use mathlib.Core.Bool.{true}
 use mathlib.Core.List.{List, [], _∷_, _++_, append-nil, append-assoc}
 use mathlib.Core.Path.{_≡_, refl, sym, ap, _∙_}
-use lib.Dec.{eqb, lit<}
+use lib.Dec.{lit<}
 use lib.ListN.{length, getD, length-append}
 use borrow.Author.Tests.{eq-eqb, le-leb}
-use Rattle.octets.specs.Octets.{numberAt, bytesOf, part, all}
+use Rattle.octets.specs.Octets.{numberAt, bytesOf, part}
 use Rattle.octets.proofs.Laws.{and-split, length-bytesOf, all-each}
 use Rattle.octets.proofs.Parts.{number-first, number-bytes}
 use Rattle.ledger_model.specs.Step.{FirstGap, Ask, done, Entry, _⇒_}
@@ -20,7 +20,7 @@ use Rattle.ledger_replay.specs.Trace.{numberSize, headerSize, mostEntrie
 use Rattle.ledger_replay.specs.Trace.{lineAt, headerRight, lineRight, linesRight, isTrace, entryIn, entriesFrom, entriesOf}
 use Rattle.ledger_replay.specs.Record.{lineOf, lineBytes, traceHeader, traceOf}
 use Rattle.ledger_replay.specs.Laws.{fits, allFit, ReadsBack, WrittenReadsBack}
-use Rattle.ledger_replay.proofs.Lines.{length-line, Held, line-back, line-within, Good, good}
+use Rattle.ledger_replay.proofs.Lines.{length-line, Held, line-back, line-within, good}
 
 -- ---- bytes
 

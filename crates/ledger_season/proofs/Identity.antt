@@ -1,25 +1,24 @@
 -- Request 13's identity of every season whose sheets grew from fresh. Assumes nothing.
-use Prim.Native.Nat.{ℕ, zero, suc, _+_, _*_, _/_, _%_, _≤_, _<_}
-use native.Mathlib.Nat.{mul-mod-right, mul-div-right, le-of-suc-le-suc, zero-lt-suc}
+use Prim.Native.Nat.{ℕ, zero, suc, _+_, _*_, _%_, _≤_, _<_}
+use native.Mathlib.Nat.{mul-mod-right, mul-div-right, le-of-suc-le-suc}
 use native.Mathlib.Omega.{arith}
-use mathlib.Core.Bool.{Bool, true, false, not, _||_}
+use mathlib.Core.Bool.{true, false}
 use mathlib.Core.List.{List, [], _∷_, _++_, map}
-use mathlib.Core.Path.{_≡_, refl, sym, ap, _∙_, subst}
-use lib.Dec.{eqb, ltb, lit<}
+use mathlib.Core.Path.{_≡_, refl, ap, _∙_, subst}
+use lib.Dec.{lit<}
 use lib.ListN.{length, getD, length-append}
 use borrow.Author.Tests.{le-ltb}
 use Rattle.refusals.specs.Judge.{judge}
-use Rattle.octets.specs.Octets.{part, all}
 use Rattle.octets.proofs.Laws.{all-each}
 use Rattle.octets.proofs.Parts.{part-whole, part-first, part-second}
-use Rattle.ledger_model.specs.Book.{Book, fresh}
+use Rattle.ledger_model.specs.Book.{fresh}
 use Rattle.ledger_model.specs.Step.{Entry, callOf, bookAfter}
 use Rattle.ledger_model.specs.Chain.{Chain}
 use Rattle.ledger_model.specs.WellFormed.{WellFormed}
 use Rattle.ledger_model.specs.Tally.{savedTicks, savedUnticks, Tallies}
 use Rattle.ledger_model.proofs.WellFormed.{run-well-formed}
 use Rattle.ledger_model.proofs.Tally.{model-tally}
-use Rattle.ledger_sheet.specs.Sheet.{sheetSize, right}
+use Rattle.ledger_sheet.specs.Sheet.{sheetSize}
 use Rattle.ledger_sheet.specs.declared.Answer.the-variants as A
 use Rattle.ledger_layout.specs.Layout.{bookOf, layout}
 use Rattle.ledger_layout.proofs.Places.{shape, length-layout}

@@ -12,7 +12,7 @@ use Rattle.refusals.specs.Judge.{Rule, _when_, judge, verdict}
 use Rattle.octets.proofs.Laws.{Bytes, all-at}
 use Rattle.octets.proofs.Parts.{bytes-part}
 use Rattle.ledger_model.specs.Book.{fresh}
-use Rattle.ledger_sheet.specs.Sheet.{sheetSize, right}
+use Rattle.ledger_sheet.specs.Sheet.{sheetSize}
 use Rattle.ledger_layout.specs.Layout.{bookOf}
 use Rattle.ledger_layout.proofs.Read.{book-fine}
 use Rattle.octets.proofs.Lists.{getD-table}

@@ -3,23 +3,20 @@ use Prim.Native.Nat.{ℕ, zero, suc, _+_, _*_, _%_, _≤_, _<_, suc-le-suc}
 use native.Mathlib.Nat.{mod-lt, zero-lt-suc, le-of-suc-le-suc, eq-or-lt-of-le}
 use native.Mathlib.Numerals.{add-one}
 use native.Mathlib.Omega.{arith}
-use mathlib.Core.Bool.{Bool, true, false, cond, not, _&&_, _||_, true≢false, false≢true}
+use mathlib.Core.Bool.{Bool, true, false, not, _&&_, _||_, true≢false, false≢true}
 use mathlib.Core.Logic.{⊎-elim}
 use mathlib.Core.List.{List, [], _∷_, _++_, append-assoc}
 use mathlib.Core.Option.{some}
 use mathlib.Core.Path.{_≡_, refl, sym, ap, _∙_}
 use lib.Dec.{eqb, lit<}
 use lib.ListN.{length, getD, take, drop, set, length-set}
-use lib.Seq.{take-suc-set, getD-take, getD-set-same, getD-set-other, length-take-le, drop-length}
-use borrow.Author.Tests.{eqb-true, eqb-false, eq-eqb, ne-eqb, not-true, not-false}
-use Rattle.octets.specs.Octets.{all}
+use lib.Seq.{take-suc-set, getD-take, getD-set-same, getD-set-other, length-take-le}
+use borrow.Author.Tests.{eqb-true, eqb-false, eq-eqb, ne-eqb, not-true}
 use Rattle.octets.proofs.Laws.{and-split, all-each, all-at}
-use Rattle.ledger_model.specs.Positions.{Positions}
 use Rattle.ledger_model.specs.Book.{Place, free, row, Book, fresh, hasKey, placeWith}
 use Rattle.ledger_model.specs.WellFormed.{WellFormed, keyOf}
-use Rattle.ledger_model.proofs.Laws.{Found, found}
+use Rattle.ledger_model.proofs.Laws.{found}
 use Rattle.ledger_sheet.specs.Sheet.{rowCount, rowAt, isUsed, keyAt}
-use Rattle.ledger_layout.specs.Layout.{placeIn, bookOf}
 use Rattle.ledger_season.specs.Report.{keyInOne, anyInOne, keyInTwo}
 use Rattle.ledger_season.specs.Season.{sheetAt, booksTo}
 use Rattle.ledger_season.specs.inner.Gathered.{mostKeys, keysOf, keysOfAll, isIn, distinct, isNew, areNew, Keyed}

@@ -1,20 +1,19 @@
 -- The laws of every season's answer. Assumes nothing.
-use Prim.Native.Nat.{ℕ, zero, suc, _+_, _*_, _/_, _≤_, _<_}
+use Prim.Native.Nat.{ℕ, zero, suc, _+_, _≤_}
 use native.Mathlib.Nat.{le-of-suc-le-suc}
 use native.Mathlib.Omega.{arith}
-use mathlib.Core.Bool.{Bool, true, false}
+use mathlib.Core.Bool.{true, false}
 use mathlib.Core.List.{List, [], _∷_, _++_}
 use mathlib.Core.Logic.{_↔_}
-use mathlib.Core.Option.{Option, none, some, Option·map}
+use mathlib.Core.Option.{Option, none, some}
 use mathlib.Core.Path.{_≡_, refl, sym, ap, _∙_}
 use lib.ListN.{length, getD, take}
 use lib.Seq.{take-suc, take-length}
-use Rattle.octets.specs.Octets.{part, all}
-use Rattle.octets.proofs.Laws.{Bytes}
+use Rattle.octets.specs.Octets.{all}
 use Rattle.octets.proofs.Parts.{part-whole}
 use Rattle.ledger_model.specs.Positions.{Positions, size, missing, least, numberAt}
 use Rattle.ledger_model.specs.Book.{Place, free, row, Book, place, isFree, ticksOf}
-use Rattle.ledger_model.specs.Counts.{gapOr, firstGapFrom, placeReport}
+use Rattle.ledger_model.specs.Counts.{firstGapFrom}
 use Rattle.ledger_model.specs.Step.{Ask, RowReport, answerWords, step}
 use Rattle.ledger_model.specs.Tally.{ticked}
 use Rattle.ledger_model.proofs.Counts.{least-none}
@@ -25,13 +24,12 @@ use Rattle.ledger_layout.specs.Layout.{bookOf, placeIn, call, onSheet}
 use Rattle.octets.proofs.Lists.{length-table}
 use Rattle.octets.specs.Lists.{table}
 use Rattle.ledger_season.specs.Report.{mostSheets, missed, three, tickedIn, missingIn, eachSheet, inAll, gapIn, seasonGapFrom}
-use Rattle.ledger_season.specs.Season.{sheetAt, sheetCount, booksTo, books, rightTo, season, countsWords, sheetsWords, orFurther, Answers}
+use Rattle.ledger_season.specs.Season.{sheetAt, sheetCount, booksTo, books, rightTo, season, sheetsWords, orFurther, Answers}
 use Rattle.ledger_season.specs.Laws.{overSheets, overRows, Laws}
 use Rattle.ledger_season.specs.declared.SheetCounts.{SheetCounts}
 use Rattle.ledger_season.specs.declared.SeasonGap.{SeasonGap}
 use Rattle.ledger_season.specs.declared.SeasonGap.the-variants as G
 use Rattle.ledger_season.specs.declared.SeasonReport.{SeasonReport}
-use Rattle.ledger_season.proofs.Judged.{Fit}
 use Rattle.ledger_season.proofs.Sheets.{length-books}
 use Rattle.ledger_season.proofs.Read.{Says, Given, taken, refused, given}
 

@@ -1,25 +1,20 @@
 -- What the words of an answer say of it. Assumes nothing.
-use Prim.Native.Nat.{ℕ, zero, suc, _+_, _*_, _≤_}
-use native.Mathlib.Nat.{le-of-suc-le-suc}
+use Prim.Native.Nat.{ℕ, zero, suc, _+_, _*_}
 use native.Mathlib.Omega.{arith}
-use mathlib.Core.Bool.{Bool, true, false, not}
+use mathlib.Core.Bool.{Bool, true, false}
 use mathlib.Core.List.{List, [], _∷_, _++_}
 use mathlib.Core.Path.{_≡_, refl, sym, ap, _∙_}
 use lib.ListN.{length, length-append}
 use Rattle.refusals.specs.Judge.{judge}
-use Rattle.refusals.specs.Table.{numberOf}
 use Rattle.refusals.proofs.Laws.{number-positive}
 use Rattle.ledger_model.specs.Book.{Book}
-use Rattle.ledger_sheet.specs.Sheet.{sheetSize}
 use Rattle.ledger_sheet.specs.declared.Answer.{Answer}
 use Rattle.ledger_sheet.specs.declared.Answer.the-variants as A
 use Rattle.ledger_season.specs.Report.{mostSheets, three, tickedIn, missingIn, eachSheet, inAll, seasonGapFrom, report, keyInTwo}
 use Rattle.ledger_season.specs.Season.{sheetCount, books, rightTo, season, answerNumber, countsWords, sheetsWords, orFurther, reportWords, Answers}
-use Rattle.ledger_season.specs.Laws.{overSheets}
 use Rattle.ledger_season.specs.declared.SheetCounts.{SheetCounts}
 use Rattle.ledger_season.specs.declared.SeasonReport.{SeasonReport}
 use Rattle.ledger_season.proofs.Judged.{Fit, fit, wrongLength}
-use Rattle.ledger_season.proofs.Sheets.{length-books}
 
 -- ---- the words, part by part
 

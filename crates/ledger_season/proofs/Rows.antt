@@ -1,18 +1,18 @@
 -- What is counted of a row, and of a sheet row by row. Assumes nothing.
-use Prim.Native.Nat.{ℕ, suc, _+_, _*_, _≤_, _<_}
+use Prim.Native.Nat.{ℕ, _+_, _*_, _≤_, _<_}
 use native.Mathlib.Numerals.{add-one}
 use native.Mathlib.Omega.{arith}
-use mathlib.Core.Bool.{Bool, true, false, cond}
+use mathlib.Core.Bool.{Bool, true, false}
 use mathlib.Core.List.{List, [], _∷_}
 use mathlib.Core.Option.{Option, none, some}
 use mathlib.Core.Path.{_≡_, refl, sym, ap, _∙_}
-use lib.ListN.{length, drop}
+use lib.ListN.{drop}
 use lib.Seq.{drop-cons, drop-length}
 use Rattle.refusals.specs.declared.Refusal.{Refusal}
 use Rattle.ledger_model.specs.Positions.{rowLength, Positions, numberAt, size, missing, least}
 use Rattle.ledger_model.specs.Book.{Place, free, row}
 use Rattle.ledger_model.specs.Book as Book
-use Rattle.ledger_model.specs.Counts.{gapOr, firstGapFrom}
+use Rattle.ledger_model.specs.Counts.{firstGapFrom}
 use Rattle.ledger_model.specs.Tally.{ticked}
 use Rattle.ledger_sheet.specs.Sheet.{rowCount, rowAt, isUsed, keyAt, firstNumberAt}
 use Rattle.ledger_sheet.specs.Words.{reportAnswerWords}

@@ -1,19 +1,19 @@
 -- The clauses of `right`: of a desk whose first byte is known, and what a right sheet tells. Assumes nothing.
-use Prim.Native.Nat.{ℕ, zero, suc, _+_, _*_, _-_, _≤_, _<_}
+use Prim.Native.Nat.{ℕ, zero, suc, _+_, _-_, _≤_, _<_}
 use native.Mathlib.Nat.{eq-or-lt-of-le}
 use native.Mathlib.Numerals.{add-one}
 use native.Mathlib.Omega.{arith}
-use mathlib.Core.Bool.{Bool, true, false, cond, _&&_, _||_}
+use mathlib.Core.Bool.{Bool, true, false, cond, _&&_}
 use mathlib.Core.List.{List}
 use mathlib.Core.Logic.{⊎-elim}
 use mathlib.Core.Path.{_≡_, refl, sym, ap, _∙_}
 use lib.Dec.{eqb, ltb, lit≤}
 use lib.ListN.{length}
-use borrow.Author.Tests.{eq-eqb, ne-eqb, lt-leb, le-leb, eqb-true, eqb-false, ltb-true}
+use borrow.Author.Tests.{eqb-true, ltb-true}
 use Rattle.octets.specs.Octets.{all, zeroAt}
-use Rattle.octets.proofs.Laws.{and-split, and-true, and-assoc, all-at, all-next, zero-join}
-use Rattle.ledger_sheet.specs.Sheet.{sheetSize, rowSize, rowCount, rowsStart, deskSize, deskCount, deskZerosAt, deskZerosSize}
-use Rattle.ledger_sheet.specs.Sheet.{openedAt, workedAt, desksStart, rowAt, deskAt, used, isUsed, isRow}
+use Rattle.octets.proofs.Laws.{and-split, and-true, all-at}
+use Rattle.ledger_sheet.specs.Sheet.{sheetSize, rowCount, deskSize, deskCount, deskZerosAt, deskZerosSize}
+use Rattle.ledger_sheet.specs.Sheet.{openedAt, workedAt, desksStart, deskAt, used, isUsed, isRow}
 use Rattle.ledger_sheet.specs.Sheet.{deskByte, deskRow, isClosed, carries, count, headerRight, countRight, validKeys}
 use Rattle.ledger_sheet.specs.Sheet.{differentKeys, firstNumbers, freeZero, closedZero, deskMarked, openNames, deskRight, right}
 use Rattle.ledger_sheet.specs.inner.Judging.{rowsRight, Zeros}

@@ -9,7 +9,7 @@ use lib.ListN.{length}
 use borrow.Author.Tests.{not-false, ne-eqb, eqb-false, ltb-true}
 use Rattle.refusals.specs.declared.Refusal.{Refusal}
 use Rattle.refusals.specs.Table.{numberOf}
-use Rattle.refusals.specs.Judge.{Rule, verdict, judge}
+use Rattle.refusals.specs.Judge.{Rule, verdict}
 use Rattle.refusals.proofs.Laws.{number-positive}
 use Rattle.refusals.proofs.Judged.{NoneHolds, Numbered, verdict-none}
 use Rattle.ledger_sheet.specs.Sheet.{sheetSize, rowCount, deskCount, used, isUsed, deskRow, right}

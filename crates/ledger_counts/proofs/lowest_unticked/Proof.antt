@@ -1,7 +1,7 @@
 -- `ledger_counts::lowest_unticked` meets its contract. The invariant: the positions of the first k words are ticked. Assumes nothing.
 use Prim.Native.Nat.{_*_, _-_, _^_, _≤_, _<_}
 use mathlib.Core.Bool.{not}
-use mathlib.Core.Path.{_≡_, sym}
+use mathlib.Core.Path.{sym}
 use native.Mathlib.Omega.{arith}
 use lib.Count.{trailing-le}
 use Rattle.ledger_rows.specs.Ticks.{tickedAt}

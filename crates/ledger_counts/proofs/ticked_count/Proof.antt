@@ -1,6 +1,6 @@
 -- `ledger_counts::ticked_count` meets its contract. The invariant: the count is that of the positions of the first b blocks.
 -- Assumes nothing.
-use Prim.Native.Nat.{_+_, _*_, _^_, _≤_, _<_, _-_}
+use Prim.Native.Nat.{_+_, _*_, _≤_, _-_}
 use mathlib.Core.Path.{_≡_, sym}
 use native.Mathlib.Omega.{arith}
 use Rattle.ledger_model.specs.Positions.{rowLength, size}

@@ -1,5 +1,5 @@
 -- `ledger_counts::ticks_end` meets its contract. The invariant: no position of a word from `words` on is ticked. Assumes nothing.
-use Prim.Native.Nat.{_+_, _*_, _-_, _^_, _≤_, _<_}
+use Prim.Native.Nat.{_+_, _*_, _-_, _≤_}
 use mathlib.Core.Path.{_≡_, refl, sym, _∙_}
 use native.Mathlib.Omega.{arith}
 use lib.Count.{leading-le}

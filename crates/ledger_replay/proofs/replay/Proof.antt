@@ -1,6 +1,5 @@
 -- `replay` meets its contract. Assumes nothing.
-use mathlib.Core.Bool.{true, not}
-use mathlib.Core.Path.{_≡_, ap, _∙_}
+use mathlib.Core.Path.{ap, _∙_}
 use native.Mathlib.Omega.{arith}
 use borrow.Author.Tests.{eq-eqb, ne-eqb}
 use Rattle.refusals.specs.Judge.{judge}

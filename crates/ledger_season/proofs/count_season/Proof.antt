@@ -1,7 +1,6 @@
 -- `count_season` meets its contract. The invariant: the first sheets are counted. Assumes nothing.
 use Prim.Native.Nat.{_≤_, _-_}
-use mathlib.Core.Path.{_≡_, ap}
-use mathlib.Core.List.{_∷_}
+use mathlib.Core.Path.{_≡_}
 use native.Mathlib.Omega.{arith}
 use borrow.Author.Needs.{needs}
 use Rattle.ledger_season.proofs.Sheets.{sheet-part, length-sheet, SeasonTo, season-none, season-more, season-all}

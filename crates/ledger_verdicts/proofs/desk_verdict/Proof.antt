@@ -1,7 +1,7 @@
 -- `ledger_verdicts::desk_verdict` meets its contract. Assumes nothing.
 use borrow.Author.Tests.{lt-ltb, le-ltb}
 use Rattle.octets.proofs.Laws.{failed, passed}
-use Rattle.refusals.specs.Judge.{verdict, judge}
+use Rattle.refusals.specs.Judge.{judge}
 use Rattle.ledger_sheet.proofs.Clauses.{right-parts}
 use Rattle.ledger_verdicts.proofs.desk_verdict.Statement.{statement}
 use Rattle.ledger_verdicts.proofs.desk_verdict.Tie as tie

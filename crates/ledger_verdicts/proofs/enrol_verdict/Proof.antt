@@ -4,7 +4,7 @@ use mathlib.Core.Path.{_≡_}
 use lib.Dec.{eqb}
 use borrow.Author.Tests.{eq-eqb, ne-eqb}
 use Rattle.octets.proofs.Laws.{failed, passed}
-use Rattle.refusals.specs.Judge.{verdict, judge}
+use Rattle.refusals.specs.Judge.{judge}
 use Rattle.ledger_sheet.proofs.Clauses.{right-parts}
 use Rattle.ledger_sheet.specs.Sheet.{rowCount}
 use Rattle.ledger_rows.specs.inner.Scans.{freeRow}

@@ -1,6 +1,6 @@
 -- `ledger_verdicts::find_verdict` meets its contract. Assumes nothing.
 use Rattle.octets.proofs.Laws.{failed, passed}
-use Rattle.refusals.specs.Judge.{verdict, judge}
+use Rattle.refusals.specs.Judge.{judge}
 use Rattle.ledger_sheet.proofs.Clauses.{right-parts}
 use borrow.Author.Needs.{needs}
 use Rattle.ledger_verdicts.proofs.find_verdict.Statement.{statement}

@@ -2,7 +2,7 @@
 use native.Mathlib.Omega.{arith}
 use borrow.Author.Tests.{lt-ltb, le-ltb}
 use Rattle.octets.proofs.Laws.{failed, passed}
-use Rattle.refusals.specs.Judge.{verdict, judge}
+use Rattle.refusals.specs.Judge.{judge}
 use Rattle.ledger_sheet.proofs.Clauses.{right-parts}
 use Rattle.ledger_verdicts.proofs.open_verdict.Statement.{statement}
 use Rattle.ledger_verdicts.proofs.open_verdict.Tie as tie

@@ -2,7 +2,7 @@
 use mathlib.Core.Bool.{true, false}
 use mathlib.Core.Path.{_≡_}
 use Rattle.octets.proofs.Laws.{failed, passed}
-use Rattle.refusals.specs.Judge.{verdict, judge}
+use Rattle.refusals.specs.Judge.{judge}
 use Rattle.ledger_sheet.proofs.Clauses.{right-parts}
 use Rattle.ledger_rows.specs.inner.Scans.{noneHasOpen}
 use Rattle.ledger_verdicts.proofs.strike_verdict.Statement.{statement}

@@ -4,7 +4,6 @@ use borrow.Author.Tests.{le-leb, lt-leb}
 use Rattle.octets.proofs.Laws.{failed, passed}
 use Rattle.ledger_replay.specs.Trace.{headerSize, isTrace}
 use Rattle.ledger_replay.proofs.Clauses.{header-parts}
-use borrow.Author.Needs.{needs}
 use Rattle.ledger_replay.proofs.trace.is_trace.Statement.{statement}
 use Rattle.ledger_replay.proofs.trace.is_trace.Tie as tie
 

@@ -1,7 +1,7 @@
 -- `right::are_rows` meets its contract. The invariant: the array has the keys of the used rows among the first i, and what is
 -- gathered says it of them. Assumes nothing.
 use Prim.Native.Nat.{_≤_, _-_}
-use mathlib.Core.Path.{_≡_, refl, sym, _∙_}
+use mathlib.Core.Path.{refl, sym, _∙_}
 use mathlib.Core.Logic.{⊎-elim}
 use native.Mathlib.Omega.{arith}
 use Rattle.ledger_sheet.specs.Sheet.{rowCount}
