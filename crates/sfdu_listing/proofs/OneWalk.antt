@@ -119,11 +119,32 @@ from (suc n) s at h = by (wholeBy listRules (drop at s)) refl (from n s (past s 
         rw (program-goes s at e) (further s at e (programFrom s (past s at)) (rest (omega arith)))
     by false e rest = rw (program-stops s at e) (here-stopped s at e)
 
+-- A walk says two numbers where it stops.
+two-numbers : (s : List ℕ) → length (walkFrom s 0 .why) ≡ 2
+unfolding whole wholeBy accepts inStream
+two-numbers s = by (walk-right s .stops)
+  where
+    of : (at : ℕ) → Reads (drop at s) → accepts (drop at s) ≡ false → length (inStream at (readOne (drop at s))) ≡ 2
+    of at (accepted-one a) e = absurd (false≢true (sym e ∙ a))
+    of at (refused-one r) e = rw (r .words)
+
+    by : StopsAtEnd s (walkFrom s 0) ⊎ StopsRefused s (walkFrom s 0) → length (walkFrom s 0 .why) ≡ 2
+    by (inl x) = rw (x .1)
+    by (inr x) = rw (x .2) (of (walkFrom s 0 .stop) (reads (drop (walkFrom s 0 .stop) s)) (x .1))
+
 pub every-stream : EveryStream
 unfolding programFrom
 every-stream s =
     let f = from (length s) s 0 (omega arith) in
-    record { records = f .records; says-17 = f .says-17; says-walk = f .says-walk }
+    record { records = f .records; says-17 = f .says-17; only-17 = λ e. by (overAt s (programWalk s .stop)) refl e (f .says-walk); says-walk = f .says-walk }
+  where
+    -- The walk's refusals have a number behind them, and 17 has none.
+    by : (b : Bool) → overAt s (programWalk s .stop) ≡ b → programWalk s .why ≡ 17 ∷ []
+        → (overAt s (programWalk s .stop) ≡ false → programWalk s ≡ walkFrom s 0) → overAt s (programWalk s .stop) ≡ true
+    by true o e same = o
+    by false o e same =
+        let why : programWalk s .why ≡ walkFrom s 0 .why = ap (λ (w : Walk). w .why) (same o) in
+        absurd (omega (arith, ap length (sym e ∙ why), two-numbers s))
 
 -- ---- where no record is over the buffer
 
@@ -144,19 +165,6 @@ not-over s at fit stop o = by (whole s at) refl
         let first : AllFit (entryAt s at ∷ walkFrom s (past s at) .entries) = subst (λ (w : Walk). AllFit (w .entries)) (goes-on s at e) fit in
         omega (arith, first .0, over-long s at o)
     by false e = false≢true (sym (subst (λ (w : Walk). overAt s (w .stop) ≡ false) (stops s at e) stop) ∙ o)
-
--- A walk says two numbers where it stops.
-two-numbers : (s : List ℕ) → length (walkFrom s 0 .why) ≡ 2
-unfolding whole wholeBy accepts inStream
-two-numbers s = by (walk-right s .stops)
-  where
-    of : (at : ℕ) → Reads (drop at s) → accepts (drop at s) ≡ false → length (inStream at (readOne (drop at s))) ≡ 2
-    of at (accepted-one a) e = absurd (false≢true (sym e ∙ a))
-    of at (refused-one r) e = rw (r .words)
-
-    by : StopsAtEnd s (walkFrom s 0) ⊎ StopsRefused s (walkFrom s 0) → length (walkFrom s 0 .why) ≡ 2
-    by (inl x) = rw (x .1)
-    by (inr x) = rw (x .2) (of (walkFrom s 0 .stop) (reads (drop (walkFrom s 0 .stop) s)) (x .1))
 
 pub where-none-is-over : WhereNoneIsOver
 unfolding listing linesFrom

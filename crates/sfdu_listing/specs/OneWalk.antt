@@ -27,11 +27,12 @@ over s = noneApplies (rulesTo5 s) && ltb bufferSize (recordLength s)
 unfoldable pub overAt : List ℕ → ℕ → Bool
 overAt s at = over (drop at s)
 
--- Up to where the program stops both find the same records. There stands a record over the buffer, and it says 17; or none, and
--- it says all that the walk says: the records, the stop place, the refusal and the number that goes with it.
+-- Up to where the program stops both find the same records. There stands a record over the buffer, and then, and only then, it says
+-- 17; or none, and it says all that the walk says: the records, the stop place, the refusal and the number that goes with it.
 pub record UpToOver (s : List ℕ) : Type 0 where
   pub records : walkFrom s 0 ≡ prepend (programWalk s .entries) (walkFrom s (programWalk s .stop))
   pub says-17 : overAt s (programWalk s .stop) ≡ true → programWalk s .why ≡ 17 ∷ []
+  pub only-17 : programWalk s .why ≡ 17 ∷ [] → overAt s (programWalk s .stop) ≡ true
   pub says-walk : overAt s (programWalk s .stop) ≡ false → programWalk s ≡ walkFrom s 0
 
 abbrev pub EveryStream : Type 0
