@@ -1,7 +1,8 @@
 -- Laws of the definitions of `specs/Octets.antt`, each stated once, over the width or the index.
 -- Assumes nothing.
 use Prim.Native.Nat.{ℕ, zero, suc, _+_, _*_, _/_, _%_, _^_, _-_, _<_, _≤_}
-use native.Mathlib.Nat.{pow-suc, pow-le-pow-right, not-suc-le-zero, le-of-suc-le-suc, eq-or-lt-of-le, lt-of-lt-of-le, le-add-right, le-refl, add-zero, add-suc, mul-assoc}
+use native.Mathlib.Nat.{pow-suc, pow-le-pow-right, add-zero, add-suc, mul-assoc}
+use native.Mathlib.Nat.{not-suc-le-zero, le-of-suc-le-suc, eq-or-lt-of-le, lt-of-lt-of-le, le-add-right, le-refl}
 use native.Mathlib.Numerals.{add-one}
 use native.Mathlib.Omega.{arith}
 use mathlib.Core.Bool.{Bool, true, false, not, _&&_, false≢true}
@@ -14,7 +15,8 @@ use lib.Dec.{eqb, lit<, eqb·suc-zero}
 use mir.Syntax.{w8}
 use mir.Val.{Fits}
 use lib.ListN.{length, take, drop, getD, set, length-append, length-drop, length-set, List·getD-append}
-use lib.Seq.{paste, paste-zero, paste-suc, length-paste, take-length, take-set-le, drop-cons, drop-set-lt, getD-set-same, length-take-le, append-snoc, getD-take, getD-drop, length-paste-head, getD-append-add}
+use lib.Seq.{paste, paste-zero, paste-suc, length-paste, length-paste-head, take-length, length-take-le, append-snoc, getD-append-add}
+use lib.Seq.{take-set-le, drop-cons, drop-set-lt, getD-set-same, getD-take, getD-drop}
 use Rattle.octets.specs.Octets.{numberAt, bytesOf, part, put, all, zeroAt}
 
 -- ---- numbers
@@ -257,7 +259,8 @@ put-number s a (suc n) v p h =
     let tail : drop (a + n) (set s (a + n) b) ≡ b ∷ drop (suc (a + n)) s =
     drop-cons (set s (a + n) b) (a + n) 0 (rw length-set l) ∙ rw (getD-set-same s (a + n) b 0, drop-set-lt (suc (a + n)) s (a + n) b (le-refl _)) in
     let next : a + (n + 1) ≡ suc (a + n) = omega arith in
-    rw (m, take-set-le a s (a + n) b (le-add-right a n), length-append, length-bytesOf, tail, next, ← append-assoc (take a s) (bytesOf n (v / 256)), append-snoc)
+    let above = bytesOf n (v / 256) in
+    rw (m, take-set-le a s (a + n) b (le-add-right a n), length-append, length-bytesOf, tail, next, ← append-assoc (take a s) above, append-snoc)
 
 -- an element of the second of two lists
 pub getD-past : (p q : List ℕ) (n k : ℕ) → length p ≡ n → n ≤ k → getD (p ++ q) k 0 ≡ getD q (k - n) 0
@@ -271,7 +274,8 @@ pub putting-outside : (s : List ℕ) (a : ℕ) (v : List ℕ) (i k : ℕ) → a 
 unfolding putting
 putting-outside s a v i k h l (inl q) =
     let la : length (take a s) ≡ a = length-take-le a s (omega arith) in
-    rw (List·getD-append (take a s ++ take i v) (drop (a + i) s) 0 k (rw length-append (omega arith)), List·getD-append (take a s) (take i v) 0 k (omega arith), getD-take)
+    let head = List·getD-append (take a s ++ take i v) (drop (a + i) s) 0 k (rw length-append (omega arith)) in
+    rw (head, List·getD-append (take a s) (take i v) 0 k (omega arith), getD-take)
 putting-outside s a v i k h l (inr q) =
     let e : a + i + (k - (a + i)) ≡ k = omega arith in
     rw (getD-past (take a s ++ take i v) (drop (a + i) s) (a + i) k (length-paste-head s a v i (omega arith) l) q, getD-drop, e)

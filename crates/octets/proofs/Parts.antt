@@ -8,7 +8,8 @@ use mathlib.Core.List.{List, [], _∷_, _++_}
 use mathlib.Core.Path.{_≡_, refl, sym, ap, _∙_}
 use lib.Dec.{eqb, lit<}
 use lib.ListN.{length, getD, take, drop, replicate, length-replicate, getD-replicate, length-drop, List·getD-append}
-use lib.Seq.{take-add, drop-drop, take-suc, ext-getD, getD-drop, take-length, getD-append-add, getD-at, take-append-le, drop-append-le, drop-append-add, take-at, drop-at}
+use lib.Seq.{take-add, drop-drop, take-suc, ext-getD, getD-drop, take-length, getD-append-add, getD-at}
+use lib.Seq.{take-append-le, drop-append-le, drop-append-add, take-at, drop-at}
 use borrow.Author.Tests.{eqb-true, eq-eqb}
 use Rattle.octets.specs.Octets.{numberAt, bytesOf, part, zeroAt, sameAt}
 use Rattle.octets.proofs.Laws.{Bytes, length-bytesOf, length-part, part-at, all-at, all-each}
@@ -35,7 +36,9 @@ number-bytes zero v h = omega arith
 number-bytes (suc n) v h =
     let l = length-bytesOf n (v / 256) in
     let q : v / 256 < 256 ^ n = div-lt-iff-lt-mul (lit< tt) .1 (rw pow-suc at h) in
-    rw (number-first (bytesOf n (v / 256)) (v % 256 ∷ []) 0 n (omega arith), number-bytes n (v / 256) q, zero-add, getD-at (bytesOf n (v / 256)) (v % 256) [] 0 n l) (div-add-mod' v 256)
+    let above = bytesOf n (v / 256) in
+    let first = number-first above (v % 256 ∷ []) 0 n (omega arith) in
+    rw (first, number-bytes n (v / 256) q, zero-add, getD-at above (v % 256) [] 0 n l) (div-add-mod' v 256)
 
 -- what was read is written back
 pub bytes-number : (s : List ℕ) (a n : ℕ) → Bytes s → a + n ≤ length s → bytesOf n (numberAt s a n) ≡ part s a n

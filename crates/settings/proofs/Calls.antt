@@ -55,7 +55,10 @@ add-written xs x l =
     (let k : entrySize * (places - n) ≡ entrySize + entrySize * (places - (n + 1)) = omega arith in rw (k, replicate-append-replicate)) in
     let before : h ++ (e ++ (one ++ rest)) ≡ (h ++ e) ++ (one ++ rest) = simp append-assoc in
     let entry : put ((h ++ e) ++ (one ++ rest)) (entryAt n) b ≡ (h ++ e) ++ (b ++ rest) =
-    put-seam (h ++ e) one rest b (entryAt n) (omega (arith, length-append h e, length-header n, length-entries xs)) (length-replicate {A = ℕ} entrySize 0 ∙ sym (length-entry x)) in
+    (
+    let front : length (h ++ e) ≡ entryAt n = omega (arith, length-append h e, length-header n, length-entries xs) in
+    put-seam (h ++ e) one rest b (entryAt n) front (length-replicate {A = ℕ} entrySize 0 ∙ sym (length-entry x))
+    ) in
     let after : (h ++ e) ++ (b ++ rest) ≡ h ++ ((e ++ b) ++ rest) = simp append-assoc in
     let header : put (h ++ ((e ++ b) ++ rest)) 0 g ≡ g ++ ((e ++ b) ++ rest) =
     put-seam [] h ((e ++ b) ++ rest) g 0 refl (length-header n ∙ sym (length-header (n + 1))) in

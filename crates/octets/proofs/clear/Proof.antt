@@ -1,6 +1,6 @@
 -- `octets::clear` meets its contract. The invariant: the first i bytes are replaced. Assumes nothing.
 use lib.ListN.{length-replicate, getD-replicate}
-use Prim.Native.Nat.{_≤_, _-_}
+use Prim.Native.Nat.{ℕ, _≤_, _-_}
 use lib.ListN.{length, replicate, length-set}
 use Rattle.octets.proofs.Laws.{putting, putting-none, putting-more, putting-all}
 use mathlib.Core.Path.{_≡_, refl}
@@ -33,7 +33,8 @@ loop-again : tie.Need-loop-again Inv-loop μ-loop
 loop-again c =
     let n = c .before .before .args .n in
     let i = c .before .loop .i in
-    let step = putting-more _ _ (replicate n 0) i 0 (c .before .loop .inv .1) (getD-replicate n i 0 0 (omega arith)) (omega arith) (simp length-replicate (omega arith)) in
+    let zero = getD-replicate {A = ℕ} n i 0 0 (omega arith) in
+    let step = putting-more _ _ (replicate n 0) i 0 (c .before .loop .inv .1) zero (omega arith) (simp length-replicate (omega arith)) in
     (omega arith, step, rw length-set (c .before .loop .inv .2))
 
 same-length : tie.Need-same-length Inv-loop μ-loop

@@ -44,7 +44,10 @@ loop-again c =
     let l : length (part s₀ (g .a) (g .n)) ≡ g .n = length-part _ _ _ (omega arith) in
     let apart : (g .a + i < g .b) ⊎ (g .b + i ≤ g .a + i) = ⊎-elim (λ h. inl (omega arith)) (λ h. inr (omega arith)) (c .before .before .before .pre .1) in
     let read : getD (part s₀ (g .a) (g .n)) i 0 ≡ getD (c .before .before .loop .s) (g .a + i) 0 =
-    part-at _ _ _ i (omega arith) ∙ sym (rw (c .before .before .loop .inv .1) (putting-outside s₀ (g .b) (part s₀ (g .a) (g .n)) i (g .a + i) (omega arith) (omega arith) apart)) in
+    (
+    let outside = putting-outside s₀ (g .b) (part s₀ (g .a) (g .n)) i (g .a + i) (omega arith) (omega arith) apart in
+    part-at _ _ _ i (omega arith) ∙ sym (rw (c .before .before .loop .inv .1) outside)
+    ) in
     (omega arith, putting-more _ _ _ i _ (c .before .before .loop .inv .1) read (omega arith) (omega arith), rw length-set (c .before .before .loop .inv .2))
 
 same-length : tie.Need-same-length Inv-loop μ-loop

@@ -27,7 +27,8 @@ is-zero-requires-2 c κs = search needs
 returns-2 : tie.Need-returns-2
 returns-2 c =
     let g = c .before .before .before .before .args in
-    rw (c .before .are-zero .ensures, c .is-zero2 .ensures) (zero-cover (g .s .now) (g .a) (g .n) (4 * (g .n / 128 * 32)) 128 (omega arith) (omega arith) (omega arith))
+    let cover = zero-cover (g .s .now) (g .a) (g .n) (4 * (g .n / 128 * 32)) 128 (omega arith) (omega arith) (omega arith) in
+    rw (c .before .are-zero .ensures, c .is-zero2 .ensures) cover
 
 pub is-long-zero-spec : {M : Type 1} → statement M
 is-long-zero-spec =
