@@ -3,7 +3,7 @@ use Prim.Native.Nat.{ℕ, _+_, _-_, _≤_, _<_}
 use native.Mathlib.Omega.{arith}
 use mathlib.Core.Bool.{Bool, true, false, not, _&&_, _||_}
 use mathlib.Core.List.{List, [], _∷_}
-use mathlib.Core.Path.{_≡_, refl, sym, _∙_}
+use mathlib.Core.Path.{_≡_, refl, sym, ap, _∙_}
 use borrow.Author.Tests.{leb-true, ltb-false, eqb-true, not-false}
 use lib.Dec.{eqb, leb, lit<}
 use lib.ListN.{length}
@@ -12,6 +12,9 @@ use Rattle.octets.specs.Octets.{sameAt}
 use Rattle.octets.proofs.Laws.{and-split}
 use Rattle.sfdu.specs.declared.Kind.{Kind}
 use Rattle.sfdu.specs.declared.Kind.the-variants.{Telemetry, Rsr}
+use Rattle.sfdu.specs.declared.Primary.{Primary}
+use Rattle.sfdu.specs.declared.Read.{Read}
+use Rattle.sfdu.specs.declared.Read.the-variants.{Record}
 use Rattle.sfdu.specs.Nesting.{
   kindNumber,
   authority,
@@ -36,6 +39,8 @@ use Rattle.sfdu.specs.Nesting.{
   mostLabelLength,
 }
 use Rattle.sfdu.specs.Read.{
+  wordsOf,
+  primaryWords,
   hasKind,
   kindOf,
   labelLength,
@@ -182,6 +187,11 @@ found s k n rest e =
     let same : kindNumber k ≡ kindNumber (kindOf s) = cc in
     let size : n ≡ recordLength s = cc in
     record { accepted = a; kind = same-kind k (kindOf s) same; size = size; words = w }
+
+-- The same of the answer itself, a record.
+pub record-found : (s : List ℕ) {answer : Read} {k : Kind} {n : ℕ} {p : Primary} → answer ≡ Record k n p → wordsOf answer ≡ readOne s
+    → Found s k n (primaryWords p)
+record-found s {answer} {k} {n} {p} is read = found s k n (primaryWords p) (sym (ap wordsOf is) ∙ read)
 
 pub primary-found : {s : List ℕ} {k : Kind} {n : ℕ} {rest : List ℕ} → Found s k n rest → rest ≡ primaryOf s
 primary-found f = let w = f .words in cc

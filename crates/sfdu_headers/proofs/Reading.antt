@@ -1,5 +1,5 @@
 -- Read headers, case by case: read one's refusals first, then 15, then the fields. Assumes nothing.
-use Prim.Native.Nat.{ℕ}
+use Prim.Native.Nat.{ℕ, _≤_}
 use native.Mathlib.Omega.{arith}
 use mathlib.Core.Bool.{true}
 use mathlib.Core.List.{List, [], _∷_, map}
@@ -7,9 +7,12 @@ use mathlib.Core.Path.{_≡_, sym, ap, _∙_}
 use borrow.Author.Tests.{eq-eqb, ne-eqb}
 use Rattle.refusals.specs.Judge.{judge}
 use Rattle.refusals.proofs.Judged.{Outcome, none, first, outcome, none-judge, first-judge}
-use Rattle.sfdu.specs.Nesting.{kindNumber}
+use lib.ListN.{length}
+use Rattle.sfdu.specs.declared.Kind.{Kind}
+use Rattle.sfdu.specs.Nesting.{kindNumber, dataValueAt}
 use Rattle.sfdu.specs.Read.{kindOf, readRules, accepts, recordWords, readOne}
-use Rattle.sfdu.proofs.Accepted.{none-holds}
+use Rattle.sfdu.proofs.Accepted.{Found, none-holds}
+use Rattle.sfdu.proofs.Parts.{room}
 use Rattle.sfdu_headers.specs.Words.{number}
 use Rattle.sfdu_headers.specs.Headers.{wrongKind, judgedFields, readHeaders}
 
@@ -30,3 +33,14 @@ module _ (wanted : ℕ) (s : List ℕ) where
   pub right-kind : accepts s ≡ true → wanted ≡ kindNumber (kindOf s) → readHeaders wanted s ≡ judgedFields (kindOf s) s
   unfolding readHeaders judge
   right-kind a e = none-judge (map number) (readRules s) _ (none-holds s a) ∙ rw (eq-eqb _ _ e)
+
+-- ---- an arm of the call: read one answers a record, of the kind k
+
+module _ (s : List ℕ) {kind : Kind} {size : ℕ} {rest : List ℕ} (f : Found s kind size rest) (k : Kind) (e : kind ≡ k) where
+  pub arm-room : dataValueAt k ≤ length s
+  arm-room = let long = room s _ _ _ f in omega (arith, ap dataValueAt e, long .0, long .1)
+
+  pub arm-reads : (wanted : ℕ) → wanted ≡ kindNumber kind → judgedFields k s ≡ readHeaders wanted s
+  arm-reads wanted w =
+      let same = right-kind wanted s (f .accepted) (w ∙ ap kindNumber (f .kind)) in
+      sym (same ∙ ap (λ (x : Kind). judgedFields x s) (sym (f .kind) ∙ e))

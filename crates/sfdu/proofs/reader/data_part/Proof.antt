@@ -3,8 +3,8 @@ use mathlib.Core.Path.{refl, ap, sym, _∙_}
 use native.Mathlib.Omega.{arith}
 use Rattle.refusals.specs.Table.{numberOf}
 use Rattle.octets.specs.Octets.{part}
-use Rattle.sfdu.specs.Read.{wordsOf, primaryWords}
-use Rattle.sfdu.proofs.Accepted.{found, words-refused}
+use Rattle.sfdu.specs.Read.{wordsOf}
+use Rattle.sfdu.proofs.Accepted.{record-found, words-refused}
 use Rattle.sfdu.proofs.Parts.{room, data-start, data-part, no-parts}
 use borrow.Author.Needs.{needs}
 use Rattle.sfdu.proofs.reader.data_part.Statement.{statement}
@@ -23,7 +23,7 @@ sub-result : tie.Need-sub-result
 sub-result c =
     let s = c .before .before .before .before .before .before .args .s .now in
     let g = c .before .before .found .given in
-    let f = found s (g .0 .0) (g .0 .1 .0) (primaryWords (g .0 .1 .1 .0)) (sym (ap wordsOf (g .1)) ∙ c .before .before .before .before .read-one .ensures) in
+    let f = record-found s (g .1) (c .before .before .before .before .read-one .ensures) in
     let r = room s _ _ _ f in
     omega (arith, c .data-value-at .ensures)
 
@@ -31,7 +31,7 @@ part-result-start : tie.Need-part-result-start
 part-result-start c =
     let s = c .before .before .before .before .before .before .args .s .now in
     let g = c .before .before .found .given in
-    let f = found s (g .0 .0) (g .0 .1 .0) (primaryWords (g .0 .1 .1 .0)) (sym (ap wordsOf (g .1)) ∙ c .before .before .before .before .read-one .ensures) in
+    let f = record-found s (g .1) (c .before .before .before .before .read-one .ensures) in
     let r = room s _ _ _ f in
     omega (arith, c .data-value-at .ensures)
 
@@ -39,7 +39,7 @@ part-result-end : tie.Need-part-result-end
 part-result-end c =
     let s = c .before .before .before .before .before .before .args .s .now in
     let g = c .before .before .found .given in
-    let f = found s (g .0 .0) (g .0 .1 .0) (primaryWords (g .0 .1 .1 .0)) (sym (ap wordsOf (g .1)) ∙ c .before .before .before .before .read-one .ensures) in
+    let f = record-found s (g .1) (c .before .before .before .before .read-one .ensures) in
     let r = room s _ _ _ f in
     omega (arith, c .data-value-at .ensures)
 
@@ -63,7 +63,7 @@ returns c =
     let start = read .before .before in
     let s = start .args .s .now in
     let g = told .found .given in
-    let f = found s (g .0 .0) (g .0 .1 .0) (primaryWords (g .0 .1 .1 .0)) (sym (ap wordsOf (g .1)) ∙ read .read-one .ensures) in
+    let f = record-found s (g .1) (read .read-one .ensures) in
     (rw (data-part s _ _ _ f, c .before .data-value-at .ensures), refl, omega (arith, data-start s _ _ _ f, c .before .data-value-at .ensures))
 
 returns-2 : tie.Need-returns-2

@@ -4,9 +4,9 @@ use mathlib.Core.Path.{_≡_, refl, ap, sym, _∙_}
 use native.Mathlib.Omega.{arith}
 use Rattle.refusals.specs.Table.{numberOf}
 use Rattle.octets.specs.Octets.{part}
-use Rattle.sfdu.specs.Read.{wordsOf, primaryWords}
+use Rattle.sfdu.specs.Read.{wordsOf}
 use Rattle.sfdu.proofs.Placed.{placed}
-use Rattle.sfdu.proofs.Accepted.{found, words-refused}
+use Rattle.sfdu.proofs.Accepted.{record-found, words-refused}
 use Rattle.sfdu.proofs.Parts.{room, secondary-start, secondary-part, no-parts}
 use Rattle.sfdu.specs.Nesting.{secondaryValueAt, secondaryLength}
 use borrow.Author.Needs.{needs}
@@ -26,7 +26,7 @@ sub-result : tie.Need-sub-result
 sub-result c =
     let s = c .before .before .before .before .before .before .args .s .now in
     let g = c .before .before .found .given in
-    let f = found s (g .0 .0) (g .0 .1 .0) (primaryWords (g .0 .1 .1 .0)) (sym (ap wordsOf (g .1)) ∙ c .before .before .before .before .read-one .ensures) in
+    let f = record-found s (g .1) (c .before .before .before .before .read-one .ensures) in
     let r = room s _ _ _ f in
     let p = placed (g .0 .0) in
     omega (arith, c .data-at .ensures)
@@ -35,7 +35,7 @@ part-result-start : tie.Need-part-result-start
 part-result-start c =
     let s = c .before .before .before .before .before .before .args .s .now in
     let g = c .before .before .found .given in
-    let f = found s (g .0 .0) (g .0 .1 .0) (primaryWords (g .0 .1 .1 .0)) (sym (ap wordsOf (g .1)) ∙ c .before .before .before .before .read-one .ensures) in
+    let f = record-found s (g .1) (c .before .before .before .before .read-one .ensures) in
     let r = room s _ _ _ f in
     let p = placed (g .0 .0) in
     omega (arith, c .data-at .ensures)
@@ -44,7 +44,7 @@ part-result-end : tie.Need-part-result-end
 part-result-end c =
     let s = c .before .before .before .before .before .before .args .s .now in
     let g = c .before .before .found .given in
-    let f = found s (g .0 .0) (g .0 .1 .0) (primaryWords (g .0 .1 .1 .0)) (sym (ap wordsOf (g .1)) ∙ c .before .before .before .before .read-one .ensures) in
+    let f = record-found s (g .1) (c .before .before .before .before .read-one .ensures) in
     let r = room s _ _ _ f in
     let p = placed (g .0 .0) in
     omega (arith, c .data-at .ensures)
@@ -69,7 +69,7 @@ returns c =
     let start = read .before .before in
     let s = start .args .s .now in
     let g = told .found .given in
-    let f = found s (g .0 .0) (g .0 .1 .0) (primaryWords (g .0 .1 .1 .0)) (sym (ap wordsOf (g .1)) ∙ read .read-one .ensures) in
+    let f = record-found s (g .1) (read .read-one .ensures) in
     let p = placed (g .0 .0) in
     let n : c .before .data-at .result - secondaryValueAt ≡ secondaryLength (g .0 .0) = omega (arith, c .before .data-at .ensures) in
     (rw (secondary-part s _ _ _ f) (ap (λ (m : ℕ). part s secondaryValueAt m) n), refl, omega (arith, secondary-start s _ _ _ f))

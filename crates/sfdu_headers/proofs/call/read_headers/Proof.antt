@@ -1,17 +1,11 @@
 -- `sfdu_headers::call::read_headers` meets its contract. Assumes nothing.
-use Prim.Native.Nat.{_≤_}
-use native.Mathlib.Omega.{arith}
 use mathlib.Core.Path.{ap, sym, _∙_}
-use lib.ListN.{length}
 use Rattle.refusals.specs.Table.{numberOf}
-use Rattle.sfdu.specs.declared.Kind.{Kind}
 use Rattle.sfdu.specs.declared.Kind.the-variants.{Telemetry, Rsr}
-use Rattle.sfdu.specs.Nesting.{kindNumber, dataValueAt}
-use Rattle.sfdu.specs.Read.{wordsOf, primaryWords}
-use Rattle.sfdu.proofs.Accepted.{found, primary-found}
-use Rattle.sfdu.proofs.Parts.{room}
-use Rattle.sfdu_headers.specs.Headers.{judgedFields}
-use Rattle.sfdu_headers.proofs.Reading.{refused-first, wrong-kind, right-kind}
+use Rattle.sfdu.specs.Nesting.{kindNumber}
+use Rattle.sfdu.specs.Read.{wordsOf}
+use Rattle.sfdu.proofs.Accepted.{record-found, primary-found}
+use Rattle.sfdu_headers.proofs.Reading.{refused-first, wrong-kind, arm-room, arm-reads}
 use borrow.Author.Needs.{needs}
 use Rattle.sfdu_headers.proofs.call.read_headers.Statement.{statement}
 use Rattle.sfdu_headers.proofs.call.read_headers.Tie as tie
@@ -29,10 +23,9 @@ returns : tie.Need-returns
 returns c =
     let told = c .before .before .before in
     let read = told .before .before in
-    let start = read .before .before in
-    let s = start .args .s .now in
+    let s = read .before .before .args .s .now in
     let g = told .found .given in
-    let f = found s (g .0 .0) (g .0 .1 .0) (primaryWords (g .0 .1 .1 .0)) (sym (ap wordsOf (g .1)) ∙ read .read-one .ensures) in
+    let f = record-found s (g .1) (read .read-one .ensures) in
     sym (wrong-kind _ s (f .accepted) (λ e. c .if1 .taken (e ∙ sym (c .before .kind-number .ensures ∙ ap kindNumber (f .kind)))))
 
 enum-told : tie.Need-enum-told
@@ -42,13 +35,10 @@ fields-requires : tie.Need-fields-requires
 fields-requires c κs =
     let told = c .before .before .before .before .before in
     let read = told .before .before in
-    let start = read .before .before in
-    let s = start .args .s .now in
+    let s = read .before .before .args .s .now in
     let g = told .found .given in
-    let f = found s (g .0 .0) (g .0 .1 .0) (primaryWords (g .0 .1 .1 .0)) (sym (ap wordsOf (g .1)) ∙ read .read-one .ensures) in
-    let long = room s _ _ _ f in
-    let low : dataValueAt Telemetry ≤ length s = omega (arith, ap dataValueAt (c .enum-told .given .1), long .0, long .1) in
-    (f .size, primary-found f, low)
+    let f = record-found s (g .1) (read .read-one .ensures) in
+    (f .size, primary-found f, arm-room s f Telemetry (c .enum-told .given .1))
 
 returns-2 : tie.Need-returns-2
 returns-2 c =
@@ -57,14 +47,10 @@ returns-2 c =
     let numbered = tested .before in
     let told = numbered .before .before in
     let read = told .before .before in
-    let start = read .before .before in
-    let s = start .args .s .now in
+    let s = read .before .before .args .s .now in
     let g = told .found .given in
-    let f = found s (g .0 .0) (g .0 .1 .0) (primaryWords (g .0 .1 .1 .0)) (sym (ap wordsOf (g .1)) ∙ read .read-one .ensures) in
-    let e = (kind-told .enum-told .given .1) in
-    let kind = sym (f .kind) ∙ e in
-    let same = tested .if1 .left ∙ numbered .kind-number .ensures ∙ ap kindNumber (f .kind) in
-    c .fields .ensures ∙ sym (right-kind _ s (f .accepted) same ∙ ap (λ (k : Kind). judgedFields k s) kind)
+    let wanted = tested .if1 .left ∙ numbered .kind-number .ensures in
+    c .fields .ensures ∙ arm-reads s (record-found s (g .1) (read .read-one .ensures)) Telemetry (kind-told .enum-told .given .1) _ wanted
 
 enum-told-2 : tie.Need-enum-told-2
 enum-told-2 c = search needs
@@ -73,13 +59,10 @@ fields-requires-2 : tie.Need-fields-requires-2
 fields-requires-2 c κs =
     let told = c .before .before .before .before .before in
     let read = told .before .before in
-    let start = read .before .before in
-    let s = start .args .s .now in
+    let s = read .before .before .args .s .now in
     let g = told .found .given in
-    let f = found s (g .0 .0) (g .0 .1 .0) (primaryWords (g .0 .1 .1 .0)) (sym (ap wordsOf (g .1)) ∙ read .read-one .ensures) in
-    let long = room s _ _ _ f in
-    let low : dataValueAt Rsr ≤ length s = omega (arith, ap dataValueAt (c .enum-told2 .given .1), long .0, long .1) in
-    (f .size, primary-found f, low)
+    let f = record-found s (g .1) (read .read-one .ensures) in
+    (f .size, primary-found f, arm-room s f Rsr (c .enum-told2 .given .1))
 
 returns-3 : tie.Need-returns-3
 returns-3 c =
@@ -88,14 +71,10 @@ returns-3 c =
     let numbered = tested .before in
     let told = numbered .before .before in
     let read = told .before .before in
-    let start = read .before .before in
-    let s = start .args .s .now in
+    let s = read .before .before .args .s .now in
     let g = told .found .given in
-    let f = found s (g .0 .0) (g .0 .1 .0) (primaryWords (g .0 .1 .1 .0)) (sym (ap wordsOf (g .1)) ∙ read .read-one .ensures) in
-    let e = (kind-told .enum-told2 .given .1) in
-    let kind = sym (f .kind) ∙ e in
-    let same = tested .if1 .left ∙ numbered .kind-number .ensures ∙ ap kindNumber (f .kind) in
-    c .fields2 .ensures ∙ sym (right-kind _ s (f .accepted) same ∙ ap (λ (k : Kind). judgedFields k s) kind)
+    let wanted = tested .if1 .left ∙ numbered .kind-number .ensures in
+    c .fields2 .ensures ∙ arm-reads s (record-found s (g .1) (read .read-one .ensures)) Rsr (kind-told .enum-told2 .given .1) _ wanted
 
 enum-known-found-2 : tie.Need-enum-known-found-2
 enum-known-found-2 c = search needs
