@@ -4,6 +4,7 @@ use mathlib.Core.List.{List}
 use mathlib.Core.Path.{_≡_}
 use lib.ListN.{take}
 use Rattle.text.specs.declared.State.{State}
+use Rattle.turns.specs.inner.Turn as turns
 use Rattle.idr.specs.Words.{recordSize}
 use Rattle.idr_listing.specs.Text.{mostLine}
 use Rattle.idr_listing.specs.inner.Lists.{Lists}

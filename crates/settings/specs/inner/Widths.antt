@@ -1,7 +1,7 @@
 -- How many bytes fields have. Assumes nothing.
 use Prim.Native.Nat.{ℕ, _+_}
 use mathlib.Core.List.{List, [], _∷_}
-use Rattle.settings.specs.Fields.{Field}
+use Rattle.settings.specs.Fields.{Field, _holding_}
 
 -- Fields one after the other: how many bytes they are, and their bytes.
 abbrev pub widthOf : List Field → ℕ
