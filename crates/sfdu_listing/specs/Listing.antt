@@ -5,7 +5,7 @@ use lib.Dec.{ltb}
 use Rattle.refusals.specs.Judge.{Rule, _when_}
 use Rattle.sfdu.specs.Read.{kindOf, recordLength, labelRules, rangeRule, cutRule, headerRules, dataRules}
 use Rattle.sfdu_stream.specs.declared.Entry.{Entry}
-use Rattle.sfdu_stream.specs.Listing.{walkBy}
+use Rattle.sfdu_stream.specs.Listing.{Listing as Walk, walkBy}
 use Rattle.sfdu_listing.specs.Text.{heading, line, lastLine}
 
 -- The bytes of the program's buffer.

@@ -10,7 +10,7 @@ use Rattle.sfdu.specs.Read.{primaryWords, faultWords, recordLength, readRules, 
 use Rattle.sfdu_stream.specs.declared.Step.{Step}
 use Rattle.sfdu_stream.specs.declared.Step.the-variants.{Found, Done, Refused}
 use Rattle.sfdu_stream.specs.declared.Stop.{Stop}
-use Rattle.sfdu_stream.specs.declared.Stop.the-variants.{End}
+use Rattle.sfdu_stream.specs.declared.Stop.the-variants.{End, Refused as StopRefused}
 use Rattle.sfdu_stream.specs.declared.Walked.{Walked}
 
 -- ---- what the answers of the calls say
