@@ -145,7 +145,8 @@ fn rsr(
     key: u64,
     day_count: u32,
 ) -> [u64; NUMBERS]
-    ensures { λ r. ⌜ Numbers r (accepted Rsr size (primaryWords primary) (sourceWords source ++ signalWords signal ++ timeWords time) key (number «day_count» ∷ [])) ⌝ }
+    ensures { λ r. ⌜ Numbers r (accepted Rsr size (primaryWords primary)
+        (sourceWords source ++ signalWords signal ++ timeWords time) key (number «day_count» ∷ [])) ⌝ }
 {
     let begun = record(Kind::Rsr, size, primary);
     let from = with_source(begun, source);

@@ -33,7 +33,8 @@ exported words answer = cond (eqb (length answer) answerSize) (returned words, a
 
 -- A call that changes a lent slice, and promises numbers, of which `read` makes the words of its answer, and the slice as it is left: what is
 -- returned, the answer's slice, and that slice.
-unfoldable pub exportedAs : {A : Type 0} (read : List ℕ → List Word) (promised : List A → List ℕ × List A) (answer : List ℕ) (lent : List A) → ℕ × List ℕ × List A
+unfoldable pub exportedAs : {A : Type 0} (read : List ℕ → List Word) (promised : List A → List ℕ × List A) (answer : List ℕ) (lent : List A)
+    → ℕ × List ℕ × List A
 exportedAs read promised answer lent =
     let words = read (promised lent .0) in
     cond (eqb (length answer) answerSize) (returned words, answerBytes (numbersOf words), promised lent .1) (numberOf AnswerLength, answer, lent)

@@ -31,7 +31,8 @@ pub extern "C" fn hernganow_settings_add(
     frame: u32,
     answer: &mut [u8],
 ) -> u32
-    ensures { λ r. ⌜ (r, now (answer .exit), now (settings .exit)) ≡ exportedOn (onSheet (add mission edition day frame)) (now (answer .entry)) (now (settings .entry)) ⌝ }
+    ensures { λ r. ⌜ (r, now (answer .exit), now (settings .exit))
+        ≡ exportedOn (onSheet (add mission edition day frame)) (now (answer .entry)) (now (settings .entry)) ⌝ }
 {
     if answer.len() != ANSWER {
         return unwritten();

@@ -11,7 +11,8 @@ ghost use Rattle.host.specs.Exported.{exportedAs};
 // Makes the slice a fresh sheet and plays the trace over it.
 #[no_mangle]
 pub extern "C" fn hernganow_replay(trace: &[u8], sheet: &mut [u8], answer: &mut [u8]) -> u32
-    ensures { λ r. ⌜ (r, now (answer .exit), now (sheet .exit)) ≡ exportedAs (withNone 4) (replayOn (now (trace .entry))) (now (answer .entry)) (now (sheet .entry)) ⌝ }
+    ensures { λ r. ⌜ (r, now (answer .exit), now (sheet .exit))
+        ≡ exportedAs (withNone 4) (replayOn (now (trace .entry))) (now (answer .entry)) (now (sheet .entry)) ⌝ }
 {
     if answer.len() != ANSWER {
         return unwritten();

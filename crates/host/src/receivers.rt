@@ -53,7 +53,8 @@ pub extern "C" fn hernganow_pack(
     out: &mut [u8],
     answer: &mut [u8],
 ) -> u32
-    ensures { λ r. ⌜ (r, now (answer .exit), now (out .exit)) ≡ exportedOn (packing size rate (now (samples .entry))) (now (answer .entry)) (now (out .entry)) ⌝ }
+    ensures { λ r. ⌜ (r, now (answer .exit), now (out .exit))
+        ≡ exportedOn (packing size rate (now (samples .entry))) (now (answer .entry)) (now (out .entry)) ⌝ }
 {
     if answer.len() != ANSWER {
         return unwritten();

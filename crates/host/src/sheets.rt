@@ -78,7 +78,8 @@ pub extern "C" fn hernganow_untick(
     number: u32,
     answer: &mut [u8],
 ) -> u32
-    ensures { λ r. ⌜ (r, now (answer .exit), now (sheet .exit)) ≡ exportedOn (onSheet (call (Untick desk number))) (now (answer .entry)) (now (sheet .entry)) ⌝ }
+    ensures { λ r. ⌜ (r, now (answer .exit), now (sheet .exit))
+        ≡ exportedOn (onSheet (call (Untick desk number))) (now (answer .entry)) (now (sheet .entry)) ⌝ }
 {
     if answer.len() != ANSWER {
         return unwritten();

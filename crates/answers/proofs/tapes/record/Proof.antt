@@ -53,8 +53,10 @@ returns c =
     let recorded = c .before .before .before in
     let started = recorded .before .before in
     let read = started .before .before .found .given in
-    rw (c .with-count .ensures, c .before .with-status .ensures, c .before .before .with-reduction .ensures, recorded .with-recorder .ensures, recorded .before .with-time .ensures, started .with-origin .ensures)
-    (tagged-numbers _ _ _ _ _ (read .0 .1 .1 .1 .1 .1 .0) ∙ sym (ap (λ (x : Read). numbersIn tapeCount (withNone tapeCount (wordsOf x))) (read .1)))
+    let reduced = c .before .before in
+    rw (c .with-count .ensures, c .before .with-status .ensures, reduced .with-reduction .ensures)
+    (rw (recorded .with-recorder .ensures, recorded .before .with-time .ensures, started .with-origin .ensures)
+    (tagged-numbers _ _ _ _ _ (read .0 .1 .1 .1 .1 .1 .0) ∙ sym (ap (λ (x : Read). numbersIn tapeCount (withNone tapeCount (wordsOf x))) (read .1))))
 
 returns-2 : tie.Need-returns-2
 returns-2 c =
