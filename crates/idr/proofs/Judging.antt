@@ -10,7 +10,8 @@ use lib.ListN.{length, getD}
 use Rattle.refusals.specs.Judge.{Rule, verdict, judge}
 use Rattle.refusals.specs.Table.{numberOf}
 use Rattle.refusals.specs.declared.Refusal.{Refusal}
-use Rattle.refusals.proofs.Judged.{NoneHolds, Numbered, Outcome, none, first, outcome, none-judge, first-judge, first-gives, none-applies, none-hold, none-verdict, verdict-none}
+use Rattle.refusals.proofs.Judged.{NoneHolds, Numbered, Outcome, none, first, outcome, none-judge, first-judge, first-gives}
+use Rattle.refusals.proofs.Judged.{none-applies, none-hold, none-verdict, verdict-none}
 use Rattle.refusals.proofs.Laws.{number-positive}
 use Rattle.octets.specs.Octets.{part}
 use Rattle.octets.proofs.Laws.{and-true}

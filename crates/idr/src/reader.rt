@@ -56,7 +56,8 @@ fn judge_record(s: &[u8]) -> Outcome
 
 // The samples, that very part of the record; the empty part at its start where it is refused.
 pub fn samples(s: &[u8]) -> &[u8]
-    ensures { λ r. ⌜ (now r ≡ samplesPart (now (s .entry))) × (ptr r .0 ≡ ptr (s .entry) .0) × (ptr r .1 ≡ ptr (s .entry) .1 + samplesStart (now (s .entry))) ⌝ }
+    ensures { λ r. ⌜ (now r ≡ samplesPart (now (s .entry))) × (ptr r .0 ≡ ptr (s .entry) .0)
+        × (ptr r .1 ≡ ptr (s .entry) .1 + samplesStart (now (s .entry))) ⌝ }
 {
     let judged = judge_record(s);
     match judged {
