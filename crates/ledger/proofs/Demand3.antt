@@ -12,7 +12,7 @@ use Rattle.ledger_sheet.specs.Sheet.{sheetSize}
 use Rattle.ledger_sheet.specs.Outcome.{Outcome}
 use Rattle.ledger_changes.specs.Bytes.{freshSheet}
 use Rattle.ledger_layout.specs.Layout.{layout, freshOn}
-use Rattle.ledger_layout.specs.Demand3 as Layout
+use Rattle.ledger_layout.specs.inner.Demand3 as Layout
 use Rattle.ledger_layout.proofs.Demand3.{answer-meets, row-answer-meets, report-answer-meets, gap-answer-meets, demand3}
 use Rattle.ledger_layout.proofs.Sheets.{fresh-layout}
 use Rattle.ledger.specs.Demand3.{MadeFresh, Promised, enrolled, found, reported, gapped, opened, ticked, unticked, saved, dropped, struck, Demand3}

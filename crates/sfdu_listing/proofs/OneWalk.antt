@@ -24,7 +24,7 @@ use Rattle.sfdu_stream.proofs.Places.{whole-record}
 use Rattle.sfdu_stream.proofs.Laws.{walk-right}
 use Rattle.sfdu_stream.proofs.Listings.{goes-by, stops-by, goes-on, stops}
 use Rattle.sfdu_listing.specs.Text.{heading}
-use Rattle.sfdu_listing.specs.Listing as Listed
+use Rattle.sfdu_listing.specs.inner.Stops as Listed
 use Rattle.sfdu_listing.specs.Listing.{bufferSize, overRule, listRules, textOf, linesFrom, listing}
 use Rattle.sfdu_listing.specs.OneWalk.{programWalk, rulesTo5, over, overAt, UpToOver, EveryStream, AllFit, NoneOver, Same, WhereNoneIsOver}
 use Rattle.sfdu_listing.proofs.Judging.{back, whole-accepted}
