@@ -21,8 +21,8 @@ pub static SAMPLES: [Sample; 13] = [
     Sample {
         name: "good-night",
         last_line: "49866 0 0",
-        about: "A whole night: 240 records of five streams, both kinds; virtual stream 1 passes number \
-            4294967295, subchannel 2 passes 65535.",
+        about: "A whole night: 240 records of five streams, both kinds; virtual stream 1 wraps past number \
+            4294967295, subchannel 2 past 65535.",
         make: good_night,
     },
     Sample {
@@ -214,7 +214,7 @@ fn night_sheet() -> Vec<u8> {
 pub static RSR_STREAMS: [Sample; 1] = [Sample {
     name: "rsr/tone",
     last_line: "",
-    about: "Two seconds of a tone, two records: samples of 8 bits, 1,000 a second, 48 of them a turn.",
+    about: "Two seconds of a tone, two records: samples of 8 bits, 1,000 a second, 48 to a period.",
     make: tone,
 }];
 
