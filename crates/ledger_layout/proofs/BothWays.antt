@@ -1,8 +1,15 @@
--- Right sheets are the layouts of well-formed books, both ways. Assumes nothing.
+-- Right sheets are the layouts of well-formed books, both ways; and what `fresh` makes of a slice. Assumes nothing.
 use Prim.Native.Nat.{ℕ}
-use mathlib.Core.List.{List}
+use mathlib.Core.List.{List, [], _∷_}
+use mathlib.Core.Logic.{_≢_}
+use mathlib.Core.Path.{_≡_}
+use borrow.Author.Tests.{eq-eqb, ne-eqb}
+use lib.ListN.{length}
+use Rattle.ledger_model.specs.Book.{fresh}
 use Rattle.octets.proofs.Laws.{Bytes}
-use Rattle.ledger_layout.specs.BothWays.{AreBytes, BothWays}
+use Rattle.ledger_sheet.specs.Sheet.{sheetSize}
+use Rattle.ledger_layout.specs.Layout.{layout, freshOn}
+use Rattle.ledger_layout.specs.BothWays.{AreBytes, BothWays, FreshByLength}
 use Rattle.ledger_layout.proofs.Read.{read-law, book-fine}
 use Rattle.ledger_layout.proofs.Right.{reads-back, layout-right}
 
@@ -17,3 +24,16 @@ both-ways =
       is-right = layout-right;
       holds-it = reads-back;
     }
+
+-- ---- fresh
+
+made-fresh : (s : List ℕ) → length s ≡ sheetSize → freshOn s ≡ (0 ∷ [], layout fresh)
+unfolding freshOn
+made-fresh s e = rw (eq-eqb (length s) sheetSize e)
+
+left-alone : (s : List ℕ) → length s ≢ sheetSize → freshOn s ≡ (20 ∷ [], s)
+unfolding freshOn
+left-alone s n = rw (ne-eqb (length s) sheetSize n)
+
+pub fresh-by-length : FreshByLength
+fresh-by-length = record { made = made-fresh; refused = left-alone }

@@ -1,13 +1,14 @@
--- Right sheets are the layouts of well-formed books, both ways. Assumes nothing.
+-- Right sheets are the layouts of well-formed books, both ways; and what `fresh` makes of a slice. Assumes nothing.
 use Prim.Native.Nat.{ℕ, _<_}
 use mathlib.Core.Bool.{true}
-use mathlib.Core.List.{List}
+use mathlib.Core.List.{List, [], _∷_}
+use mathlib.Core.Logic.{_≢_}
 use mathlib.Core.Path.{_≡_}
-use lib.ListN.{getD}
-use Rattle.ledger_model.specs.Book.{Book}
+use lib.ListN.{length, getD}
+use Rattle.ledger_model.specs.Book.{Book, fresh}
 use Rattle.ledger_model.specs.WellFormed.{WellFormed}
-use Rattle.ledger_sheet.specs.Sheet.{right}
-use Rattle.ledger_layout.specs.Layout.{layout, bookOf}
+use Rattle.ledger_sheet.specs.Sheet.{sheetSize, right}
+use Rattle.ledger_layout.specs.Layout.{layout, bookOf, freshOn}
 
 -- A list of bytes, as every slice of them is.
 abbrev pub AreBytes : List ℕ → Type 0
@@ -20,3 +21,8 @@ pub record BothWays : Type 0 where
   -- A well-formed book laid out is a right sheet, and holds that book.
   pub is-right : (b : Book) → WellFormed b → right (layout b) ≡ true
   pub holds-it : (b : Book) → WellFormed b → bookOf (layout b) ≡ b
+
+-- Fresh looks at the length alone: a slice of a sheet's length becomes the fresh book laid out, whatever it held; any other is left.
+pub record FreshByLength : Type 0 where
+  pub made : (s : List ℕ) → length s ≡ sheetSize → freshOn s ≡ (0 ∷ [], layout fresh)
+  pub refused : (s : List ℕ) → length s ≢ sheetSize → freshOn s ≡ (20 ∷ [], s)
