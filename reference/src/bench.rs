@@ -64,7 +64,7 @@ fn replay_number(answer: Result<Replayed, u32>) -> u64 {
     }
 }
 
-/// Every number of the answer, one on the other, so that every field has to be read; Px/No, which may be negative, is left out.
+/// Every number of the answer, one on the other, so that every field has to be read: Px/No in two's complement, a none all ones.
 fn headers_number(answer: Result<(Record, Fields), Refused>) -> u64 {
     match answer {
         Ok((record, Fields::Telemetry(fields))) => record_number(&record) ^ telemetry_number(&fields),
@@ -79,7 +79,7 @@ fn record_number(record: &Record) -> u64 {
 }
 
 fn telemetry_number(t: &Telemetry) -> u64 {
-    let band = t.uplink_band.map_or(0, u64::from);
+    let band = t.uplink_band.map_or(u64::MAX, u64::from);
     t.spacecraft as u64
         ^ t.source as u64
         ^ t.received
@@ -107,6 +107,7 @@ fn rsr_number(r: &Rsr) -> u64 {
         ^ r.downlink_band as u64
         ^ r.mode as u64
         ^ r.uplink_station as u64
+        ^ r.expected_px_no as i64 as u64
         ^ r.bandwidth as u64
         ^ r.override_flag as u64
         ^ r.attenuation as u64

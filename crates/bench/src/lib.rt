@@ -9,147 +9,44 @@ use ledger_sheet::Answer;
 use ledger_sheet::ROWS;
 use ledger_sheet::ReportAnswer;
 use ledger_sheet::SHEET;
-use sfdu::Fault;
-use sfdu::Primary;
-use sfdu_headers::Band;
-use sfdu_headers::Headers;
-use sfdu_headers::ReceivedTime;
-use sfdu_headers::RsrSignal;
-use sfdu_headers::RsrSource;
-use sfdu_headers::RsrTime;
-use sfdu_headers::TelemetryFields;
 ghost use mathlib.Core.Path.{_≡_};
-ghost use mathlib.Core.List.{[], _∷_, _++_, map};
+ghost use mathlib.Core.List.{[], _∷_};
 ghost use Prim.Native.Nat.{_+_, _*_, _^_};
 ghost use lib.ListN.{getD};
 ghost use Rattle.ledger_sheet.specs.Words.{answerWords, reportAnswerWords};
-ghost use Rattle.sfdu.specs.Read.{primaryWords, faultWords};
-ghost use Rattle.sfdu_headers.specs.Words.{number};
-ghost use Rattle.sfdu_headers.specs.Headers.{readHeaders, bandWord, telemetryFieldWords, sourceWords, signalWords, timeWords, receivedWords};
+ghost use Rattle.sfdu_headers.specs.Headers.{readHeaders};
+ghost use Rattle.answers.specs.Numbers.{numbersOf};
 ghost use Rattle.sfdu_stream.specs.Listing.{walked};
 ghost use Rattle.ledger_sheet.specs.Sheet.{right};
 ghost use Rattle.ledger_model.specs.Step.{Tick, Untick, Ask, RowReport};
 ghost use Rattle.ledger_layout.specs.Layout.{call, onSheet};
-ghost use Rattle.bench.specs.inner.Digest.{value, onto, digest, flag, counts, counted};
+ghost use Rattle.bench.specs.inner.Digest.{xorOf, flag, counts, counted};
 
-// The words of an accepted answer that the kinds begin with, and that of a kind not asked for; and what adds nothing to a number.
+// The first word of an accepted answer, and what adds nothing to a number.
 const ACCEPTED: u64 = 0;
-
-const TELEMETRY: u64 = 1;
-
-const RSR: u64 = 2;
-
-const WRONG_KIND: u64 = 15;
 
 const NOTHING: u64 = 0;
 
-// Every word of the answer goes into the number, so that every field is read.
+// Every number of the answer goes into the one number, so that every field is read.
 #[no_mangle]
 pub extern "C" fn bench_read_headers(s: &[u8], wanted: u32) -> u64
-    ensures { λ r. ⌜ r ≡ digest (readHeaders wanted (now (s .entry))) ⌝ }
+    ensures { λ r. ⌜ r ≡ xorOf (numbersOf (readHeaders wanted (now (s .entry)))) ⌝ }
 {
     let found = sfdu_headers::read_headers(s, wanted);
-    match found {
-        Headers::Telemetry {
-            size,
-            primary,
-            fields,
-            key,
-            received,
-        } => accepted_onto(
-            TELEMETRY,
-            size,
-            primary,
-            telemetry_onto(fields, key ^ received_onto(received, NOTHING)),
-        ),
-        Headers::Rsr {
-            size,
-            primary,
-            source,
-            signal,
-            time,
-            key,
-            day_count,
-        } => accepted_onto(
-            RSR,
-            size,
-            primary,
-            rsr_onto(source, signal, time, key ^ (day_count as u64 ^ NOTHING)),
-        ),
-        Headers::Refused(fault) => fault_onto(fault, NOTHING),
-        Headers::WrongKind => WRONG_KIND ^ NOTHING,
+    xor_of(answers::records::headers(found))
+}
+
+// The numbers one on the other, from the last.
+fn xor_of(numbers: [u64; answers::NUMBERS]) -> u64
+    ensures { λ r. ⌜ r ≡ xorOf numbers ⌝ }
+{
+    let mut all = NOTHING;
+    let mut i = answers::NUMBERS;
+    while 0 < i {
+        i -= 1;
+        all ^= numbers[i];
     }
-}
-
-fn fault_onto(fault: Fault, rest: u64) -> u64
-    ensures { λ r. ⌜ r ≡ onto (map number (faultWords fault)) rest ⌝ }
-{
-    let refusal = fault.refusal;
-    refusals::number(refusal) as u64 ^ (fault.at as u64 ^ rest)
-}
-
-fn accepted_onto(kind: u64, size: usize, primary: Primary, rest: u64) -> u64
-    ensures { λ r. ⌜ r ≡ onto (number 0 ∷ number kind ∷ number size ∷ map number (primaryWords primary)) rest ⌝ }
-{
-    ACCEPTED ^ (kind ^ (size as u64 ^ primary_onto(primary, rest)))
-}
-
-fn primary_onto(p: Primary, rest: u64) -> u64
-    ensures { λ r. ⌜ r ≡ onto (map number (primaryWords p)) rest ⌝ }
-{
-    p.major as u64 ^ (p.minor as u64 ^ (p.mission as u64 ^ (p.format as u64 ^ rest)))
-}
-
-fn telemetry_onto(f: TelemetryFields, rest: u64) -> u64
-    ensures { λ r. ⌜ r ≡ onto (telemetryFieldWords f) rest ⌝ }
-{
-    let uplink = f.uplink;
-    let last = f.mode as u64 ^ (f.stream as u64 ^ (f.equipment as u64 ^ rest));
-    let banded = band_value(uplink) ^ last;
-    f.spacecraft as u64 ^ (f.source as u64 ^ (f.received ^ (f.number as u64 ^ banded)))
-}
-
-fn received_onto(f: ReceivedTime, rest: u64) -> u64
-    ensures { λ r. ⌜ r ≡ onto (receivedWords f) rest ⌝ }
-{
-    f.days as u64 ^ (f.milliseconds as u64 ^ (f.extended as u64 ^ rest))
-}
-
-fn band_value(band: Band) -> u64
-    ensures { λ r. ⌜ r ≡ value (bandWord band) ⌝ }
-{
-    match band {
-        Band::Letter(letter) => letter as u64,
-        Band::Unused => NOTHING,
-    }
-}
-
-fn rsr_onto(source: RsrSource, signal: RsrSignal, time: RsrTime, rest: u64) -> u64
-    ensures { λ r. ⌜ r ≡ onto (sourceWords source ++ signalWords signal ++ timeWords time) rest ⌝ }
-{
-    source_onto(source, signal_onto(signal, time_onto(time, rest)))
-}
-
-fn source_onto(f: RsrSource, rest: u64) -> u64
-    ensures { λ r. ⌜ r ≡ onto (sourceWords f) rest ⌝ }
-{
-    let last = f.subchannel as u64 ^ (f.spacecraft as u64 ^ (f.pass as u64 ^ rest));
-    let middle = f.complex as u64 ^ (f.station as u64 ^ (f.receiver as u64 ^ last));
-    f.software as u64 ^ (f.number as u64 ^ middle)
-}
-
-fn signal_onto(f: RsrSignal, rest: u64) -> u64
-    ensures { λ r. ⌜ r ≡ onto (signalWords f) rest ⌝ }
-{
-    let last = f.attenuation as u64 ^ (f.rms as u64 ^ (f.peak as u64 ^ rest));
-    let middle = NOTHING ^ (f.bandwidth as u64 ^ (f.overridden as u64 ^ last));
-    f.uplink as u64 ^ (f.downlink as u64 ^ (f.mode as u64 ^ (f.uplink_station as u64 ^ middle)))
-}
-
-fn time_onto(f: RsrTime, rest: u64) -> u64
-    ensures { λ r. ⌜ r ≡ onto (timeWords f) rest ⌝ }
-{
-    f.year as u64 ^ (f.day as u64 ^ (f.frequency ^ rest))
+    all
 }
 
 #[no_mangle]

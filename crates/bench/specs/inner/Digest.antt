@@ -24,6 +24,11 @@ onto (w ∷ words) rest = bitXor (value w) (onto words rest)
 abbrev pub digest : List Word → ℕ
 digest words = onto words 0
 
+-- Numbers one on the other.
+unfoldable pub xorOf : List ℕ → ℕ
+xorOf [] = 0
+xorOf (n ∷ ns) = bitXor n (xorOf ns)
+
 abbrev pub flag : Bool → ℕ
 flag b = cond b 1 0
 
