@@ -1,5 +1,6 @@
 -- Document 02, Req 06: the numbers of an answer. First the refusal's number or 0; behind it the answer's numbers as the papers order them,
 -- those that Req 01 adds at their end. A none is all ones in each of its numbers, Px/No two's complement; zeros fill the rest. Assumes nothing.
+-- The manual, docs/INTERFACE.md: "Calls from C".
 use Prim.Native.Nat.{ℕ, _-_}
 use mathlib.Core.Bool.{cond}
 use mathlib.Core.List.{List, [], _++_, map}

@@ -1,4 +1,5 @@
 -- The answers of the two calls. Assumes nothing.
+-- The manual, docs/INTERFACE.md: "Dates".
 use Prim.Native.Nat.{ℕ}
 use mathlib.Core.Bool.{cond}
 use mathlib.Core.List.{List, [], _∷_}

@@ -1,5 +1,6 @@
 -- Document 02, Req 01: dates of the years 1900 to 3000, and their day counts from 1 January 1900, which is day 0.
 -- Assumes nothing.
+-- The manual, docs/INTERFACE.md: "Dates".
 use Prim.Native.Nat.{ℕ, zero, suc, _+_, _-_, _%_}
 use mathlib.Core.Bool.{Bool, cond, not, _&&_, _||_}
 use mathlib.Core.List.{List, [], _∷_}

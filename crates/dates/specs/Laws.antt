@@ -1,4 +1,5 @@
 -- What holds of all dates and counts; proved in proofs/Laws.antt. Assumes nothing.
+-- The manual, docs/INTERFACE.md: "Dates".
 use Prim.Native.Nat.{ℕ, _+_, _<_, _≤_}
 use mathlib.Core.Bool.{true}
 use mathlib.Core.List.{[], _∷_}

@@ -1,4 +1,5 @@
 -- What is known of the table, and of a year found for a count. Assumes nothing.
+-- The manual, docs/INTERFACE.md: "Dates".
 use Prim.Native.Nat.{ℕ, _+_, _-_, _≤_}
 use mathlib.Core.Path.{_≡_}
 use mathlib.Core.List.{List}

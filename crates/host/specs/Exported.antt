@@ -1,5 +1,6 @@
 -- Document 02, Req 06: what an exported call returns and leaves, from the words that the library's call promises. A refusal is written
 -- too; 38, for an answer's slice of another length than 256, comes before everything and writes nothing. Assumes nothing.
+-- The manual, docs/INTERFACE.md: "Calls from C".
 use Prim.Native.Nat.{ℕ}
 use mathlib.Core.Bool.{cond}
 use mathlib.Core.List.{List, [], _∷_, _++_}

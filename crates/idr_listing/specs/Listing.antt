@@ -1,4 +1,5 @@
 -- The listing of a whole tape: records back to back (document 02, Req 04). Assumes nothing.
+-- The manual, docs/INTERFACE.md: "Medium band tapes".
 use Prim.Native.Nat.{ℕ, zero, suc, _+_}
 use mathlib.Core.Bool.{cond}
 use mathlib.Core.List.{List, [], _++_}

@@ -1,5 +1,6 @@
 -- A run of the program over one tape, and its promise: the text laid out over all turns is the listing of the whole tape, in whatever
 -- pieces it was read. Assumes nothing.
+-- The manual, docs/INTERFACE.md: "Medium band tapes".
 use Prim.Native.Nat.{ℕ, _+_, _≤_}
 use mathlib.Core.Bool.{Bool, true, false, not}
 use mathlib.Core.List.{List, [], _++_}

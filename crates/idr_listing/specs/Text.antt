@@ -1,4 +1,5 @@
 -- The lines of a tape's listing (document 02, Req 04). Bytes are ASCII. Assumes nothing.
+-- The manual, docs/INTERFACE.md: "Medium band tapes".
 use Prim.Native.Nat.{ℕ, _+_, _/_, _%_}
 use mathlib.Core.Bool.{cond}
 use mathlib.Core.List.{List, [], _∷_, _++_}

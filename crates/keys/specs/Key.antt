@@ -1,5 +1,6 @@
 -- Document 01, "Stream key": how a key is made of a stream's four numbers, which keys are valid, and what the two calls that
 -- make one answer. Assumes nothing.
+-- The manual, docs/INTERFACE.md: "Stream key".
 use Prim.Native.Nat.{ℕ, _+_, _*_, _^_}
 use mathlib.Core.Bool.{Bool, not, _&&_, _||_}
 use mathlib.Core.List.{List, [], _∷_}

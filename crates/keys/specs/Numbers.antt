@@ -1,4 +1,5 @@
 -- The record numbers of a stream (document 01, "The ledger sheet"; document 02, request 03). Assumes nothing.
+-- The manual, docs/INTERFACE.md: "Calls on the ledger".
 use Prim.Native.Nat.{ℕ, _^_}
 use mathlib.Core.Bool.{Bool, cond}
 use lib.Dec.{ltb}

@@ -1,6 +1,7 @@
 -- Demand 3 of the ledger's calls, in full: one claim about any list of calls, made one after the other on the sheet that `fresh` made,
 -- the next one handed the sheet as the one before left it. It speaks of what the calls' contracts promise, and of nothing else.
 -- Assumes nothing.
+-- The manual, docs/INTERFACE.md: "Calls on the ledger".
 use Prim.Native.Nat.{ℕ}
 use mathlib.Core.Path.{_≡_}
 use mathlib.Core.List.{List, map}

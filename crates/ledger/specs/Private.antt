@@ -1,5 +1,6 @@
 -- Request 09, "What I haven't saved is mine", of sheets: two lists of calls, each made on a sheet that `fresh` made, every call handed the
 -- sheet as the one before left it. It speaks of what the calls' contracts promise, as demand 3 does. Assumes nothing.
+-- The manual, docs/INTERFACE.md: "Calls on the ledger".
 use Prim.Native.Nat.{ℕ}
 use mathlib.Core.Path.{_≡_}
 use mathlib.Core.Logic.{_≢_}

@@ -1,5 +1,6 @@
 -- Document 02, request 10, the converter: a new sheet with the old one's rows at their places and its open desks; 20 for an old sheet that is
 -- not right, or a slice for the new one that has not 6,968 bytes. Assumes nothing.
+-- The manual, docs/INTERFACE.md: "Calls on the ledger".
 use Prim.Native.Nat.{ℕ, _+_, _/_, _%_, _^_}
 use mathlib.Core.Bool.{Bool, cond, _&&_}
 use mathlib.Core.List.{List, [], _∷_}

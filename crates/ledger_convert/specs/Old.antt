@@ -1,5 +1,6 @@
 -- The old sheet, document 01, "The ledger sheet", with request 03's rule on first numbers: where its parts stand, and when a list of bytes
 -- is a right one. Every size and offset of it has its name here, once. Assumes nothing.
+-- The manual, docs/INTERFACE.md: "Calls on the ledger".
 use Prim.Native.Nat.{ℕ, _+_, _*_}
 use mathlib.Core.Bool.{Bool, not, _&&_, _||_}
 use mathlib.Core.List.{List}

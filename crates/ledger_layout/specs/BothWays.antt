@@ -1,4 +1,5 @@
 -- Right sheets are the layouts of well-formed books, both ways; and what `fresh` makes of a slice. Assumes nothing.
+-- The manual, docs/INTERFACE.md: "The sheet".
 use Prim.Native.Nat.{ℕ, _<_}
 use mathlib.Core.Bool.{true}
 use mathlib.Core.List.{List, [], _∷_}

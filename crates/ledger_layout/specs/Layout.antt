@@ -1,5 +1,6 @@
 -- The model's book laid out as the bytes of a sheet, the book that a right sheet holds, and a call of the model as a call on a
 -- sheet (document 01, "The ledger sheet" and "The plain book", which the sheet is to agree with in every byte). Assumes nothing.
+-- The manual, docs/INTERFACE.md: "The sheet".
 use Prim.Native.Nat.{ℕ, zero, suc, _+_, _*_}
 use mathlib.Core.Bool.{Bool, true, false, cond}
 use mathlib.Core.List.{List, [], _∷_, _++_}

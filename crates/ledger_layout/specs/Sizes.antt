@@ -1,4 +1,5 @@
 -- The sizes that document 02, request 10, gives in numbers. Assumes nothing.
+-- The manual, docs/INTERFACE.md: "The sheet".
 use mathlib.Core.Path.{_≡_}
 use Rattle.ledger_sheet.specs.Sheet.{sheetSize, rowSize, rowsStart, rowCount, deskSize, deskCount, desksStart}
 

@@ -1,4 +1,5 @@
 -- The state of the model, document 01's "plain book": 32 row places and eight desks, and what is read of them. Assumes nothing.
+-- The manual, docs/INTERFACE.md: "The ledger".
 use Prim.Native.Nat.{ℕ, zero, suc}
 use mathlib.Core.Bool.{Bool, true, false, cond, _||_}
 use mathlib.Core.List.{List, [], _∷_}

@@ -1,4 +1,5 @@
 -- The reports on a book: row report and first gap, as the numbers they answer. A none adds no number. Assumes nothing.
+-- The manual, docs/INTERFACE.md: "Calls on the ledger".
 use Prim.Native.Nat.{ℕ, suc}
 use mathlib.Core.Option.{Option, none, some}
 use mathlib.Core.List.{List, [], _∷_}

@@ -1,4 +1,5 @@
 -- Positions of a row: the position of a number, sets of positions, and how they are counted. Assumes nothing.
+-- The manual, docs/INTERFACE.md: "Calls on the ledger".
 use Prim.Native.Nat.{ℕ, zero, suc, _+_, _-_, _%_}
 use mathlib.Core.Bool.{Bool, true, false, cond, not, _&&_, _||_, Bool·beq}
 use mathlib.Core.Option.{Option, none, some, Option·map}

@@ -1,5 +1,6 @@
 -- The model of the ledger, document 01's "The plain book": what each call answers, and what it changes. It has places and
 -- desks and no bytes, and its calls have no sheet, so none is refused with 20. Assumes nothing.
+-- The manual, docs/INTERFACE.md: "Calls on the ledger".
 use Prim.Native.Nat.{ℕ}
 use mathlib.Core.Bool.{Bool, true, false, cond, not, Bool·beq}
 use mathlib.Core.List.{List, [], _∷_, map}

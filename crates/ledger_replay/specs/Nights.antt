@@ -1,4 +1,5 @@
 -- What a replay says of a night (document 02, request 11). Assumes nothing.
+-- The manual, docs/INTERFACE.md: "A night in a trace, played again".
 use Prim.Native.Nat.{ℕ, _≤_}
 use mathlib.Core.Path.{_≡_}
 use mathlib.Core.Bool.{true}

@@ -1,4 +1,5 @@
 -- Document 02, request 11: a trace played again. Every call is `onSheet (call c)`, which the ledger's contracts cite. Assumes nothing.
+-- The manual, docs/INTERFACE.md: "A night in a trace, played again".
 use Prim.Native.Nat.{ℕ, suc}
 use mathlib.Core.Bool.{Bool, cond, not, _&&_}
 use mathlib.Core.List.{List, [], _∷_}

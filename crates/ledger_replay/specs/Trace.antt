@@ -1,5 +1,6 @@
 -- Document 02, request 11: the bytes of a trace, when a list of bytes is one, and its entries as calls of the model with the answers
 -- written. Assumes nothing.
+-- The manual, docs/INTERFACE.md: "A night in a trace, played again".
 use Prim.Native.Nat.{ℕ, zero, suc, _+_, _*_}
 use mathlib.Core.Bool.{Bool, cond, _&&_, _||_}
 use mathlib.Core.List.{List, [], _∷_}

@@ -1,4 +1,5 @@
 -- Request 13's identity, on the bytes of sheets and on what the calls' contracts promise. Assumes nothing.
+-- The manual, docs/INTERFACE.md: "The season's report".
 use Prim.Native.Nat.{ℕ, _+_, _≤_}
 use mathlib.Core.Bool.{false}
 use mathlib.Core.List.{List, [], _∷_, _++_, map}

@@ -1,4 +1,5 @@
 -- The season's report on the books of its sheets (document 02, request 13), from the model's counts. Assumes nothing.
+-- The manual, docs/INTERFACE.md: "The season's report".
 use Prim.Native.Nat.{ℕ, zero, suc, _+_, _*_, _/_}
 use mathlib.Core.Bool.{Bool, false, cond, _||_}
 use mathlib.Core.List.{List, [], _∷_, _++_}

@@ -1,4 +1,5 @@
 -- The season's report on the bytes of its sheets (document 02, request 13). Assumes nothing.
+-- The manual, docs/INTERFACE.md: "The season's report".
 use Prim.Native.Nat.{ℕ, _*_, _/_, _%_}
 use mathlib.Core.Bool.{Bool, not, _||_}
 use mathlib.Core.List.{List, [], _∷_, _++_}

@@ -1,5 +1,6 @@
 -- Document 01, "The ledger sheet", as document 02, request 10, has it: where its parts stand, and when a list of bytes is a right
 -- sheet. Every size and offset has its name here, once. Assumes nothing.
+-- The manual, docs/INTERFACE.md: "The sheet".
 use Prim.Native.Nat.{ℕ, zero, suc, _+_, _*_}
 use mathlib.Core.Bool.{Bool, cond, not, _&&_, _||_}
 use mathlib.Core.List.{List}

@@ -1,4 +1,5 @@
 -- What is claimed of the calls beyond their contracts. Assumes nothing.
+-- The manual, docs/INTERFACE.md: "Mission settings".
 use Prim.Native.Nat.{ℕ, _≤_, _<_}
 use mathlib.Core.Bool.{true}
 use mathlib.Core.List.{List, [], _∷_, List·Memᴰ}

@@ -1,4 +1,5 @@
 -- Document 02, Req 14, "Mission agreements": the settings as a list in order of adding, and the calls on it. Assumes nothing.
+-- The manual, docs/INTERFACE.md: "Mission settings".
 use Prim.Native.Nat.{ℕ, _≤_, _<_, _^_}
 use mathlib.Core.Bool.{Bool, true, false, not, cond, _&&_, _||_}
 use mathlib.Core.List.{List, [], _∷_, _++_}

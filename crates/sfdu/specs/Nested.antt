@@ -1,5 +1,6 @@
 -- Document 01, "How a record nests", of a slice s that read one accepts: each block ends within the field that encloses it, and the
 -- blocks fill the record to its last byte. So document 01's 18, judged after 1 to 11, is never given. Assumes nothing.
+-- The manual, docs/INTERFACE.md: "Records".
 use Prim.Native.Nat.{ℕ, _+_, _≤_}
 use mathlib.Core.Bool.{Bool, true, _||_}
 use mathlib.Core.List.{List, [], _∷_, _++_}

@@ -1,5 +1,6 @@
 -- Document 01, "How a record nests": where the parts of a record stand, and the fixed values in them. Offsets count from the
 -- record's start; N is the record's length. Assumes nothing.
+-- The manual, docs/INTERFACE.md: "Records".
 use Prim.Native.Nat.{ℕ}
 use mathlib.Core.List.{List, [], _∷_}
 use Rattle.sfdu.specs.declared.Kind.{Kind}

@@ -1,5 +1,6 @@
 -- Document 01, "Calls on records" and "Refusal numbers" 1 to 11, with document 02, Req 05: the first record of a lent slice s. Assumes
 -- nothing.
+-- The manual, docs/INTERFACE.md: "Calls on records".
 use Prim.Native.Nat.{ℕ, _+_, _-_}
 use mathlib.Core.Bool.{Bool, not, cond, _&&_, _||_}
 use mathlib.Core.List.{List, [], _∷_, _++_}

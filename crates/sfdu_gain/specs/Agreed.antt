@@ -1,4 +1,5 @@
 -- The gain by a mission's agreement is the gain for the edition that asking answers. Assumes nothing.
+-- The manual, docs/INTERFACE.md: "The gain multiplier".
 use Prim.Native.Nat.{ℕ}
 use mathlib.Core.Bool.{cond}
 use mathlib.Core.List.{List, map}

@@ -1,5 +1,6 @@
 -- Document 02, Req 14, the gain multiplier: four bytes that the old edition of the RSR record reserves, with twelve more, at the end of the
 -- secondary block. Assumes nothing.
+-- The manual, docs/INTERFACE.md: "The gain multiplier".
 use Prim.Native.Nat.{ℕ}
 use mathlib.Core.Bool.{not, cond}
 use mathlib.Core.List.{List, [], _∷_, _++_, map}

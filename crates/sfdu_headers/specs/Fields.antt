@@ -1,5 +1,6 @@
 -- Document 01, "Telemetry secondary" and "RSR secondary": where the fields stand. Offsets count from the secondary block's start,
 -- as the paper gives them. s is a record. Assumes nothing.
+-- The manual, docs/INTERFACE.md: "Telemetry fields", "RSR fields".
 use Prim.Native.Nat.{ℕ, _+_, _*_, _%_}
 use mathlib.Core.Bool.{Bool, cond}
 use mathlib.Core.List.{List}

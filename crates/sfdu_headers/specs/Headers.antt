@@ -1,4 +1,5 @@
 -- Document 01, "Calls on records": read headers. Assumes nothing.
+-- The manual, docs/INTERFACE.md: "Calls on records".
 use Prim.Native.Nat.{ℕ}
 use mathlib.Core.Bool.{not, cond}
 use mathlib.Core.List.{List, [], _∷_, _++_, map}

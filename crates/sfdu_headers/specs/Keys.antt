@@ -1,4 +1,5 @@
 -- The key that read headers gives, beside the key calls. Assumes nothing.
+-- The manual, docs/INTERFACE.md: "Stream key".
 use Prim.Native.Nat.{ℕ, _<_}
 use mathlib.Core.Bool.{true}
 use mathlib.Core.List.{List, [], _∷_}

@@ -1,5 +1,6 @@
 -- Document 01: which fields are judged, and refusal 12, which gives the offset in the record of the lowest field that is out of range.
 -- Assumes nothing.
+-- The manual, docs/INTERFACE.md: "Telemetry fields", "RSR fields".
 use Prim.Native.Nat.{ℕ, _+_}
 use mathlib.Core.Bool.{Bool, not, _&&_, _||_}
 use mathlib.Core.List.{List, [], _∷_, _++_, map}

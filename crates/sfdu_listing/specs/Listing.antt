@@ -1,4 +1,5 @@
 -- The listing of a whole stream. Document 01, "The program", "Walk" and refusal 17; document 02, Req 05. Assumes nothing.
+-- The manual, docs/INTERFACE.md: "The listing program".
 use Prim.Native.Nat.{ℕ}
 use mathlib.Core.List.{List, [], _∷_, _++_}
 use lib.Dec.{ltb}

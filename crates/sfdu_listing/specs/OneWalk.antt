@@ -1,4 +1,5 @@
 -- The program's walk beside the library's: one walk, by other rules. Where they agree, for every stream. Assumes nothing.
+-- The manual, docs/INTERFACE.md: "The listing program".
 use Prim.Native.Nat.{ℕ, _≤_}
 use mathlib.Core.Bool.{Bool, true, false, _&&_}
 use mathlib.Core.List.{List, [], _∷_, _++_}

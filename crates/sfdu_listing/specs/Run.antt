@@ -1,5 +1,6 @@
 -- A run of the program over one stream, and its promise: the text written over all turns is the listing of the whole stream,
 -- in whatever pieces it was read. Assumes nothing.
+-- The manual, docs/INTERFACE.md: "The listing program".
 use Prim.Native.Nat.{ℕ, _+_}
 use mathlib.Core.Bool.{Bool, true, false}
 use mathlib.Core.List.{List, [], _++_}

@@ -1,4 +1,5 @@
 -- The lines of a listing, as document 01's example of the program has them; document 02, Req 05. Bytes are ASCII. Assumes nothing.
+-- The manual, docs/INTERFACE.md: "The listing program".
 use Prim.Native.Nat.{ℕ}
 use mathlib.Core.Bool.{cond}
 use mathlib.Core.List.{List, [], _∷_, _++_}

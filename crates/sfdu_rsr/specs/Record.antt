@@ -1,5 +1,6 @@
 -- Document 02, Req 08 and Req 14: what every call on an RSR record is refused for first, read headers' refusals for kind 2 with the
 -- numbers that go with them (Req 05), as one list of rules. Assumes nothing.
+-- The manual, docs/INTERFACE.md: "Calls on records".
 use Prim.Native.Nat.{ℕ, _+_}
 use mathlib.Core.Bool.{not}
 use mathlib.Core.List.{List, [], _∷_, _++_, map}

@@ -1,4 +1,5 @@
 -- Document 02, Req 08: what the calls refuse, what they answer, and what the lent list holds after them. Assumes nothing.
+-- The manual, docs/INTERFACE.md: "Samples".
 use Prim.Native.Nat.{ℕ, _%_}
 use mathlib.Core.Bool.{not}
 use mathlib.Core.List.{List, [], _∷_, _++_}

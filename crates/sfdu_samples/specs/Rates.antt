@@ -1,5 +1,6 @@
 -- Document 004, table 3-1, the listed pairs: the 36 rows in its order, rate (Ksamp/sec) and size
 -- (bits/samp). Assumes nothing.
+-- The manual, docs/INTERFACE.md: "Samples".
 use Prim.Native.Nat.{ℕ}
 use mathlib.Core.Bool.{Bool, false, _&&_, _||_}
 use mathlib.Core.List.{List, [], _∷_}

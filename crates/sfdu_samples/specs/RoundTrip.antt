@@ -1,5 +1,6 @@
 -- Document 02, Req 08, the round trip: a data part unpacked and packed again is the same, and numbers the other way. For every listed
 -- size; the statements speak of what the contracts of unpack and pack cite. Assumes nothing.
+-- The manual, docs/INTERFACE.md: "Samples".
 use Prim.Native.Nat.{ℕ, _≤_, _<_}
 use mathlib.Core.Bool.{true}
 use mathlib.Core.List.{List, [], _∷_}

@@ -1,4 +1,5 @@
 -- What holds of every walk and every list: document 01, "Calls on records" and refusal 16. Assumes nothing.
+-- The manual, docs/INTERFACE.md: "Streams".
 use Prim.Native.Nat.{ℕ, _≤_, _<_}
 use mathlib.Core.Bool.{true, false}
 use mathlib.Core.List.{List, [], _∷_, map}

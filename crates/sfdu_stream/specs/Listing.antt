@@ -1,5 +1,6 @@
 -- Document 01, "Calls on records": what a walk passes and what a list holds ("packing list"), and where they stop. One
 -- definition for the walk, the number lists and the table of entries. Assumes nothing.
+-- The manual, docs/INTERFACE.md: "Streams".
 use Prim.Native.Nat.{ℕ, zero, suc, _+_, min}
 use mathlib.Core.Bool.{cond}
 use mathlib.Core.List.{List, [], _∷_, _++_, map}

@@ -1,4 +1,5 @@
 -- Document 01, "Calls on records": what the answers say, a place in a stream s, and the step there. Assumes nothing.
+-- The manual, docs/INTERFACE.md: "Streams".
 use Prim.Native.Nat.{ℕ, _+_}
 use mathlib.Core.Bool.{Bool, cond}
 use mathlib.Core.List.{List, [], _∷_}

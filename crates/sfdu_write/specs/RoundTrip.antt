@@ -1,5 +1,6 @@
 -- Demand 2, the round trip: what our writer makes the reader gives back; what the reader accepts the writer makes again, the same
 -- bytes. Both statements speak of what the contracts of read one, the part calls and write one cite. Assumes nothing.
+-- The manual, docs/INTERFACE.md: "Calls on records".
 use Prim.Native.Nat.{ℕ, _≤_, _<_}
 use mathlib.Core.List.{List, [], _∷_, _++_}
 use mathlib.Core.Path.{_≡_}

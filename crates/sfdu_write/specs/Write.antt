@@ -1,4 +1,5 @@
 -- Document 01, "Calls on records": write one, and refusals 14 and 13. Assumes nothing.
+-- The manual, docs/INTERFACE.md: "Calls on records".
 use Prim.Native.Nat.{ℕ, _+_, _-_}
 use mathlib.Core.Bool.{Bool, not, cond, _&&_, _||_}
 use mathlib.Core.List.{List, [], _∷_, _++_}

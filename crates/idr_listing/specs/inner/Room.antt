@@ -2,8 +2,6 @@
 use Prim.Native.Nat.{ℕ}
 use Rattle.idr_listing.specs.Text.{clock, line, why}
 
--- ---- the last line: where it stopped, and why
-
 -- The most bytes of each, by those of a word: a line has nine and the clock.
 abbrev pub mostWhy : ℕ
 mostWhy = 28

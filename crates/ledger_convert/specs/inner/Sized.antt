@@ -5,8 +5,6 @@ use mathlib.Core.Path.{_≡_}
 use lib.ListN.{length}
 use Rattle.ledger_convert.specs.Old.{rowCount, sheetSize, used, right}
 
--- ---- what the functions on a right sheet ask of it
-
 pub record Sized (s : List ℕ) : Type 0 where
   pub long : length s ≡ sheetSize
   pub few : used s ≤ rowCount

@@ -6,9 +6,6 @@ use lib.ListN.{length}
 use Rattle.settings.specs.Model.{places}
 use Rattle.settings.specs.Sheet.{sheetSize, count, right}
 
--- ---- a right sheet, a definition for each clause
-
--- What the functions on a right sheet ask of it.
 pub record Sized (s : List ℕ) : Type 0 where
   pub long : length s ≡ sheetSize
   pub few : count s ≤ places

@@ -3,7 +3,7 @@ use Prim.Native.Nat.{ℕ, _+_}
 use mathlib.Core.List.{List, [], _∷_}
 use Rattle.settings.specs.Fields.{Field, _holding_}
 
--- Fields one after the other: how many bytes they are, and their bytes.
+-- How many bytes fields are, one after the other.
 abbrev pub widthOf : List Field → ℕ
 widthOf [] = 0
 widthOf ((w holding v) ∷ fs) = w + widthOf fs

@@ -9,17 +9,13 @@ use Rattle.sfdu.specs.declared.Checked.{Checked}
 use Rattle.sfdu.specs.declared.Checked.the-variants.{Right, Wrong}
 use Rattle.sfdu.specs.Read.{recordLength, blockType, blockLength, accepts}
 
--- ---- the parts of a slice that its label speaks of
-
--- It has that type and that length.
+-- Whether the block at an offset has that type and that length.
 abbrev pub isLabel : List ℕ → (at type size : ℕ) → Bool
 isLabel s at type size = eqb (blockType s at) type && eqb (blockLength s at) size
 
 -- What a check of fields finds: the offset that its rules give, or that all are right.
 abbrev pub checked : List (Rule ℕ) → Checked
 checked rules = judge Wrong rules Right
-
--- ---- the refusals, in the table's order
 
 -- N, and 0 where read one refuses.
 unfoldable pub wholeSize : List ℕ → ℕ

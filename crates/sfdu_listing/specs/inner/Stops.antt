@@ -5,8 +5,6 @@ use mathlib.Core.List.{List}
 use Rattle.sfdu_stream.specs.Walk.{wholeBy, refusalBy}
 use Rattle.sfdu_listing.specs.Listing.{listRules, orZero}
 
--- ---- the record at the start of s, the rest of a stream
-
 -- A whole record stands there: none of them applies.
 unfoldable pub whole : List ℕ → Bool
 whole s = wholeBy listRules s

@@ -5,7 +5,5 @@ use lib.ListN.{drop}
 use Rattle.sfdu.specs.Read.{readRules}
 use Rattle.sfdu_stream.specs.Walk.{refusalBy}
 
--- ---- the same at a place in the stream s, by read one's rules
-
 unfoldable pub refusal : List ℕ → ℕ → List ℕ
 refusal s at = refusalBy readRules at (drop at s)
