@@ -161,6 +161,15 @@ zero-cover s a n m k p q h =
     let whole : n - k + k ≡ n = omega arith in
     rw (first, last, whole) at (zero-overlap s a (n - k) both (k - both))
 
+-- a range is zero when its first k bytes are, m bytes from an index b among them or right behind them, and its last r, where none is left out
+pub zero-covers : (s : List ℕ) (a n k b m r : ℕ) → a ≤ b → b ≤ a + k → a + k ≤ b + m → b + m ≤ a + n → a + n ≤ b + m + r → r ≤ n
+    → (zeroAt s a k && zeroAt s b m && zeroAt s (a + (n - r)) r) ≡ zeroAt s a n
+zero-covers s a n k b m r low near far inside over short =
+    let both = b - a + m in
+    let from : a + (both - m) ≡ b = omega arith in
+    let start = rw from at (zero-cover s a both k m (omega arith) (omega arith) (omega arith)) in
+    rw start (zero-cover s a n both r (omega arith) (omega arith) (omega arith))
+
 -- four ranges of n bytes from index a on, tested side by side
 abbrev zeroFrom : List ℕ → (a i : ℕ) → Bool
 zeroFrom s a i = eqb (getD s (a + i) 0) 0

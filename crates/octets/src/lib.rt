@@ -5,10 +5,17 @@ ghost use Prim.Native.Nat.{_+_, _*_, _≤_};
 ghost use lib.ListN.{length, replicate};
 ghost use Rattle.octets.specs.Octets.{numberAt, bytesOf, part, put, zeroAt, sameAt};
 
+// The bytes of a vector. From an index that they divide, no load reads two cache lines, where the slice begins at such an address, as slices
+// of a heap do.
+const VECTOR: usize = 16;
+
 // Of each of four parts of a long range, these bytes are tested in one turn of a vectorized loop.
-const STEP: usize = 32;
+const STEP: usize = 2 * VECTOR;
 
 const BLOCK: usize = 4 * STEP;
+
+// What four parts that begin up to a vector behind a range's start may leave of its end.
+const REST: usize = BLOCK + VECTOR;
 
 // The longest number, and what its upper half counts for.
 const LONG: usize = 8;
@@ -82,17 +89,20 @@ pub fn is_zero(s: &[u8], a: usize, n: usize) -> bool
     any == 0
 }
 
-// The same for a long range: four parts of it side by side, so that the loop takes fewer steps of its own, and its last block.
+// The same for a long range: its first vector, four parts of it side by side from the next index that a vector's bytes divide, so that the
+// loop takes fewer steps of its own and loads that are aligned, and its end.
 pub fn is_long_zero(s: &[u8], a: usize, n: usize) -> bool
     requires { ⌜ a + n ≤ length (now s) ⌝ }
     ensures { λ r. ⌜ r ≡ zeroAt (now (s .entry)) a n ⌝ }
 {
-    if n < BLOCK {
+    if n < REST {
         return is_zero(s, a, n);
     }
-    let parts = are_zero(s, a, n / BLOCK * STEP);
-    let last = is_zero(s, a + (n - BLOCK), BLOCK);
-    parts & last
+    let start = a / VECTOR * VECTOR + VECTOR;
+    let first = is_zero(s, a, VECTOR);
+    let parts = are_zero(s, start, (n - VECTOR) / BLOCK * STEP);
+    let last = is_zero(s, a + (n - REST), REST);
+    first & parts & last
 }
 
 // Whether four ranges of n bytes, one behind the other from index a, are zero.
