@@ -3,3 +3,4 @@ pub mod Missing
 pub mod WordBits
 pub mod WordCounts
 pub mod Reports
+pub mod Starts

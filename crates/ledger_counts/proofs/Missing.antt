@@ -1,11 +1,12 @@
 -- Counts on a table of flags, from what a scan finds: how many are ticked, one past the highest, the lowest unticked below it.
 -- Assumes nothing.
-use Prim.Native.Nat.{ℕ, zero, suc, _+_, _<_}
-use native.Mathlib.Nat.{not-suc-le-zero, le-of-suc-le-suc, zero-lt-suc, add-comm}
+use Prim.Native.Nat.{ℕ, zero, suc, _+_, _≤_, _<_}
+use native.Mathlib.Nat.{not-suc-le-zero, le-of-suc-le-suc, zero-lt-suc, add-comm, eq-or-lt-of-le}
 use native.Mathlib.Numerals.{add-one}
 use native.Mathlib.Omega.{arith}
 use mathlib.Core.Bool.{Bool, true, false, not, cond, _&&_, _||_, true≢false}
 use mathlib.Core.List.{List, [], _∷_}
+use mathlib.Core.Logic.{_⊎_, inl, inr}
 use mathlib.Core.Option.{none, some, Option·map}
 use mathlib.Core.Path.{_≡_, refl, sym, ap, _∙_}
 use Rattle.ledger_model.specs.Positions.{size, anyTicked, missing, least}
@@ -71,6 +72,18 @@ nothing (suc n) p h =
       gaps = rw (here, none) (rest .gaps);
       lowest = rw (here, none) (ap (Option·map suc) (rest .lowest));
     }
+
+-- ---- ticked from r on, and nowhere below
+
+pub size-from : (n r : ℕ) (p : ℕ → Bool) → r ≤ n → Fails p r → ((i : ℕ) → r ≤ i → i < n → p i ≡ true) → size (table n p) + r ≡ n
+size-from zero r p l f h = omega (arith, size-none p)
+size-from (suc n) r p l f h = by (eq-or-lt-of-le l) (λ q. size-from n r p q f (λ i g k. h i g (omega arith)))
+  where
+    by : (r ≡ suc n) ⊎ (r < suc n) → (r ≤ n → size (table n p) + r ≡ n) → size (table (suc n) p) + r ≡ suc n
+    by (inl e) rest = omega (arith, e, nothing (suc n) p (rw e at f) .ticked)
+    by (inr q) rest =
+        let more = rw (h n (le-of-suc-le-suc q) (omega arith)) at (size-next n p) in
+        omega (arith, more, rest (le-of-suc-le-suc q))
 
 -- ---- a position below the highest ticked one is missing exactly when it is unticked
 

@@ -66,7 +66,7 @@ module _ (k x y z w : ℕ) (fits : AllFit k x y z w) where
 
 -- ---- the zeros above its highest one
 
-bit-above : (x i : ℕ) → x < 2 ^ i → bitOf x i ≡ false
+pub bit-above : (x i : ℕ) → x < 2 ^ i → bitOf x i ≡ false
 bit-above x i l = rw (div-eq-of-lt l)
 
 bit-top : (x j : ℕ) → 2 ^ j ≤ x → x < 2 ^ suc j → bitOf x j ≡ true
@@ -103,7 +103,7 @@ trailing-lowest (suc k) x =
     rw (halved, div-one, ← rest) (under-cond (x % 2) (trailingZeros k (x / 2)) (mod-lt x (zero-lt-suc 1)))
 
 -- only 0 has no one among its bits
-trailing-all : (k x : ℕ) → x < 2 ^ k → trailingZeros k x ≡ k → x ≡ 0
+pub trailing-all : (k x : ℕ) → x < 2 ^ k → trailingZeros k x ≡ k → x ≡ 0
 unfolding trailingZeros
 trailing-all zero x l e = omega arith
 trailing-all (suc k) x l e = by (x % 2) refl (trailing-all k (x / 2) (omega (arith, pow-succ' 2 k))) e
@@ -122,7 +122,7 @@ flip d zero h = let one : d ≡ 1 = omega arith in rw one
 flip d (suc zero) h = let none : d ≡ 0 = omega arith in rw none
 flip d (suc (suc e)) h = absurd (omega arith)
 
-not-bit : (k x i : ℕ) → x < 2 ^ k → i < k → bitOf (2 ^ k - 1 - x) i ≡ not (bitOf x i)
+pub not-bit : (k x i : ℕ) → x < 2 ^ k → i < k → bitOf (2 ^ k - 1 - x) i ≡ not (bitOf x i)
 not-bit zero x i l h = absurd (omega arith)
 not-bit (suc k) x zero l h =
     let double = pow-succ' 2 k in

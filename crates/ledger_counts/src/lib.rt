@@ -12,7 +12,7 @@ use ledger_sheet::right::first_at;
 use ledger_sheet::right::is_used;
 use ledger_sheet::right::key_at;
 ghost use mathlib.Core.Path.{_≡_};
-ghost use mathlib.Core.Bool.{not, cond};
+ghost use mathlib.Core.Bool.{true, not, cond};
 ghost use Prim.Native.Nat.{_+_, _≤_, _<_};
 ghost use lib.Count.{ones};
 ghost use lib.ListN.{length};
@@ -22,7 +22,7 @@ ghost use Rattle.ledger_rows.specs.Ticks.{tickedAt, ticksOf};
 ghost use Rattle.ledger_rows.specs.inner.Scans.{lowest};
 ghost use Rattle.ledger_counts.specs.inner.Counts.{pastHighest, numberAtPosition, reportWords, gapFrom};
 ghost use Rattle.ledger_sheet.specs.Words.{reportAnswerWords, gapWords};
-ghost use Rattle.ledger_counts.specs.inner.Words.{wordCount, littleAt, IsWord};
+ghost use Rattle.ledger_counts.specs.inner.Words.{wordBits, wordCount, lastWordAt, littleAt, IsWord, TickedFrom, StartsAt};
 
 // A word of ticks, in bytes and in positions, and how many of them a row has.
 const WORD: usize = 8;
@@ -37,6 +37,9 @@ const BLOCK: usize = 4;
 const BLOCKS: usize = WORDS / BLOCK;
 
 const FULL: u64 = !0;
+
+// The positions of a row.
+const POSITIONS: usize = WORD_BITS * WORDS;
 
 const HALF: usize = 4;
 
@@ -109,6 +112,41 @@ fn ticked_count(s: &[u8], a: usize) -> u32
     count
 }
 
+// Whether the words between the first and the last are full. They are gathered with no early exit, so that LLVM goes by vectors.
+fn is_full_between(s: &[u8], a: usize) -> bool
+    requires { ⌜ a + rowSize ≤ length (now s) ⌝ }
+    ensures { λ r. ⌜ (r ≡ true → TickedFrom (now (s .entry)) a wordBits lastWordAt) ⌝ }
+{
+    let mut all = FULL;
+    for k in 1..WORDS - 1 {
+        all &= tick_word(s, a, k);
+    }
+    all == FULL
+}
+
+// Where the ticks of the row at offset a begin, if that is in its first word and none is missing behind: such a row needs no counting.
+// The row's length if it is another row.
+fn ticks_start(s: &[u8], a: usize) -> usize
+    requires { ⌜ a + rowSize ≤ length (now s) ⌝ }
+    ensures { λ r. ⌜ (r < rowLength → StartsAt (now (s .entry)) a r) ⌝ }
+{
+    if tick_word(s, a, WORDS - 1) != FULL {
+        return POSITIONS;
+    }
+    if !is_full_between(s, a) {
+        return POSITIONS;
+    }
+    let word = tick_word(s, a, 0);
+    if word == 0 {
+        return POSITIONS;
+    }
+    let start = u64::trailing_zeros(word);
+    if word >> start != FULL >> start {
+        return POSITIONS;
+    }
+    start as usize
+}
+
 // One past the highest ticked position of the row at offset a, or 0. What is unticked below it is missing.
 fn ticks_end(s: &[u8], a: usize) -> usize
     requires { ⌜ a + rowSize ≤ length (now s) ⌝ }
@@ -153,12 +191,11 @@ fn number_in(s: &[u8], a: usize, i: usize) -> u32
     ledger_model::number_at(key, first, i as u32)
 }
 
-// Reports on a row. Where nothing below the end is missing, the ticks need not be counted.
-pub fn row_report(s: &[u8], row: usize) -> ReportAnswer
-    requires { ⌜ (length (now s) ≡ sheetSize) × (row < rowCount) ⌝ }
-    ensures { λ r. ⌜ reportAnswerWords r ≡ reportWords (now (s .entry)) (rowAt row) ⌝ }
+// The report of the row at offset a. Where nothing below the end is missing, the ticks need not be counted.
+fn counted_report(s: &[u8], a: usize) -> ReportAnswer
+    requires { ⌜ a + rowSize ≤ length (now s) ⌝ }
+    ensures { λ r. ⌜ reportAnswerWords r ≡ reportWords (now (s .entry)) a ⌝ }
 {
-    let a = ROWS_AT + ROW * row;
     let end = ticks_end(s, a);
     if end == 0 {
         return ReportAnswer::Whole { ticked: 0 };
@@ -172,6 +209,27 @@ pub fn row_report(s: &[u8], row: usize) -> ReportAnswer
         ticked,
         missing: end as u32 - ticked,
         lowest: number_in(s, a, at),
+    }
+}
+
+// Reports on a row. The usual one lacks nothing, or its start alone.
+pub fn row_report(s: &[u8], row: usize) -> ReportAnswer
+    requires { ⌜ (length (now s) ≡ sheetSize) × (row < rowCount) ⌝ }
+    ensures { λ r. ⌜ reportAnswerWords r ≡ reportWords (now (s .entry)) (rowAt row) ⌝ }
+{
+    let a = ROWS_AT + ROW * row;
+    let start = ticks_start(s, a);
+    if start >= POSITIONS {
+        return counted_report(s, a);
+    }
+    let ticked = (POSITIONS - start) as u32;
+    if start == 0 {
+        return ReportAnswer::Whole { ticked };
+    }
+    ReportAnswer::Gaps {
+        ticked,
+        missing: start as u32,
+        lowest: number_in(s, a, 0),
     }
 }
 

@@ -1,75 +1,53 @@
 -- `ledger_counts::row_report` meets its contract. Assumes nothing.
 use native.Mathlib.Omega.{arith}
+use borrow.Author.Needs.{needs}
 use Rattle.ledger_sheet.specs.Sheet.{rowAt}
-use Rattle.ledger_counts.proofs.Reports.{end-within, row-count, report-none, report-whole, report-gaps}
+use Rattle.ledger_counts.proofs.Starts.{report-start, report-full}
 use Rattle.ledger_counts.proofs.row_report.Statement.{statement}
 use Rattle.ledger_counts.proofs.row_report.Tie as tie
 
 mul-a : tie.Need-mul-a
-mul-a c = omega arith
+mul-a c = search needs
 
 add-a : tie.Need-add-a
-add-a c = omega arith
+add-a c = search needs
 
-ticks-end-requires : tie.Need-ticks-end-requires
-ticks-end-requires c κs = omega arith
+ticks-start-requires : tie.Need-ticks-start-requires
+ticks-start-requires c κs = search needs
+
+counted-report-requires : tie.Need-counted-report-requires
+counted-report-requires c κs = search needs
 
 returns : tie.Need-returns
-returns c =
-    let ended = c .before in
-    let g = ended .before .before .args in
-    report-none (g .s .now) (rowAt (g .row)) (rw (ended .ticks-end .ensures) at (c .if1 .taken))
+returns c = search needs
 
-lowest-unticked-requires : tie.Need-lowest-unticked-requires
-lowest-unticked-requires c κs =
-    let ended = c .before in
-    let g = ended .before .before .args in
-    (omega arith, rw (ended .ticks-end .ensures) (end-within (g .s .now) (rowAt (g .row))))
+sub-ticked : tie.Need-sub-ticked
+sub-ticked c = search needs
 
-cast-t9 : tie.Need-cast-t9
-cast-t9 c =
-    let ended = c .before .before .before in
-    let g = ended .before .before .args in
-    omega (arith, end-within (g .s .now) (rowAt (g .row)), ended .ticks-end .ensures)
+cast-ticked : tie.Need-cast-ticked
+cast-ticked c = search needs
 
 returns-2 : tie.Need-returns-2
 returns-2 c =
-    let ended = c .before .before .before in
-    let g = ended .before .before .args in
-    let end = ended .ticks-end .ensures in
-    let at = rw end at (c .before .lowest-unticked .ensures) in
-    rw end (report-whole (g .s .now) (rowAt (g .row)) (rw (end, at) at (c .if2 .taken)))
+    let found = c .before .before in
+    let g = found .before .before .args in
+    let none = c .if2 .taken in
+    rw none (report-full (g .s .now) (rowAt (g .row)) (rw none at (found .ticks-start .ensures (omega arith))))
 
-ticked-count-requires : tie.Need-ticked-count-requires
-ticked-count-requires c κs = omega arith
-
-cast-t10 : tie.Need-cast-t10
-cast-t10 c =
-    let ended = c .before .before .before .before in
-    let g = ended .before .before .args in
-    omega (arith, end-within (g .s .now) (rowAt (g .row)), ended .ticks-end .ensures)
-
-sub-t11 : tie.Need-sub-t11
-sub-t11 c =
-    let ended = c .before .before .before .before in
-    let g = ended .before .before .args in
-    omega (arith, row-count (g .s .now) (rowAt (g .row)), ended .ticks-end .ensures, c .ticked-count .ensures)
+cast-t8 : tie.Need-cast-t8
+cast-t8 c = search needs
 
 number-in-requires : tie.Need-number-in-requires
-number-in-requires c κs =
-    let ended = c .before .before .before .before in
-    let g = ended .before .before .args in
-    omega (arith, end-within (g .s .now) (rowAt (g .row)), ended .ticks-end .ensures)
+number-in-requires c κs = search needs
 
 returns-3 : tie.Need-returns-3
 returns-3 c =
-    let counted = c .before in
-    let gapped = counted .before in
-    let ended = gapped .before .before .before in
-    let g = ended .before .before .args in
-    let end = ended .ticks-end .ensures in
-    let at = rw end at (gapped .before .lowest-unticked .ensures) in
-    rw (counted .ticked-count .ensures, end, c .number-in .ensures, at) (report-gaps (g .s .now) (rowAt (g .row)) (rw (end, at) at (gapped .if2 .left)))
+    let begun = c .before in
+    let found = begun .before .before in
+    let g = found .before .before .args in
+    let start = found .ticks-start .result in
+    let starts = found .ticks-start .ensures (omega arith) in
+    rw (c .number-in .ensures) (report-start (g .s .now) (rowAt (g .row)) start starts (omega arith) (omega arith))
 
 pub row-report-spec : {M : Type 1} → statement M
 row-report-spec =
@@ -77,13 +55,12 @@ row-report-spec =
     (tie.spec
     mul-a
     add-a
-    ticks-end-requires
+    ticks-start-requires
+    counted-report-requires
     returns
-    lowest-unticked-requires
-    cast-t9
+    sub-ticked
+    cast-ticked
     returns-2
-    ticked-count-requires
-    cast-t10
-    sub-t11
+    cast-t8
     number-in-requires
     returns-3)
