@@ -39,12 +39,21 @@ mean-year count k q h b =
       on = rw next (omega (arith, q .high, near (k + 1) .0));
     }
 
+-- The new year of a year after 3000 is past every count.
+pub past-table : (count k : ℕ) → count ≤ lastCount → 1101 ≤ k → count < newYear (firstYear + k)
+past-table count k h l = omega (arith, new-years-grow 3001 (firstYear + k) (omega arith) (omega arith), new-year-3001)
+
+-- That of 1900 is past none.
+pub not-first : (count k : ℕ) → count < newYear (firstYear + k) → 1 ≤ k
+not-first count zero b = absurd (omega (arith, b, new-year-1900))
+not-first count (suc k) b = omega arith
+
 -- Where it is past the count, the count falls in the year before.
 pub mean-before : (count k : ℕ) → Quotient (count * 400 + 496) 146097 k → count ≤ lastCount → count < newYear (firstYear + k)
-    → Within (firstYear + k - 1) count
-mean-before count zero q h b = absurd (omega (arith, b, new-year-1900))
+    → Within (firstYear + (k - 1)) count
+mean-before count zero q h b = absurd (omega (arith, not-first count zero b))
 mean-before count (suc k) q h b =
-    let before : firstYear + suc k - 1 ≡ firstYear + k = omega arith in
+    let before : suc k - 1 ≡ k = omega arith in
     let begun : newYear (firstYear + k) ≤ count = omega (arith, q .low, near k .1) in
     let next : firstYear + k + 1 ≡ firstYear + suc k = omega arith in
     rw before

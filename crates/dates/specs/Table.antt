@@ -1,4 +1,4 @@
--- What is known of the table, and of a year found for a count. Assumes nothing.
+-- What is known of the table. Assumes nothing.
 -- The manual, docs/INTERFACE.md: "Dates".
 use Prim.Native.Nat.{ℕ, _+_, _-_, _≤_}
 use mathlib.Core.Path.{_≡_}

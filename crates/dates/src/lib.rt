@@ -31,6 +31,12 @@ const CYCLE_DAYS: u32 = 146097;
 // A new year comes at most so many four-hundredths of a day before the cycle's mean would have it.
 const EARLY: u32 = 496;
 
+// A year of the table, and its entry: the day number of its 1 January.
+struct TableYear {
+    year: u16,
+    start: u32,
+}
+
 pub enum CountAnswer {
     Day(u32),
     NotADate,
@@ -41,12 +47,17 @@ pub enum DateAnswer {
     Refused(Refusal),
 }
 
-// The table of new years: entry i is the day number of 1 January of the year 1900 + i. It is handed out by value: LLVM makes no
-// constant of an array that is read by an index, so the calls below compute single entries.
+// The table of new years, in one piece: entry i is the day number of 1 January of the year 1900 + i.
 pub fn new_years() -> [u32; YEARS]
     ensures { λ r. ⌜ NewYears r ⌝ }
 {
-    table::NEW_YEARS
+    let mut table = [0u32; YEARS];
+    let mut i = 0;
+    while i < YEARS {
+        table[i] = table::entry(i);
+        i += 1;
+    }
+    table
 }
 
 // Whether a year has 366 days.
@@ -90,9 +101,10 @@ pub fn is_date(year: u16, day: u16) -> bool
     is_year(year) & is_day(year, day)
 }
 
-// The day number of a year's 1 January: the table's entry, computed. Each year has 365 days, and the leap years one more.
+// The day number of a year's 1 January, computed, which is quicker than reading the table's entry: day counts are made for every record.
+// Each year has 365 days, and the leap years one more.
 fn new_year(year: u16) -> u32
-    requires { ⌜ (firstYear ≤ year) × (year ≤ lastYear + 1) ⌝ }
+    requires { ⌜ (firstYear ≤ year) × (year ≤ lastYear) ⌝ }
     ensures { λ r. ⌜ r ≡ newYear year ⌝ }
 {
     let over = year as u32 - 1;
@@ -111,18 +123,34 @@ pub fn day_count(year: u16, day: u16) -> CountAnswer
     CountAnswer::Day(count)
 }
 
+// The table's year i and its entry.
+fn year_at(i: usize) -> TableYear
+    requires { ⌜ firstYear + i ≤ lastYear ⌝ }
+    ensures { λ r. ⌜ (r .year ≡ firstYear + i) × (r .start ≡ newYear (r .year)) ⌝ }
+{
+    let start = table::entry(i);
+    TableYear {
+        year: FIRST_YEAR + i as u16,
+        start,
+    }
+}
+
 // The year that a day count falls in: a search of the table of new years, by interpolation. The cycle's mean leads to the year or to the
-// one after it, and one comparison with the table's entry, computed, decides.
-fn year_of(count: u32) -> u16
+// one after it, and one comparison with the entry there decides. The last day of 3000 leads to 3001, which has no entry.
+fn year_of(count: u32) -> TableYear
     requires { ⌜ count ≤ lastCount ⌝ }
-    ensures { λ r. ⌜ Within r count ⌝ }
+    ensures { λ r. ⌜ Within (r .year) count × (r .start ≡ newYear (r .year)) ⌝ }
 {
     let years = (count * CYCLE_YEARS + EARLY) / CYCLE_DAYS;
-    let year = FIRST_YEAR + years as u16;
-    if count < new_year(year) {
-        return year - 1;
+    let i = years as usize;
+    if YEARS <= i {
+        return year_at(i - 1);
     }
-    year
+    let found = year_at(i);
+    if count < found.start {
+        return year_at(i - 1);
+    }
+    found
 }
 
 // The date of a day count; refused past the last day of 3000.
@@ -132,8 +160,11 @@ pub fn date_of(count: u32) -> DateAnswer
     if LAST_COUNT < count {
         return DateAnswer::Refused(Refusal::DayCount);
     }
-    let year = year_of(count);
-    let past = count - new_year(year);
+    let found = year_of(count);
+    let past = count - found.start;
     let day = past as u16 + 1;
-    DateAnswer::Date { year, day }
+    DateAnswer::Date {
+        year: found.year,
+        day,
+    }
 }

@@ -1,8 +1,10 @@
 -- `year_of` meets its contract: the mean's year is the one that the count falls in, or the one after it. Assumes nothing.
+use Prim.Native.Nat.{_+_, _*_, _/_, _<_}
 use native.Mathlib.Omega.{arith}
 use borrow.Author.Needs.{needs}
+use Rattle.dates.specs.Calendar.{firstYear, newYear}
 use Rattle.dates.proofs.Computed.{quotient}
-use Rattle.dates.proofs.Mean.{mean-year, mean-before}
+use Rattle.dates.proofs.Mean.{mean-year, past-table, not-first, mean-before}
 use Rattle.dates.proofs.year_of.Statement.{statement}
 use Rattle.dates.proofs.year_of.Tie as tie
 
@@ -12,29 +14,49 @@ mul-years c = search needs
 add-years : tie.Need-add-years
 add-years c = search needs
 
-cast-year : tie.Need-cast-year
-cast-year c = search needs
+cast-i : tie.Need-cast-i
+cast-i c = search needs
 
-add-year : tie.Need-add-year
-add-year c = search needs
+sub-year-at : tie.Need-sub-year-at
+sub-year-at c = search needs
 
-new-year-requires : tie.Need-new-year-requires
-new-year-requires c κs = search needs
-
-sub-result : tie.Need-sub-result
-sub-result c = search needs
+year-at-requires : tie.Need-year-at-requires
+year-at-requires c κs = search needs
 
 returns : tie.Need-returns
 returns c =
     let start = c .before .before in
-    let past = rw (c .before .new-year .ensures) at (c .if1 .taken) in
-    mean-before _ _ (quotient 146097 _ (omega arith)) (start .pre) past
+    let y = c .year-at .ensures in
+    let past = past-table _ _ (start .pre) (c .before .if1 .taken) in
+    (rw (y .0) (mean-before _ _ (quotient 146097 _ (omega arith)) (start .pre) past), y .1)
+
+year-at-requires-2 : tie.Need-year-at-requires-2
+year-at-requires-2 c κs = search needs
+
+-- The new year that the mean leads to is past the count.
+late : (c : tie.Then2) → let count = c .before .before .before .before .args .count in count < newYear (firstYear + (count * 400 + 496) / 146097)
+late c =
+    let y = c .before .before .year-at2 .ensures in
+    rw (y .1, y .0) at (c .if2 .taken)
+
+sub-year-at-2 : tie.Need-sub-year-at-2
+sub-year-at-2 c = not-first _ _ (late c)
+
+year-at-requires-3 : tie.Need-year-at-requires-3
+year-at-requires-3 c κs = search needs
 
 returns-2 : tie.Need-returns-2
 returns-2 c =
-    let start = c .before .before in
-    let begun = rw (c .before .new-year .ensures) at (c .if1 .left) in
-    mean-year _ _ (quotient 146097 _ (omega arith)) (start .pre) begun
+    let start = c .before .before .before .before .before in
+    let y = c .year-at3 .ensures in
+    (rw (y .0) (mean-before _ _ (quotient 146097 _ (omega arith)) (start .pre) (late (c .before))), y .1)
+
+returns-3 : tie.Need-returns-3
+returns-3 c =
+    let start = c .before .before .before .before in
+    let y = c .before .before .year-at2 .ensures in
+    let begun = rw (y .1, y .0) at (c .if2 .left) in
+    (rw (y .0) (mean-year _ _ (quotient 146097 _ (omega arith)) (start .pre) begun), y .1)
 
 pub year-of-spec : {M : Type 1} → statement M
 year-of-spec =
@@ -42,9 +64,12 @@ year-of-spec =
     (tie.spec
     mul-years
     add-years
-    cast-year
-    add-year
-    new-year-requires
-    sub-result
+    cast-i
+    sub-year-at
+    year-at-requires
     returns
-    returns-2)
+    year-at-requires-2
+    sub-year-at-2
+    year-at-requires-3
+    returns-2
+    returns-3)
