@@ -1,6 +1,9 @@
 // Desks, and the sheet as a whole: made fresh, opened, saved, cleared.
+use ledger_rows::desk_row;
 use ledger_sheet as sheet;
 use ledger_sheet::Answer;
+use ledger_sheet::desk_at;
+use ledger_sheet::row_at;
 use octets::clear;
 use octets::copy;
 use octets::is_same;
@@ -52,8 +55,8 @@ pub fn open_desk(s: &mut [u8], d: usize, row: usize)
     requires { ⌜ (length (now s) ≡ sheetSize) × (d < deskCount) × (row < rowCount) ⌝ }
     ensures { λ _. ⌜ now (s .exit) ≡ openAt d row (now (s .entry)) ⌝ }
 {
-    let a = sheet::DESKS_AT + sheet::DESK * d;
-    let from = sheet::ROWS_AT + sheet::ROW * row;
+    let a = desk_at(d);
+    let from = row_at(row);
     s[a] = sheet::OPEN;
     s[a + sheet::DESK_ROW_AT] = row as u8;
     clear(s, a + sheet::DESK_ZEROS_AT, sheet::DESK_ZEROS);
@@ -66,7 +69,7 @@ pub fn clear_desk(s: &mut [u8], d: usize)
     requires { ⌜ (length (now s) ≡ sheetSize) × (d < deskCount) ⌝ }
     ensures { λ _. ⌜ now (s .exit) ≡ clearDesk d (now (s .entry)) ⌝ }
 {
-    clear(s, sheet::DESKS_AT + sheet::DESK * d, sheet::DESK);
+    clear(s, desk_at(d), sheet::DESK);
 }
 
 // Saves desk d: where its row is still as it was opened, the worked copy becomes the row; the desk is cleared.
@@ -88,15 +91,8 @@ fn is_current(s: &[u8], d: usize) -> bool
     requires { ⌜ (length (now s) ≡ sheetSize) × (d < deskCount) × (deskRow (now s) d < rowCount) ⌝ }
     ensures { λ r. ⌜ r ≡ isCurrent d (now (s .entry)) ⌝ }
 {
-    let a = sheet::DESKS_AT + sheet::DESK * d;
-    let row = s[a + sheet::DESK_ROW_AT] as usize;
-    is_same(
-        s,
-        sheet::ROWS_AT + sheet::ROW * row,
-        s,
-        a + sheet::OPENED_AT,
-        sheet::ROW,
-    )
+    let row = row_at(desk_row(s, d));
+    is_same(s, row, s, desk_at(d) + sheet::OPENED_AT, sheet::ROW)
 }
 
 // The row that desk d has open becomes the worked copy.
@@ -104,12 +100,6 @@ fn store(s: &mut [u8], d: usize)
     requires { ⌜ (length (now s) ≡ sheetSize) × (d < deskCount) × (deskRow (now s) d < rowCount) ⌝ }
     ensures { λ _. ⌜ now (s .exit) ≡ stored d (now (s .entry)) ⌝ }
 {
-    let a = sheet::DESKS_AT + sheet::DESK * d;
-    let row = s[a + sheet::DESK_ROW_AT] as usize;
-    copy(
-        s,
-        a + sheet::WORKED_AT,
-        sheet::ROWS_AT + sheet::ROW * row,
-        sheet::ROW,
-    );
+    let row = row_at(desk_row(s, d));
+    copy(s, desk_at(d) + sheet::WORKED_AT, row, sheet::ROW);
 }

@@ -5,6 +5,7 @@ use ledger_sheet::Row;
 use ledger_sheet::right::first_at;
 use ledger_sheet::right::key_at;
 use ledger_sheet::right::rows_used;
+use ledger_sheet::row_at;
 use octets::clear;
 use octets::write_be;
 ghost use mathlib.Core.Path.{_≡_};
@@ -78,7 +79,7 @@ pub fn enrol_row(s: &mut [u8], key: u64, first: u32) -> u32
 {
     let row = free_row(s);
     let used = rows_used(s) as u64;
-    write_row(s, sheet::ROWS_AT + sheet::ROW * row, blank_row(key, first));
+    write_row(s, row_at(row), blank_row(key, first));
     write_be(s, sheet::USED_AT, sheet::NUMBER, used + 1);
     row as u32
 }
@@ -89,6 +90,6 @@ pub fn strike_row(s: &mut [u8], row: usize)
     ensures { λ _. ⌜ now (s .exit) ≡ strikeAt row (now (s .entry)) ⌝ }
 {
     let used = rows_used(s) as u64;
-    clear(s, sheet::ROWS_AT + sheet::ROW * row, sheet::ROW);
+    clear(s, row_at(row), sheet::ROW);
     write_be(s, sheet::USED_AT, sheet::NUMBER, used - 1);
 }

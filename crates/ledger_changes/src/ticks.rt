@@ -3,6 +3,7 @@ use ledger_rows::is_ticked;
 use ledger_rows::tick_bit;
 use ledger_sheet as sheet;
 use ledger_sheet::Answer;
+use ledger_sheet::desk_at;
 use ledger_sheet::right::first_at;
 use ledger_sheet::right::key_at;
 use refusals::Refusal;
@@ -21,7 +22,7 @@ pub fn mark_desk(s: &mut [u8], d: usize, n: u32, on: bool) -> Answer
     requires { ⌜ (length (now s) ≡ sheetSize) × (d < deskCount) ⌝ }
     ensures { λ r. ⌜ (answerWords r, now (s .exit)) ≡ markDesk on d n (now (s .entry)) ⌝ }
 {
-    let a = sheet::DESKS_AT + sheet::DESK * d + sheet::WORKED_AT;
+    let a = desk_at(d) + sheet::WORKED_AT;
     let e = a + sheet::ROW;
     mark_row(&mut s[a..e], n, on)
 }

@@ -7,6 +7,8 @@ use ledger_changes::rows::write_row;
 use ledger_sheet as sheet;
 use ledger_sheet::Answer;
 use ledger_sheet::Row;
+use ledger_sheet::desk_at;
+use ledger_sheet::row_at;
 use octets::clear;
 use octets::write_be;
 use old::is_old_sheet;
@@ -63,8 +65,8 @@ fn write_rows(old: &[u8], new: &mut [u8], used: usize)
     ensures { λ _. ⌜ Laid (now (old .entry)) (now (new .exit)) rowCount 0 ⌝ }
 {
     for i in 0..used {
-        let row = read_row(old, sheet::ROWS_AT + old::ROW * i - BEFORE_KEY);
-        write_row(new, sheet::ROWS_AT + sheet::ROW * i, row);
+        let row = read_row(old, old::row_at(i) - BEFORE_KEY);
+        write_row(new, row_at(i), row);
     }
 }
 
@@ -75,7 +77,7 @@ fn write_desks(old: &[u8], new: &mut [u8])
     ensures { λ _. ⌜ Laid (now (old .entry)) (now (new .exit)) rowCount deskCount ⌝ }
 {
     for d in 0..sheet::DESKS {
-        let from = old::DESKS_AT + old::DESK * d;
+        let from = old::desk_at(d);
         if old[from] != sheet::CLOSED {
             let opened = read_row(old, from + sheet::OPENED_AT - BEFORE_KEY);
             let worked = read_row(old, from + old::WORKED_AT - BEFORE_KEY);
@@ -91,7 +93,7 @@ fn write_desk(new: &mut [u8], d: usize, row: u8, opened: Row, worked: Row)
     ensures { λ _. ⌜ now (new .exit) ≡ put (now (new .entry)) (deskAt d) (openDesk row (rowBytes (opened .key) (opened .first) (opened .ticks))
         (rowBytes (worked .key) (worked .first) (worked .ticks))) ⌝ }
 {
-    let a = sheet::DESKS_AT + sheet::DESK * d;
+    let a = desk_at(d);
     new[a] = sheet::OPEN;
     new[a + sheet::DESK_ROW_AT] = row;
     clear(new, a + sheet::DESK_ZEROS_AT, sheet::DESK_ZEROS);

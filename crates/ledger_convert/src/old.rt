@@ -11,7 +11,7 @@ ghost use Prim.Native.Nat.{_+_, _≤_, _<_};
 ghost use lib.Dec.{eqb};
 ghost use lib.ListN.{length, getD};
 ghost use Rattle.octets.specs.Octets.{all};
-ghost use Rattle.ledger_convert.specs.Old.{sheetSize, rowSize, rowCount, deskCount, used, keyAt, firstNumberAt, deskByte};
+ghost use Rattle.ledger_convert.specs.Old.{sheetSize, rowSize, rowCount, deskCount, rowAt, deskAt, used, keyAt, firstNumberAt, deskByte};
 ghost use Rattle.ledger_convert.specs.Old.{headerRight, validKeys, differentKeys, firstNumbers, unusedZero, deskRight, right};
 ghost use Rattle.ledger_convert.specs.inner.Sized.{Sized};
 
@@ -20,15 +20,34 @@ const FIRST_AT: usize = sheet::KEY;
 
 const TICKS_AT: usize = FIRST_AT + sheet::FIRST;
 
-pub const ROW: usize = TICKS_AT + sheet::TICKS;
+const ROW: usize = TICKS_AT + sheet::TICKS;
 
 pub const WORKED_AT: usize = sheet::OPENED_AT + ROW;
 
-pub const DESK: usize = WORKED_AT + ROW;
+const DESK: usize = WORKED_AT + ROW;
 
-pub const DESKS_AT: usize = sheet::ROWS_AT + ROW * sheet::ROWS;
+const DESKS_AT: usize = sheet::ROWS_AT + ROW * sheet::ROWS;
 
 pub const SHEET: usize = DESKS_AT + DESK * sheet::DESKS;
+
+// What a desk's copy carries of its row: all before the ticks.
+const CARRIED: usize = TICKS_AT;
+
+// Where row i stands; behind the last row, where the rows end.
+pub fn row_at(i: usize) -> usize
+    requires { ⌜ i ≤ rowCount ⌝ }
+    ensures { λ r. ⌜ r ≡ rowAt i ⌝ }
+{
+    sheet::ROWS_AT + ROW * i
+}
+
+// Where desk d stands.
+pub fn desk_at(d: usize) -> usize
+    requires { ⌜ d < deskCount ⌝ }
+    ensures { λ r. ⌜ r ≡ deskAt d ⌝ }
+{
+    DESKS_AT + DESK * d
+}
 
 // Whether a slice is a right old sheet.
 pub fn is_old_sheet(s: &[u8]) -> bool
@@ -93,7 +112,7 @@ fn are_rows(s: &[u8]) -> bool
     let mut different = true;
     let mut numbers = true;
     for i in 0..used {
-        let row = sheet::ROWS_AT + ROW * i;
+        let row = row_at(i);
         let key = key_at(s, row);
         valid &= keys::valid(key);
         numbers &= keys::is_number(key, first_at(s, row));
@@ -110,9 +129,9 @@ fn is_rest(s: &[u8]) -> bool
     ensures { λ r. ⌜ r ≡ (unusedZero (now (s .entry)) && all deskCount (deskRight (now (s .entry)))) ⌝ }
 {
     let mut right = true;
-    let mut zeros = sheet::ROWS_AT + ROW * rows_used(s);
+    let mut zeros = row_at(rows_used(s));
     for d in 0..sheet::DESKS {
-        let desk = DESKS_AT + DESK * d;
+        let desk = desk_at(d);
         if s[desk] != sheet::CLOSED {
             right &= is_long_zero(s, zeros, desk - zeros);
             right &= is_open_desk(s, d);
@@ -129,20 +148,15 @@ fn is_open_desk(s: &[u8], d: usize) -> bool
     requires { ⌜ (d < deskCount) × (deskByte (now s) d ≡ 0 → ⊥) ⌝ }
     ensures { λ r. ⌜ r ≡ deskRight (now (s .entry)) d ⌝ }
 {
-    let a = DESKS_AT + DESK * d;
+    let a = desk_at(d);
     let row = s[a + sheet::DESK_ROW_AT] as usize;
     if row >= rows_used(s) {
         return false;
     }
+    let from = row_at(row);
     let open = s[a] == sheet::OPEN;
     let zeros = is_zero(s, a + sheet::DESK_ZEROS_AT, sheet::DESK_ZEROS);
-    let opened = is_same(
-        s,
-        sheet::ROWS_AT + ROW * row,
-        s,
-        a + sheet::OPENED_AT,
-        TICKS_AT,
-    );
-    let worked = is_same(s, sheet::ROWS_AT + ROW * row, s, a + WORKED_AT, TICKS_AT);
+    let opened = is_same(s, from, s, a + sheet::OPENED_AT, CARRIED);
+    let worked = is_same(s, from, s, a + WORKED_AT, CARRIED);
     open & zeros & opened & worked
 }

@@ -2,15 +2,14 @@
 use ledger_rows::is_ticked;
 use ledger_sheet::BYTE_BITS;
 use ledger_sheet::GapAnswer;
-use ledger_sheet::ROW;
 use ledger_sheet::ROWS;
-use ledger_sheet::ROWS_AT;
 use ledger_sheet::ReportAnswer;
 use ledger_sheet::TICKS;
 use ledger_sheet::TICKS_AT;
 use ledger_sheet::right::first_at;
 use ledger_sheet::right::is_used;
 use ledger_sheet::right::key_at;
+use ledger_sheet::row_at;
 ghost use mathlib.Core.Path.{_≡_};
 ghost use mathlib.Core.Bool.{true, not, cond};
 ghost use Prim.Native.Nat.{_+_, _≤_, _<_};
@@ -217,7 +216,7 @@ pub fn row_report(s: &[u8], row: usize) -> ReportAnswer
     requires { ⌜ (length (now s) ≡ sheetSize) × (row < rowCount) ⌝ }
     ensures { λ r. ⌜ reportAnswerWords r ≡ reportWords (now (s .entry)) (rowAt row) ⌝ }
 {
-    let a = ROWS_AT + ROW * row;
+    let a = row_at(row);
     let start = ticks_start(s, a);
     if start >= POSITIONS {
         return counted_report(s, a);
@@ -241,7 +240,7 @@ fn row_end(s: &[u8], row: usize) -> usize
     if !is_used(s, row) {
         return 0;
     }
-    ticks_end(s, ROWS_AT + ROW * row)
+    ticks_end(s, row_at(row))
 }
 
 // The first missing number and its row: rows in order, positions in order.
@@ -251,7 +250,7 @@ pub fn first_gap(s: &[u8]) -> GapAnswer
 {
     let mut gap = GapAnswer::Nothing;
     'rows: for row in 0..ROWS {
-        let a = ROWS_AT + ROW * row;
+        let a = row_at(row);
         let end = row_end(s, row);
         for i in 0..end {
             if !is_ticked(s, a, i) {

@@ -1,7 +1,9 @@
 // What is read of a sheet and changes nothing: the row with a key, a free row, a desk's row, a tick.
 use ledger_sheet as sheet;
+use ledger_sheet::desk_at;
 use ledger_sheet::right::is_used;
 use ledger_sheet::right::key_at;
+use ledger_sheet::row_at;
 ghost use mathlib.Core.Path.{_≡_};
 ghost use Prim.Native.Nat.{_+_, _≤_, _<_, _^_};
 ghost use lib.ListN.{length};
@@ -31,7 +33,7 @@ fn is_row_of(s: &[u8], key: u64, i: usize) -> bool
     if !is_used(s, i) {
         return false;
     }
-    key_at(s, sheet::ROWS_AT + sheet::ROW * i) == key
+    key_at(s, row_at(i)) == key
 }
 
 // Whether a used row has the key.
@@ -60,7 +62,7 @@ pub fn is_closed(s: &[u8], d: usize) -> bool
     requires { ⌜ (length (now s) ≡ sheetSize) × (d < deskCount) ⌝ }
     ensures { λ r. ⌜ r ≡ isClosed (now (s .entry)) d ⌝ }
 {
-    s[sheet::DESKS_AT + sheet::DESK * d] == sheet::CLOSED
+    s[desk_at(d)] == sheet::CLOSED
 }
 
 // Whether no desk has the row open.
@@ -80,7 +82,7 @@ pub fn desk_row(s: &[u8], d: usize) -> usize
     requires { ⌜ (length (now s) ≡ sheetSize) × (d < deskCount) ⌝ }
     ensures { λ r. ⌜ r ≡ deskRow (now (s .entry)) d ⌝ }
 {
-    s[sheet::DESKS_AT + sheet::DESK * d + sheet::DESK_ROW_AT] as usize
+    s[desk_at(d) + sheet::DESK_ROW_AT] as usize
 }
 
 // Whether position i of the row or the copy at offset a is ticked.

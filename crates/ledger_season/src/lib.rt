@@ -2,14 +2,13 @@
 // much is ticked, missing, and missing per million; and the first gap of all.
 use ledger_counts::row_report;
 use ledger_sheet::Answer;
-use ledger_sheet::ROW;
 use ledger_sheet::ROWS;
-use ledger_sheet::ROWS_AT;
 use ledger_sheet::ReportAnswer;
 use ledger_sheet::SHEET;
 use ledger_sheet::right::is_sheet;
 use ledger_sheet::right::is_used;
 use ledger_sheet::right::key_at;
+use ledger_sheet::row_at;
 use refusals::Refusal;
 ghost use mathlib.Core.Path.{_≡_};
 ghost use mathlib.Core.List.{List, _∷_, []};
@@ -137,7 +136,7 @@ fn read_keys(s: &[u8], keys: &mut [u64; MOST_KEYS], found: usize) -> usize
     let mut count = found;
     for i in 0..ROWS {
         if is_used(s, i) {
-            keys[count] = key_at(s, ROWS_AT + ROW * i);
+            keys[count] = key_at(s, row_at(i));
             count += 1;
         }
     }

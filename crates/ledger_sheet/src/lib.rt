@@ -3,6 +3,9 @@
 pub mod right;
 
 use refusals::Refusal;
+ghost use mathlib.Core.Path.{_≡_};
+ghost use Prim.Native.Nat.{_≤_, _<_};
+ghost use Rattle.ledger_sheet.specs.Sheet.{rowCount, deskCount, rowAt, deskAt};
 
 // A row: used word, key, first number, ticks. There are 32, and the first stands at 24.
 pub const USED_WORD: usize = 4;
@@ -67,6 +70,22 @@ pub const ROWS_START_AT: usize = 12;
 pub const DESK_COUNT_AT: usize = 16;
 
 pub const DESKS_START_AT: usize = 20;
+
+// Where row i stands; behind the last row, where the rows end.
+pub fn row_at(i: usize) -> usize
+    requires { ⌜ i ≤ rowCount ⌝ }
+    ensures { λ r. ⌜ r ≡ rowAt i ⌝ }
+{
+    ROWS_AT + ROW * i
+}
+
+// Where desk d stands.
+pub fn desk_at(d: usize) -> usize
+    requires { ⌜ d < deskCount ⌝ }
+    ensures { λ r. ⌜ r ≡ deskAt d ⌝ }
+{
+    DESKS_AT + DESK * d
+}
 
 // A row, or a desk's copy of one, as a value.
 pub struct Row {

@@ -5,6 +5,8 @@ use octets::is_long_zero;
 use octets::is_same;
 use octets::is_zero;
 use octets::read_be;
+use sheet::desk_at;
+use sheet::row_at;
 ghost use mathlib.Core.Path.{_≡_};
 ghost use mathlib.Core.Bool.{not, _&&_, _||_};
 ghost use Prim.Native.Nat.{_+_, _≤_, _<_};
@@ -70,7 +72,7 @@ pub fn is_used(s: &[u8], i: usize) -> bool
     requires { ⌜ (length (now s) ≡ sheetSize) × (i < rowCount) ⌝ }
     ensures { λ r. ⌜ r ≡ isUsed (now (s .entry)) i ⌝ }
 {
-    read_be(s, sheet::ROWS_AT + sheet::ROW * i, sheet::USED_WORD) == sheet::USED
+    read_be(s, row_at(i), sheet::USED_WORD) == sheet::USED
 }
 
 // Whether there is a row with the number i.
@@ -116,7 +118,7 @@ fn are_rows(s: &[u8]) -> Judged
         if found == used {
             break;
         }
-        let row = sheet::ROWS_AT + sheet::ROW * i;
+        let row = row_at(i);
         if is_used(s, i) {
             let key = key_at(s, row);
             right &= is_stream(key, first_at(s, row));
@@ -131,7 +133,7 @@ fn are_rows(s: &[u8]) -> Judged
     }
     Judged {
         right: right & (found == used),
-        zeros: sheet::ROWS_AT + sheet::ROW * i,
+        zeros: row_at(i),
     }
 }
 
@@ -174,7 +176,7 @@ fn are_desks(s: &[u8], judged: Judged) -> bool
     let mut right = judged.right;
     let mut zeros = judged.zeros;
     for d in 0..sheet::DESKS {
-        let desk = sheet::DESKS_AT + sheet::DESK * d;
+        let desk = desk_at(d);
         if s[desk] != sheet::CLOSED {
             right &= is_long_zero(s, zeros, desk - zeros);
             right &= is_open_desk(s, d);
@@ -191,26 +193,15 @@ fn is_open_desk(s: &[u8], d: usize) -> bool
     requires { ⌜ (d < deskCount) × (deskByte (now s) d ≡ 0 → ⊥) ⌝ }
     ensures { λ r. ⌜ r ≡ deskRight (now (s .entry)) d ⌝ }
 {
-    let a = sheet::DESKS_AT + sheet::DESK * d;
+    let a = desk_at(d);
     let row = s[a + sheet::DESK_ROW_AT] as usize;
     if !is_row(s, row) {
         return false;
     }
+    let from = row_at(row);
     let open = s[a] == sheet::OPEN;
     let zeros = is_zero(s, a + sheet::DESK_ZEROS_AT, sheet::DESK_ZEROS);
-    let opened = is_same(
-        s,
-        sheet::ROWS_AT + sheet::ROW * row,
-        s,
-        a + sheet::OPENED_AT,
-        CARRIED,
-    );
-    let worked = is_same(
-        s,
-        sheet::ROWS_AT + sheet::ROW * row,
-        s,
-        a + sheet::WORKED_AT,
-        CARRIED,
-    );
+    let opened = is_same(s, from, s, a + sheet::OPENED_AT, CARRIED);
+    let worked = is_same(s, from, s, a + sheet::WORKED_AT, CARRIED);
     open & zeros & opened & worked
 }

@@ -44,7 +44,7 @@ clearDesk d s = put s (deskAt d) (replicate deskSize 0)
 
 -- ---- tick, untick
 
--- The position of number n in a row's bytes, of which the first is the key's.
+-- The position of number n in a row's bytes.
 abbrev pub positionIn : List ℕ → ℕ → ℕ
 positionIn row n = position (keyAt row 0) (firstNumberAt row 0) n
 

@@ -8,11 +8,8 @@ use borrow.Author.Needs.{needs}
 use Rattle.ledger_convert.proofs.write_desk.Statement.{statement}
 use Rattle.ledger_convert.proofs.write_desk.Tie as tie
 
-mul-a : tie.Need-mul-a
-mul-a c = search needs
-
-add-a : tie.Need-add-a
-add-a c = search needs
+desk-at-requires : tie.Need-desk-at-requires
+desk-at-requires c κs = search needs
 
 slice-write-new : tie.Need-slice-write-new
 slice-write-new c = search needs
@@ -35,7 +32,7 @@ add-write-row c = search needs
 write-row-requires : tie.Need-write-row-requires
 write-row-requires c κs =
     let kept = simp length-set at (c .before .before .before .clear .kept .0) in
-    (omega arith, c .before .before .before .before .before .before .pre .1 .0)
+    (omega arith, c .before .before .before .before .before .before .before .pre .1 .0)
 
 add-write-row-2 : tie.Need-add-write-row-2
 add-write-row-2 c = search needs
@@ -44,7 +41,7 @@ write-row-requires-2 : tie.Need-write-row-requires-2
 write-row-requires-2 c κs =
     let kept = simp length-set at (c .before .before .before .before .before .before .before .clear .kept .0) in
     let kept-2 = c .before .before .before .write-row .kept .0 in
-    (omega arith, c .before .before .before .before .before .before .before .before .before .before .pre .1 .1)
+    (omega arith, c .before .before .before .before .before .before .before .before .before .before .before .pre .1 .1)
 
 same-length : tie.Need-same-length
 same-length c =
@@ -53,18 +50,19 @@ same-length c =
 
 returns : tie.Need-returns
 returns c =
-    let start = c .before .before .before .before .before .before .before .before .before .before .before .before .before in
-    let g = start .args in
-    desk-written _ _ _ _ _ (start .pre .0 .0) (start .pre .0 .1) (length-row _ _ _ (start .pre .1 .0)) (length-row _ _ _ (start .pre .1 .1))
-    (c .before .before .before .before .before .before .before .before .before .before .clear .ensures)
-    (c .before .before .before .before .before .before .write-row .ensures) (c .before .before .write-row2 .ensures)
+    let opened = c .before .before .before .before .before .before in
+    let cleared = opened .before .before .before .before in
+    let start = cleared .before .before in
+    let pre = start .before .before .pre in
+    let place = start .desk-at .ensures in
+    desk-written _ _ _ _ _ (pre .0 .0) (pre .0 .1) (length-row _ _ _ (pre .1 .0)) (length-row _ _ _ (pre .1 .1)) (rw place at (cleared .clear .ensures))
+    (rw place at (opened .write-row .ensures)) (rw place at (c .before .before .write-row2 .ensures))
 
 pub write-desk-spec : {M : Type 1} → statement M
 write-desk-spec =
     tie.close
     (tie.spec
-    mul-a
-    add-a
+    desk-at-requires
     slice-write-new
     add-new
     slice-write-new-2

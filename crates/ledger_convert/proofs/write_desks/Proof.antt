@@ -22,14 +22,13 @@ abbrev μ-loop : tie.MeasureT-loop
 loop-holds : tie.Need-loop-holds Inv-loop μ-loop
 loop-holds c = (omega arith, c .before .before .pre .1)
 
-mul-from : tie.Need-mul-from Inv-loop μ-loop
-mul-from c = omega arith
-
-add-from : tie.Need-add-from Inv-loop μ-loop
-add-from c = omega arith
+desk-at-requires : tie.Need-desk-at-requires Inv-loop μ-loop
+desk-at-requires c κs = omega arith
 
 shared-slice-read-if1 : tie.Need-shared-slice-read-if1 Inv-loop μ-loop
-shared-slice-read-if1 c = omega (arith, long (c .before .before .before .before .before .args .old .now) (c .before .before .before .before .before .pre .0))
+shared-slice-read-if1 c =
+    let start = c .before .before .before .before .before .before in
+    omega (arith, long (start .args .old .now) (start .pre .0))
 
 add-read-row : tie.Need-add-read-row Inv-loop μ-loop
 add-read-row c = omega arith
@@ -39,7 +38,7 @@ sub-read-row c = omega arith
 
 read-row-requires : tie.Need-read-row-requires Inv-loop μ-loop
 read-row-requires c κs =
-    let start = c .before .before .before .before .before .before in
+    let start = c .before .before .before .before .before .before .before in
     omega (arith, long (start .args .old .now) (start .pre .0))
 
 add-read-row-2 : tie.Need-add-read-row-2 Inv-loop μ-loop
@@ -50,7 +49,7 @@ sub-read-row-2 c = omega arith
 
 read-row-requires-2 : tie.Need-read-row-requires-2 Inv-loop μ-loop
 read-row-requires-2 c κs =
-    let start = c .before .before .before .before .before .before .before in
+    let start = c .before .before .before .before .before .before .before .before in
     omega (arith, long (start .args .old .now) (start .pre .0))
 
 add-write-desk : tie.Need-add-write-desk Inv-loop μ-loop
@@ -58,14 +57,14 @@ add-write-desk c = omega arith
 
 shared-slice-read-write-desk : tie.Need-shared-slice-read-write-desk Inv-loop μ-loop
 shared-slice-read-write-desk c =
-    let start = c .before .before .before .before .before .before .before .before .before .before in
+    let start = c .before .before .before .before .before .before .before .before .before .before .before in
     omega (arith, long (start .args .old .now) (start .pre .0))
 
 write-desk-requires : tie.Need-write-desk-requires Inv-loop μ-loop
 write-desk-requires c κs =
-    let start = c .before .before .before .before .before .before .before .before .before .before in
+    let start = c .before .before .before .before .before .before .before .before .before .before .before in
     let old = start .args .old .now in
-    let turn = c .before .before .before .before .before .before .before .loop in (
+    let turn = c .before .before .before .before .before .before .before .before .loop in (
       (turn .inv .1 .long, omega arith),
       (
         value-ticks old _ _ (omega (arith, long old (start .pre .0))) (c .before .before .before .read-row .ensures),
@@ -81,23 +80,25 @@ loop-less c = omega arith
 
 loop-again : tie.Need-loop-again Inv-loop μ-loop
 loop-again c =
-    let start = c .before .before .before .before .before .before in
+    let place = c .before .before in
+    let turn = place .before .before in
+    let start = turn .before .before .before in
     let old = start .args .old .now in
     let right = start .pre .0 in
-    let turn = c .before .before .before .loop in
-    let d = turn .d in
-    let from = Old.desksStart + Old.deskSize * d in
-    let bytes = c .before .before .before .before .before .shared-slice-known .given in
+    let d = turn .loop .d in
+    let from = place .desk-at .result in
+    let desk = place .desk-at .ensures in
+    let bytes = turn .before .before .shared-slice-known .given in
     ⊎-elim
     (λ w. (
       omega arith,
       rw (w .8)
-          (desk-laid old (turn .new) rowCount d (turn .inv .1) _ _ (omega arith)
-          (desk-copied old right bytes d (from + openedAt - usedWordSize) (from + Old.workedAt - usedWordSize) (omega arith) (ne-eqb _ _ (w .0 .taken))
-          (omega arith) (omega arith) _ _ (w .1 .ensures) (w .2 .ensures))
-          (w .5 .ensures)),
+          (desk-laid old (turn .loop .new) rowCount d (turn .loop .inv .1) _ _ (omega arith)
+          (desk-copied old right bytes d (from + openedAt - usedWordSize) (from + Old.workedAt - usedWordSize) (omega arith)
+          (ne-eqb _ _ (rw desk at (w .0 .taken))) (omega arith) (omega arith) _ _ (w .1 .ensures) (w .2 .ensures))
+          (rw desk at (w .5 .ensures))),
     ))
-    (λ w. (omega arith, rw (w .1) (closed-laid old (turn .new) rowCount d (turn .inv .1) (eq-eqb _ _ (w .0 .left)))))
+    (λ w. (omega arith, rw (w .1) (closed-laid old (turn .loop .new) rowCount d (turn .loop .inv .1) (eq-eqb _ _ (rw desk at (w .0 .left))))))
     (c .if1 .came)
 
 same-length : tie.Need-same-length Inv-loop μ-loop
@@ -115,8 +116,7 @@ write-desks-spec =
     Inv-loop
     μ-loop
     loop-holds
-    mul-from
-    add-from
+    desk-at-requires
     shared-slice-read-if1
     add-read-row
     sub-read-row

@@ -2,7 +2,7 @@
 use Prim.Native.Nat.{_≤_, _-_, _*_, _+_}
 use mathlib.Core.Path.{_≡_}
 use native.Mathlib.Omega.{arith}
-use Rattle.ledger_sheet.specs.Sheet.{usedWordSize, rowsStart}
+use Rattle.ledger_sheet.specs.Sheet.{usedWordSize}
 use Rattle.ledger_convert.specs.Old as Old
 use Rattle.ledger_convert.specs.inner.Laid.{Laid}
 use Rattle.ledger_convert.proofs.Read.{few, long, value-ticks}
@@ -20,43 +20,33 @@ abbrev μ-loop : tie.MeasureT-loop
 loop-holds : tie.Need-loop-holds Inv-loop μ-loop
 loop-holds c = (omega arith, c .before .before .pre .1)
 
-mul-read-row : tie.Need-mul-read-row Inv-loop μ-loop
-mul-read-row c =
+row-at-requires : tie.Need-row-at-requires Inv-loop μ-loop
+row-at-requires c κs =
     let start = c .before .before .before .before in
-    omega (arith, few (start .args .old .now) (start .pre .0 .0), long (start .args .old .now) (start .pre .0 .0), start .pre .0 .1)
-
-add-read-row : tie.Need-add-read-row Inv-loop μ-loop
-add-read-row c =
-    let start = c .before .before .before .before in
-    omega (arith, few (start .args .old .now) (start .pre .0 .0), long (start .args .old .now) (start .pre .0 .0), start .pre .0 .1)
+    omega (arith, few (start .args .old .now) (start .pre .0 .0), start .pre .0 .1)
 
 sub-read-row : tie.Need-sub-read-row Inv-loop μ-loop
 sub-read-row c = omega arith
 
 read-row-requires : tie.Need-read-row-requires Inv-loop μ-loop
 read-row-requires c κs =
-    let start = c .before .before .before .before in
+    let start = c .before .before .before .before .before in
     omega (arith, few (start .args .old .now) (start .pre .0 .0), long (start .args .old .now) (start .pre .0 .0), start .pre .0 .1)
 
-mul-write-row : tie.Need-mul-write-row Inv-loop μ-loop
-mul-write-row c =
-    let start = c .before .before .before .before .before .before in
-    omega (arith, few (start .args .old .now) (start .pre .0 .0), long (start .args .old .now) (start .pre .0 .0), start .pre .0 .1)
-
-add-write-row : tie.Need-add-write-row Inv-loop μ-loop
-add-write-row c =
-    let start = c .before .before .before .before .before .before in
-    omega (arith, few (start .args .old .now) (start .pre .0 .0), long (start .args .old .now) (start .pre .0 .0), start .pre .0 .1)
+row-at-requires-2 : tie.Need-row-at-requires-2 Inv-loop μ-loop
+row-at-requires-2 c κs =
+    let start = c .before .before .before .before .before .before .before in
+    omega (arith, few (start .args .old .now) (start .pre .0 .0), start .pre .0 .1)
 
 write-row-requires : tie.Need-write-row-requires Inv-loop μ-loop
 write-row-requires c κs =
-    let turn = c .before .before .before .loop in
-    let start = c .before .before .before .before .before .before in
+    let turn = c .before .before .before .before .before .loop in
+    let start = c .before .before .before .before .before .before .before .before in
     let old = start .args .old .now in
     let rows = few old (start .pre .0 .0) in
     let bytes = long old (start .pre .0 .0) in (
       omega (arith, turn .inv .1 .long, rows, bytes, start .pre .0 .1),
-      value-ticks old _ _ (omega (arith, rows, bytes, start .pre .0 .1)) (c .before .read-row .ensures),
+      value-ticks old _ _ (omega (arith, rows, bytes, start .pre .0 .1)) (c .before .before .read-row .ensures),
     )
 
 add-i : tie.Need-add-i Inv-loop μ-loop
@@ -67,17 +57,19 @@ loop-less c = omega arith
 
 loop-again : tie.Need-loop-again Inv-loop μ-loop
 loop-again c =
-    let start = c .before .before .before .before .before .before .before .before .before in
-    let turn = c .before .before .before .before .before .before .loop in
+    let written = c .before .before in
+    let read = written .before .before .before in
+    let turn = read .before .before .before .loop in
+    let start = read .before .before .before .before .before .before in
     let old = start .args .old .now in
     let right = start .pre .0 .0 in
-    let bytes = c .before .before .before .before .before .before .before .before .shared-slice-known .given in
+    let bytes = read .before .before .before .before .before .shared-slice-known .given in
+    let from = read .before .row-at .result in
     let i = turn .i in (
       omega arith,
       row-laid old (turn .new) i 0 (turn .inv .1) _ _ (omega (arith, few old right, start .pre .0 .1))
-          (row-copied old right bytes i (rowsStart + Old.rowSize * i - usedWordSize) (omega (arith, start .pre .0 .1)) (omega arith) _
-          (c .before .before .before .before .read-row .ensures))
-          (c .before .before .write-row .ensures),
+          (row-copied old right bytes i (from - usedWordSize) (omega (arith, start .pre .0 .1)) (omega arith) _ (read .read-row .ensures))
+          (rw (written .before .row-at2 .ensures) at (written .write-row .ensures)),
     )
 
 same-length : tie.Need-same-length Inv-loop μ-loop
@@ -96,12 +88,10 @@ write-rows-spec =
     Inv-loop
     μ-loop
     loop-holds
-    mul-read-row
-    add-read-row
+    row-at-requires
     sub-read-row
     read-row-requires
-    mul-write-row
-    add-write-row
+    row-at-requires-2
     write-row-requires
     add-i
     loop-less

@@ -30,32 +30,29 @@ abbrev μ-rows : tie.MeasureT-rows
 rows-holds : tie.Need-rows-holds Inv-loop μ-loop Inv-rows μ-rows
 rows-holds c = (omega arith, refl, refl)
 
-mul-a : tie.Need-mul-a Inv-loop μ-loop Inv-rows μ-rows
-mul-a c = omega arith
-
-add-a : tie.Need-add-a Inv-loop μ-loop Inv-rows μ-rows
-add-a c = omega arith
+row-at-requires : tie.Need-row-at-requires Inv-loop μ-loop Inv-rows μ-rows
+row-at-requires c κs = omega arith
 
 row-end-requires : tie.Need-row-end-requires Inv-loop μ-loop Inv-rows μ-rows
 row-end-requires c κs = omega arith
 
 loop-holds : tie.Need-loop-holds Inv-loop μ-loop Inv-rows μ-rows
-loop-holds c = (omega arith, c .before .before .rows .inv .1, each-none _ _)
+loop-holds c = (omega arith, c .before .before .before .rows .inv .1, each-none _ _)
 
 is-ticked-requires : tie.Need-is-ticked-requires Inv-loop μ-loop Inv-rows μ-rows
 is-ticked-requires c κs =
-    let s = c .before .before .before .before .before .before .args .s .now in
-    let row = c .before .before .before .before .rows .row in
+    let s = c .before .before .before .before .before .before .before .args .s .now in
+    let row = c .before .before .before .before .before .rows .row in
     omega (arith, row-end-within s row, c .before .before .row-end .ensures)
 
 number-in-requires : tie.Need-number-in-requires Inv-loop μ-loop Inv-rows μ-rows
 number-in-requires c κs =
-    let s = c .before .before .before .before .before .before .before .before .args .s .now in
-    let row = c .before .before .before .before .before .before .rows .row in
+    let s = c .before .before .before .before .before .before .before .before .before .args .s .now in
+    let row = c .before .before .before .before .before .before .before .rows .row in
     omega (arith, row-end-within s row, c .before .before .before .before .row-end .ensures)
 
-cast-t12 : tie.Need-cast-t12 Inv-loop μ-loop Inv-rows μ-rows
-cast-t12 c = omega arith
+cast-t11 : tie.Need-cast-t11 Inv-loop μ-loop Inv-rows μ-rows
+cast-t11 c = omega arith
 
 add-i : tie.Need-add-i Inv-loop μ-loop Inv-rows μ-rows
 add-i c = omega arith
@@ -76,10 +73,12 @@ rows-less c = omega arith
 
 rows-again : tie.Need-rows-again Inv-loop μ-loop Inv-rows μ-rows
 rows-again c =
-    let s = c .before .before .before .before .before .before .args .s .now in
-    let at = c .before .before .before .before .rows in
+    let place = c .before .before .before in
+    let s = place .before .before .before .before .args .s .now in
+    let at = place .before .before .rows in
     let to-end : c .before .loop .i ≡ rowEnd s (at .row) = omega (arith, c .before .before .row-end .ensures) in
-    (omega arith, c .before .loop .inv .1, at .inv .2 ∙ gap-next s (at .row) rowCount (omega arith) (rw to-end at (c .before .loop .inv .2)))
+    let ticked = rw (place .row-at .ensures, to-end) at (c .before .loop .inv .2) in
+    (omega arith, c .before .loop .inv .1, at .inv .2 ∙ gap-next s (at .row) rowCount (omega arith) ticked)
 
 returns : tie.Need-returns Inv-loop μ-loop Inv-rows μ-rows
 returns c =
@@ -90,11 +89,14 @@ returns c =
 returns-2 : tie.Need-returns-2 Inv-loop μ-loop Inv-rows μ-rows
 returns-2 c =
     let at = c .before .before .before .before .loop in
-    let rows = c .before .before .before .before .before .before .before in
+    let place = c .before .before .before .before .before .before in
+    let rows = place .before .before in
     let s = rows .before .before .args .s .now in
-    let unticked = failed (c .before .before .is-ticked .ensures) (c .before .if1 .taken) in
+    let a = place .row-at .ensures in
+    let unticked = failed (rw a at (c .before .before .is-ticked .ensures)) (c .before .if1 .taken) in
     let below : at .i < rowEnd s (rows .rows .row) = omega (arith, c .before .before .before .before .before .row-end .ensures) in
-    rw (c .number-in .ensures) (sym (rows .rows .inv .2 ∙ gap-here s (rows .rows .row) rowCount (omega arith) (at .i) below (at .inv .2) unticked))
+    rw (c .number-in .ensures, a)
+    (sym (rows .rows .inv .2 ∙ gap-here s (rows .rows .row) rowCount (omega arith) (at .i) below (rw a at (at .inv .2)) unticked))
 
 pub first-gap-spec : {M : Type 1} → statement M
 first-gap-spec =
@@ -105,13 +107,12 @@ first-gap-spec =
     Inv-rows
     μ-rows
     rows-holds
-    mul-a
-    add-a
+    row-at-requires
     row-end-requires
     loop-holds
     is-ticked-requires
     number-in-requires
-    cast-t12
+    cast-t11
     add-i
     loop-less
     loop-again

@@ -1,4 +1,4 @@
--- `rows::find_row` meets its contract. The invariant: none of the first i rows has the key. Assumes nothing.
+-- `find_row` meets its contract. The invariant: none of the first i rows has the key. Assumes nothing.
 use Prim.Native.Nat.{_≤_, _-_}
 use mathlib.Core.Path.{_≡_, sym, _∙_}
 use native.Mathlib.Omega.{arith}

@@ -1,4 +1,4 @@
--- `rows::free_row` meets its contract. The invariant: the first i rows are used. Assumes nothing.
+-- `free_row` meets its contract. The invariant: the first i rows are used. Assumes nothing.
 use Prim.Native.Nat.{_≤_, _-_}
 use mathlib.Core.Bool.{not}
 use mathlib.Core.Path.{_≡_, sym, ap, _∙_}

@@ -1,4 +1,4 @@
--- `rows::has_key` meets its contract. Assumes nothing.
+-- `has_key` meets its contract. Assumes nothing.
 use borrow.Author.Needs.{needs}
 use Rattle.ledger_rows.proofs.has_key.Statement.{statement}
 use Rattle.ledger_rows.proofs.has_key.Tie as tie

@@ -1,4 +1,4 @@
--- `desks::is_idle` meets its contract. The invariant: none of the first d desks has the row open, where `idle`. Assumes nothing.
+-- `is_idle` meets its contract. The invariant: none of the first d desks has the row open, where `idle`. Assumes nothing.
 use Prim.Native.Nat.{_≤_, _-_}
 use mathlib.Core.Bool.{not, _||_}
 use mathlib.Core.Path.{_≡_, sym}

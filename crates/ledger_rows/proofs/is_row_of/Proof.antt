@@ -1,4 +1,4 @@
--- `rows::is_row_of` meets its contract. Assumes nothing.
+-- `is_row_of` meets its contract. Assumes nothing.
 use Rattle.octets.proofs.Laws.{failed, passed}
 use Rattle.ledger_rows.specs.inner.Scans.{isRowOf}
 use borrow.Author.Needs.{needs}
@@ -12,19 +12,18 @@ returns : tie.Need-returns
 unfolding isRowOf
 returns c = rw (failed (c .before .is-used .ensures) (c .if1 .taken))
 
-mul-key-at : tie.Need-mul-key-at
-mul-key-at c = search needs
-
-add-key-at : tie.Need-add-key-at
-add-key-at c = search needs
+row-at-requires : tie.Need-row-at-requires
+row-at-requires c κs = search needs
 
 key-at-requires : tie.Need-key-at-requires
 key-at-requires c κs = search needs
 
 returns-2 : tie.Need-returns-2
 unfolding isRowOf
-returns-2 c = rw (passed (c .before .before .is-used .ensures) (c .before .if1 .left), c .key-at .ensures)
+returns-2 c =
+    let used = c .before .before in
+    rw (passed (used .before .is-used .ensures) (used .if1 .left), c .key-at .ensures, c .before .row-at .ensures)
 
 pub is-row-of-spec : {M : Type 1} → statement M
 is-row-of-spec =
-    tie.close (tie.spec is-used-requires returns mul-key-at add-key-at key-at-requires returns-2)
+    tie.close (tie.spec is-used-requires returns row-at-requires key-at-requires returns-2)

@@ -1,4 +1,4 @@
--- `ticks::is_ticked` meets its contract. Assumes nothing.
+-- `is_ticked` meets its contract. Assumes nothing.
 use Prim.Native.Nat.{_%_}
 use native.Mathlib.Nat.{one-le-pow}
 use lib.Dec.{lit<}

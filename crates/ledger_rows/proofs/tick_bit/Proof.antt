@@ -1,4 +1,4 @@
--- `ticks::tick_bit` meets its contract. Assumes nothing.
+-- `tick_bit` meets its contract. Assumes nothing.
 use native.Mathlib.Nat.{one-mul, mod-eq-of-lt}
 use Rattle.ledger_rows.proofs.Bits.{bit-fits}
 use borrow.Author.Needs.{needs}

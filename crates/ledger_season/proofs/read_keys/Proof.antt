@@ -21,11 +21,8 @@ loop-holds c = (omega arith, keyed-none _ _ _)
 is-used-requires : tie.Need-is-used-requires Inv-loop μ-loop
 is-used-requires c κs = omega arith
 
-mul-key-at : tie.Need-mul-key-at Inv-loop μ-loop
-mul-key-at c = omega arith
-
-add-key-at : tie.Need-add-key-at Inv-loop μ-loop
-add-key-at c = omega arith
+row-at-requires : tie.Need-row-at-requires Inv-loop μ-loop
+row-at-requires c κs = omega arith
 
 key-at-requires : tie.Need-key-at-requires Inv-loop μ-loop
 key-at-requires c κs = omega arith
@@ -34,10 +31,10 @@ mul-keys : tie.Need-mul-keys Inv-loop μ-loop
 mul-keys c = omega arith
 
 element-write-keys : tie.Need-element-write-keys Inv-loop μ-loop
-element-write-keys c = omega (arith, c .before .before .before .before .loop .inv .1 .few)
+element-write-keys c = omega (arith, c .before .before .before .before .before .loop .inv .1 .few)
 
 add-count : tie.Need-add-count Inv-loop μ-loop
-add-count c = omega (arith, c .before .before .before .before .loop .inv .1 .few)
+add-count c = omega (arith, c .before .before .before .before .before .loop .inv .1 .few)
 
 add-i : tie.Need-add-i Inv-loop μ-loop
 add-i c = omega arith
@@ -54,7 +51,8 @@ loop-again c =
     ⊎-elim
     (λ w.
     let room : turn .loop .count < length (g .keys .now) = omega (arith, at .few) in
-    (omega arith, rw (w .2, w .3) (keyed-used _ _ _ _ _ _ (omega arith) at _ room (w .1 .ensures) (sym word ∙ w .0 .taken))))
+    let key = rw (w .1 .ensures) at (w .2 .ensures) in
+    (omega arith, rw (w .3, w .4) (keyed-used _ _ _ _ _ _ (omega arith) at _ room key (sym word ∙ w .0 .taken))))
     (λ w. (omega arith, rw (w .1, w .2) (keyed-free _ _ _ _ _ _ (omega arith) at (sym word ∙ w .0 .left))))
     (c .if1 .came)
 
@@ -71,8 +69,7 @@ read-keys-spec =
     μ-loop
     loop-holds
     is-used-requires
-    mul-key-at
-    add-key-at
+    row-at-requires
     key-at-requires
     mul-keys
     element-write-keys

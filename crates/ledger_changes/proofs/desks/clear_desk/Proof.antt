@@ -4,11 +4,8 @@ use borrow.Author.Needs.{needs}
 use Rattle.ledger_changes.proofs.desks.clear_desk.Statement.{statement}
 use Rattle.ledger_changes.proofs.desks.clear_desk.Tie as tie
 
-mul-clear : tie.Need-mul-clear
-mul-clear c = search needs
-
-add-clear : tie.Need-add-clear
-add-clear c = search needs
+desk-at-requires : tie.Need-desk-at-requires
+desk-at-requires c κs = search needs
 
 clear-requires : tie.Need-clear-requires
 clear-requires c κs = search needs
@@ -18,7 +15,7 @@ same-length c = search needs
 
 returns : tie.Need-returns
 unfolding clearDesk
-returns c = c .before .before .clear .ensures
+returns c = rw (← c .before .before .before .desk-at .ensures) (c .before .before .clear .ensures)
 
 pub clear-desk-spec : {M : Type 1} → statement M
-clear-desk-spec = tie.close (tie.spec mul-clear add-clear clear-requires same-length returns)
+clear-desk-spec = tie.close (tie.spec desk-at-requires clear-requires same-length returns)

@@ -8,17 +8,11 @@ use borrow.Author.Needs.{needs}
 use Rattle.ledger_changes.proofs.desks.open_desk.Statement.{statement}
 use Rattle.ledger_changes.proofs.desks.open_desk.Tie as tie
 
-mul-a : tie.Need-mul-a
-mul-a c = search needs
+desk-at-requires : tie.Need-desk-at-requires
+desk-at-requires c κs = search needs
 
-add-a : tie.Need-add-a
-add-a c = search needs
-
-mul-from : tie.Need-mul-from
-mul-from c = search needs
-
-add-from : tie.Need-add-from
-add-from c = search needs
+row-at-requires : tie.Need-row-at-requires
+row-at-requires c κs = search needs
 
 slice-write-s : tie.Need-slice-write-s
 slice-write-s c = search needs
@@ -65,16 +59,18 @@ returns c =
     let copied = c .before .before .before .before .before .before in
     let cleared = copied .before .before .before .before in
     let start = cleared .before .before .before in
-    open-written _ _ _ (start .pre .0) (start .pre .1) (start .pre .2) (cleared .clear .ensures) (copied .copy .ensures) (c .before .before .copy2 .ensures)
+    let desk = start .desk-at .ensures in
+    let row = cleared .before .before .row-at .ensures in
+    let pre = start .before .before .pre in
+    open-written _ _ _ (pre .0) (pre .1) (pre .2) (rw desk at (cleared .clear .ensures)) (rw (desk, row) at (copied .copy .ensures))
+    (rw (desk, row) at (c .before .before .copy2 .ensures))
 
 pub open-desk-spec : {M : Type 1} → statement M
 open-desk-spec =
     tie.close
     (tie.spec
-    mul-a
-    add-a
-    mul-from
-    add-from
+    desk-at-requires
+    row-at-requires
     slice-write-s
     cast-s
     add-s

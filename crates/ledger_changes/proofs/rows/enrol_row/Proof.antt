@@ -13,11 +13,8 @@ free-row-requires c κs = search needs
 rows-used-requires : tie.Need-rows-used-requires
 rows-used-requires c κs = search needs
 
-mul-write-row : tie.Need-mul-write-row
-mul-write-row c = search needs
-
-add-write-row : tie.Need-add-write-row
-add-write-row c = search needs
+row-at-requires : tie.Need-row-at-requires
+row-at-requires c κs = search needs
 
 blank-row-requires : tie.Need-blank-row-requires
 blank-row-requires c κs = search needs
@@ -27,7 +24,7 @@ write-row-requires c κs = search needs
 
 add-write-be : tie.Need-add-write-be
 add-write-be c =
-    let counted = c .before .before .before .before .before .before in
+    let counted = c .before .before .before .before .before .before .before in
     let known = counted .before .before .before .before in
     omega (arith, number-lt (known .before .args .s .now) usedAt headerNumberSize (known .slice-known .given), counted .rows-used .ensures)
 
@@ -43,10 +40,11 @@ same-length c = search needs
 returns : tie.Need-returns
 returns c =
     let row = c .before .before .before .before .before .before in
-    let found = row .before .before .before .before .before .free-row .ensures in
-    let used = row .before .before .before .rows-used .ensures in
+    let place = row .before .before .row-at .ensures in
+    let found = row .before .before .before .before .before .before .free-row .ensures in
+    let used = row .before .before .before .before .rows-used .ensures in
     let counted = rw used at (c .before .before .write-be .ensures) in
-    (found, rw (← found) (enrol-written _ _ _ _ (row .before .blank-row .ensures) (row .write-row .ensures) counted))
+    (found, rw (← found) (enrol-written _ _ _ _ (row .before .blank-row .ensures) (rw place at (row .write-row .ensures)) counted))
 
 pub enrol-row-spec : {M : Type 1} → statement M
 enrol-row-spec =
@@ -54,8 +52,7 @@ enrol-row-spec =
     (tie.spec
     free-row-requires
     rows-used-requires
-    mul-write-row
-    add-write-row
+    row-at-requires
     blank-row-requires
     write-row-requires
     add-write-be

@@ -7,11 +7,8 @@ use Rattle.ledger_changes.proofs.rows.strike_row.Tie as tie
 rows-used-requires : tie.Need-rows-used-requires
 rows-used-requires c κs = search needs
 
-mul-clear : tie.Need-mul-clear
-mul-clear c = search needs
-
-add-clear : tie.Need-add-clear
-add-clear c = search needs
+row-at-requires : tie.Need-row-at-requires
+row-at-requires c κs = search needs
 
 clear-requires : tie.Need-clear-requires
 clear-requires c κs = search needs
@@ -27,16 +24,17 @@ same-length c = search needs
 
 returns : tie.Need-returns
 returns c =
-    let used = c .before .before .before .before .before .before .before .before .rows-used .ensures in
-    strike-written _ _ (c .before .before .before .before .before .before .clear .ensures) (rw used at (c .before .before .write-be .ensures))
+    let cleared = c .before .before .before .before .before .before in
+    let place = cleared .before .row-at .ensures in
+    let used = cleared .before .before .before .rows-used .ensures in
+    strike-written _ _ (rw place at (cleared .clear .ensures)) (rw used at (c .before .before .write-be .ensures))
 
 pub strike-row-spec : {M : Type 1} → statement M
 strike-row-spec =
     tie.close
     (tie.spec
     rows-used-requires
-    mul-clear
-    add-clear
+    row-at-requires
     clear-requires
     sub-write-be
     write-be-requires

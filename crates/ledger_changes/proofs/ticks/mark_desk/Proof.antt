@@ -1,21 +1,18 @@
 -- `ticks::mark_desk` meets its contract: the part lent comes back into the sheet. Assumes nothing.
 use Prim.Native.Nat.{_+_, _-_}
 use native.Mathlib.Omega.{arith}
-use Rattle.ledger_sheet.specs.Sheet.{rowSize, workedAt, deskAt}
+use Rattle.ledger_sheet.specs.Sheet.{rowSize, workedAt}
 use Rattle.ledger_changes.specs.inner.Bytes.{markRow, markDesk}
 use Rattle.ledger_changes.proofs.Puts.{lent-back}
 use borrow.Author.Needs.{needs}
 use Rattle.ledger_changes.proofs.ticks.mark_desk.Statement.{statement}
 use Rattle.ledger_changes.proofs.ticks.mark_desk.Tie as tie
 
-mul-a : tie.Need-mul-a
-mul-a c = search needs
+desk-at-requires : tie.Need-desk-at-requires
+desk-at-requires c κs = search needs
 
 add-a : tie.Need-add-a
 add-a c = search needs
-
-add-a-2 : tie.Need-add-a-2
-add-a-2 c = search needs
 
 add-e : tie.Need-add-e
 add-e c = search needs
@@ -38,17 +35,18 @@ same-length c = search needs
 returns : tie.Need-returns
 unfolding markDesk
 returns c =
-    let g = c .before .before .before .before .before .args in
-    let a = deskAt (g .d) + workedAt in
-    lent-back (g .s .now) a (a + rowSize - a) rowSize (markRow (g .on) (g .n)) (omega arith) (omega arith) (c .before .before .mark-row .ensures)
+    let start = c .before .before .before .before in
+    let g = start .before .before .args in
+    let a = start .desk-at .result + workedAt in
+    rw (← start .desk-at .ensures)
+    (lent-back (g .s .now) a (a + rowSize - a) rowSize (markRow (g .on) (g .n)) (omega arith) (omega arith) (c .before .before .mark-row .ensures))
 
 pub mark-desk-spec : {M : Type 1} → statement M
 mark-desk-spec =
     tie.close
     (tie.spec
-    mul-a
+    desk-at-requires
     add-a
-    add-a-2
     add-e
     sub-mark-row
     part-mark-row-start

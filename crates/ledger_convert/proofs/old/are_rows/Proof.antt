@@ -30,11 +30,8 @@ rows-used-requires c κs = omega arith
 loop-holds : tie.Need-loop-holds Inv-loop μ-loop
 loop-holds c = (omega arith, refl, (λ j l. absurd (omega arith)), sym (all-none _), sym (all-none _), sym (all-none _))
 
-mul-row : tie.Need-mul-row Inv-loop μ-loop
-mul-row c = omega arith
-
-add-row : tie.Need-add-row Inv-loop μ-loop
-add-row c = omega arith
+row-at-requires : tie.Need-row-at-requires Inv-loop μ-loop
+row-at-requires c κs = omega arith
 
 key-at-requires : tie.Need-key-at-requires Inv-loop μ-loop
 key-at-requires c κs = omega arith
@@ -65,10 +62,11 @@ loop-less c = omega arith
 
 loop-again : tie.Need-loop-again Inv-loop μ-loop
 loop-again c =
-    let s = c .before .before .before .before .before .before .before .before .before .before .args .s .now in
-    let at = c .before .before .before .before .before .before .before .loop in
-    let key = c .before .before .before .before .before .key-at .ensures in
-    let first = c .before .before .before .first-at .ensures in
+    let place = c .before .before .before .before .before .before in
+    let s = place .before .before .before .before .before .args .s .now in
+    let at = place .before .before .loop in
+    let key = rw (place .row-at .ensures) at (c .before .before .before .before .before .key-at .ensures) in
+    let first = rw (place .row-at .ensures) at (c .before .before .before .first-at .ensures) in
     let keys : ℕ → ℕ = λ j. keyAt s (rowAt j) in (
       omega arith,
       (simp length-set (at .inv .1)),
@@ -92,8 +90,7 @@ are-rows-spec =
     μ-loop
     rows-used-requires
     loop-holds
-    mul-row
-    add-row
+    row-at-requires
     key-at-requires
     valid-requires
     first-at-requires

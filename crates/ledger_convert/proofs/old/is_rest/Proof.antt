@@ -19,20 +19,14 @@ abbrev μ-loop : tie.MeasureT-loop
 rows-used-requires : tie.Need-rows-used-requires Inv-loop μ-loop
 rows-used-requires c κs = search needs
 
-mul-zeros : tie.Need-mul-zeros Inv-loop μ-loop
-mul-zeros c = search needs
-
-add-zeros : tie.Need-add-zeros Inv-loop μ-loop
-add-zeros c = search needs
+row-at-requires : tie.Need-row-at-requires Inv-loop μ-loop
+row-at-requires c κs = search needs
 
 loop-holds : tie.Need-loop-holds Inv-loop μ-loop
-loop-holds c = (omega arith, omega arith, rw (c .rows-used .ensures) (none-judged _ (c .before .before .pre .few)))
+loop-holds c = (omega arith, omega arith, rw (c .row-at .ensures, c .before .rows-used .ensures) (none-judged _ (c .before .before .before .pre .few)))
 
-mul-desk : tie.Need-mul-desk Inv-loop μ-loop
-mul-desk c = search needs
-
-add-desk : tie.Need-add-desk Inv-loop μ-loop
-add-desk c = search needs
+desk-at-requires : tie.Need-desk-at-requires Inv-loop μ-loop
+desk-at-requires c κs = search needs
 
 shared-slice-read-if1 : tie.Need-shared-slice-read-if1 Inv-loop μ-loop
 shared-slice-read-if1 c = search needs
@@ -44,10 +38,12 @@ is-long-zero-requires : tie.Need-is-long-zero-requires Inv-loop μ-loop
 is-long-zero-requires c κs = search needs
 
 is-open-desk-requires : tie.Need-is-open-desk-requires Inv-loop μ-loop
-is-open-desk-requires c κs = (c .before .before .before .before .before .before .before .pre, (omega arith, c .before .if1 .taken))
+is-open-desk-requires c κs =
+    let place = c .before .before .before in
+    (place .before .before .before .before .before .before .pre, (omega arith, rw (← place .desk-at .ensures) (c .before .if1 .taken)))
 
-add-zeros-2 : tie.Need-add-zeros-2 Inv-loop μ-loop
-add-zeros-2 c = search needs
+add-zeros : tie.Need-add-zeros Inv-loop μ-loop
+add-zeros c = search needs
 
 add-d : tie.Need-add-d Inv-loop μ-loop
 add-d c = omega arith
@@ -57,17 +53,18 @@ loop-less c = omega arith
 
 loop-again : tie.Need-loop-again Inv-loop μ-loop
 loop-again c =
-    let turn = c .before .before .before .loop in
+    let turn = c .before .before .before .before .loop in
+    let place = c .before .before .desk-at .ensures in
     ⊎-elim
     (λ w. (
       omega arith,
       rw (w .4) (omega arith),
-      rw (w .3, w .4, w .1 .ensures, w .2 .ensures) (open-judged _ (turn .right) (turn .zeros) (turn .d) (turn .inv .2) (turn .inv .1)),
+      rw (w .3, w .4, w .1 .ensures, w .2 .ensures, place) (open-judged _ (turn .right) (turn .zeros) (turn .d) (turn .inv .2) (turn .inv .1)),
     ))
     (λ w. (
       omega arith,
       rw (w .2) (omega arith),
-      rw (w .1, w .2) (closed-judged _ (turn .right) (turn .zeros) (turn .d) (turn .inv .2) (turn .inv .1) (w .0 .left)),
+      rw (w .1, w .2) (closed-judged _ (turn .right) (turn .zeros) (turn .d) (turn .inv .2) (turn .inv .1) (rw place at (w .0 .left))),
     ))
     (c .if1 .came)
 
@@ -78,7 +75,8 @@ is-long-zero-requires-2 : tie.Need-is-long-zero-requires-2 Inv-loop μ-loop
 is-long-zero-requires-2 c κs = search needs
 
 returns : tie.Need-returns Inv-loop μ-loop
-returns c = let e : c .before .before .loop .d ≡ deskCount = omega arith in
+returns c =
+    let e : c .before .before .loop .d ≡ deskCount = omega arith in
     let h = c .before .before .loop .inv .2 in
     rw (c .is-long-zero2 .ensures) (rw e at h)
 
@@ -89,16 +87,14 @@ is-rest-spec =
     Inv-loop
     μ-loop
     rows-used-requires
-    mul-zeros
-    add-zeros
+    row-at-requires
     loop-holds
-    mul-desk
-    add-desk
+    desk-at-requires
     shared-slice-read-if1
     sub-is-long-zero
     is-long-zero-requires
     is-open-desk-requires
-    add-zeros-2
+    add-zeros
     add-d
     loop-less
     loop-again

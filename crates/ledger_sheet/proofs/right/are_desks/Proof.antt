@@ -19,11 +19,8 @@ abbrev μ-loop : tie.MeasureT-loop
 loop-holds : tie.Need-loop-holds Inv-loop μ-loop
 loop-holds c = (omega arith, omega (arith, c .before .pre .1 .within), none-judged _ _ _ (c .before .pre .1))
 
-mul-desk : tie.Need-mul-desk Inv-loop μ-loop
-mul-desk c = search needs
-
-add-desk : tie.Need-add-desk Inv-loop μ-loop
-add-desk c = search needs
+desk-at-requires : tie.Need-desk-at-requires Inv-loop μ-loop
+desk-at-requires c κs = search needs
 
 shared-slice-read-if1 : tie.Need-shared-slice-read-if1 Inv-loop μ-loop
 shared-slice-read-if1 c = search needs
@@ -35,7 +32,9 @@ is-long-zero-requires : tie.Need-is-long-zero-requires Inv-loop μ-loop
 is-long-zero-requires c κs = search needs
 
 is-open-desk-requires : tie.Need-is-open-desk-requires Inv-loop μ-loop
-is-open-desk-requires c κs = (omega arith, (omega arith, c .before .if1 .taken))
+is-open-desk-requires c κs =
+    let place = c .before .before .before .desk-at .ensures in
+    (omega arith, (omega arith, rw (← place) (c .before .if1 .taken)))
 
 add-zeros : tie.Need-add-zeros Inv-loop μ-loop
 add-zeros c = search needs
@@ -48,17 +47,18 @@ loop-less c = omega arith
 
 loop-again : tie.Need-loop-again Inv-loop μ-loop
 loop-again c =
-    let turn = c .before .before .before .loop in
+    let turn = c .before .before .before .before .loop in
+    let place = c .before .before .desk-at .ensures in
     ⊎-elim
     (λ w. (
       omega arith,
       rw (w .4) (omega arith),
-      rw (w .3, w .4, w .1 .ensures, w .2 .ensures) (open-judged _ (turn .right) (turn .zeros) (turn .d) (turn .inv .2) (turn .inv .1)),
+      rw (w .3, w .4, w .1 .ensures, w .2 .ensures, place) (open-judged _ (turn .right) (turn .zeros) (turn .d) (turn .inv .2) (turn .inv .1)),
     ))
     (λ w. (
       omega arith,
       rw (w .2) (omega arith),
-      rw (w .1, w .2) (closed-judged _ (turn .right) (turn .zeros) (turn .d) (turn .inv .2) (turn .inv .1) (w .0 .left)),
+      rw (w .1, w .2) (closed-judged _ (turn .right) (turn .zeros) (turn .d) (turn .inv .2) (turn .inv .1) (rw place at (w .0 .left))),
     ))
     (c .if1 .came)
 
@@ -81,8 +81,7 @@ are-desks-spec =
     Inv-loop
     μ-loop
     loop-holds
-    mul-desk
-    add-desk
+    desk-at-requires
     shared-slice-read-if1
     sub-is-long-zero
     is-long-zero-requires

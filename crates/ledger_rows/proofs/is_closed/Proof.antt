@@ -1,0 +1,16 @@
+-- `is_closed` meets its contract. Assumes nothing.
+use borrow.Author.Needs.{needs}
+use Rattle.ledger_rows.proofs.is_closed.Statement.{statement}
+use Rattle.ledger_rows.proofs.is_closed.Tie as tie
+
+desk-at-requires : tie.Need-desk-at-requires
+desk-at-requires c κs = search needs
+
+shared-slice-read-result : tie.Need-shared-slice-read-result
+shared-slice-read-result c = search needs
+
+returns : tie.Need-returns
+returns c = rw (c .before .desk-at .ensures)
+
+pub is-closed-spec : {M : Type 1} → statement M
+is-closed-spec = tie.close (tie.spec desk-at-requires shared-slice-read-result returns)
