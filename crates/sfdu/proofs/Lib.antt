@@ -6,4 +6,3 @@ pub mod Nested
 pub mod Parts
 pub mod Words
 pub mod Wholes
-pub mod Swapped

@@ -49,8 +49,8 @@ returns-3 c =
     )
     (c .refused3 .ensures)
 
-load-u32-requires : tie.Need-load-u32-requires
-load-u32-requires c κs = search needs
+read-u32-requires : tie.Need-read-u32-requires
+read-u32-requires c κs = search needs
 
 read-length-requires : tie.Need-read-length-requires
 read-length-requires c κs = search needs
@@ -65,7 +65,7 @@ returns-4 c =
     let long = ours .before .before in
     let known = long .before in
     let s = known .before .args .s .now in
-    let here = tag-same Telemetry s (known .shared-slice-known .given) (long .if1 .left) (sym (tag .load-u32 .ensures) ∙ tested .if4 .taken) in
+    let here = tag-same Telemetry s (known .shared-slice-known .given) (long .if1 .left) (sym (tag .read-u32 .ensures) ∙ tested .if4 .taken) in
     rw (
       le-ltb _ _ (long .if1 .left),
       passed (ours .before .has-authority .ensures) (ours .if2 .left),
@@ -88,8 +88,8 @@ returns-5 c =
     let long = ours .before .before in
     let known = long .before in
     let s = known .before .args .s .now in
-    let not-telemetry = tag-other Telemetry s (known .shared-slice-known .given) (long .if1 .left) (λ e. other .if4 .left (tag .load-u32 .ensures ∙ e)) in
-    let here = tag-same Rsr s (known .shared-slice-known .given) (long .if1 .left) (sym (tag .load-u32 .ensures) ∙ tested .if5 .taken) in
+    let not-telemetry = tag-other Telemetry s (known .shared-slice-known .given) (long .if1 .left) (λ e. other .if4 .left (tag .read-u32 .ensures ∙ e)) in
+    let here = tag-same Rsr s (known .shared-slice-known .given) (long .if1 .left) (sym (tag .read-u32 .ensures) ∙ tested .if5 .taken) in
     rw (
       le-ltb _ _ (long .if1 .left),
       passed (ours .before .has-authority .ensures) (ours .if2 .left),
@@ -113,8 +113,8 @@ returns-6 c =
     let long = ours .before .before in
     let known = long .before in
     let s = known .before .args .s .now in
-    let not-telemetry = tag-other Telemetry s (known .shared-slice-known .given) (long .if1 .left) (λ e. other .if4 .left (tag .load-u32 .ensures ∙ e)) in
-    let not-rsr = tag-other Rsr s (known .shared-slice-known .given) (long .if1 .left) (λ e. tested .if5 .left (tag .load-u32 .ensures ∙ e)) in
+    let not-telemetry = tag-other Telemetry s (known .shared-slice-known .given) (long .if1 .left) (λ e. other .if4 .left (tag .read-u32 .ensures ∙ e)) in
+    let not-rsr = tag-other Rsr s (known .shared-slice-known .given) (long .if1 .left) (λ e. tested .if5 .left (tag .read-u32 .ensures ∙ e)) in
     rw (
       le-ltb _ _ (long .if1 .left),
       passed (ours .before .has-authority .ensures) (ours .if2 .left),
@@ -136,7 +136,7 @@ read-one-spec =
     has-version-class-requires
     refused-requires-3
     returns-3
-    load-u32-requires
+    read-u32-requires
     read-length-requires
     returns-4
     read-length-requires-2

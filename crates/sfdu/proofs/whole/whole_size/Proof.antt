@@ -35,8 +35,8 @@ returns-3 c =
       failed (c .before .has-version-class .ensures) (c .if3 .taken),
     )
 
-load-u32-requires : tie.Need-load-u32-requires
-load-u32-requires c κs = search needs
+read-u32-requires : tie.Need-read-u32-requires
+read-u32-requires c κs = search needs
 
 size-as-requires : tie.Need-size-as-requires
 size-as-requires c κs = search needs
@@ -51,7 +51,7 @@ returns-4 c =
     let long = ours .before .before in
     let known = long .before in
     let s = known .before .args .s .now in
-    let here = tag-same Telemetry s (known .shared-slice-known .given) (long .if1 .left) (sym (tag .load-u32 .ensures) ∙ tested .if4 .taken) in
+    let here = tag-same Telemetry s (known .shared-slice-known .given) (long .if1 .left) (sym (tag .read-u32 .ensures) ∙ tested .if4 .taken) in
     rw (
       le-ltb _ _ (long .if1 .left),
       passed (ours .before .has-authority .ensures) (ours .if2 .left),
@@ -74,7 +74,7 @@ returns-5 c =
     let known = long .before in
     let s = known .before .args .s .now in
     let bytes = known .shared-slice-known .given in
-    let tag = read .load-u32 .ensures in
+    let tag = read .read-u32 .ensures in
     let other = tag-other Telemetry s bytes (long .if1 .left) (λ e. other-kind .if4 .left (tag ∙ e)) in
     let here = tag-same Rsr s bytes (long .if1 .left) (sym tag ∙ tested .if5 .taken) in
     rw (
@@ -96,7 +96,7 @@ returns-6 c =
     let known = long .before in
     let s = known .before .args .s .now in
     let bytes = known .shared-slice-known .given in
-    let tag = read .load-u32 .ensures in
+    let tag = read .read-u32 .ensures in
     let other = tag-other Telemetry s bytes (long .if1 .left) (λ e. other-kind .if4 .left (tag ∙ e)) in
     let neither = tag-other Rsr s bytes (long .if1 .left) (λ e. c .if5 .left (tag ∙ e)) in
     rw (
@@ -116,7 +116,7 @@ whole-size-spec =
     returns-2
     has-version-class-requires
     returns-3
-    load-u32-requires
+    read-u32-requires
     size-as-requires
     returns-4
     size-as-requires-2
