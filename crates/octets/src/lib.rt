@@ -1,9 +1,18 @@
-// Numbers and ranges in byte slices: big-endian numbers of 1 to 8 bytes read and written, ranges tested, cleared and copied.
+// Numbers and ranges in byte slices: numbers of 1 to 8 bytes read and written, ranges tested, cleared and copied.
+mod numbers;
+
+pub use numbers::read_be;
+pub use numbers::read_le_u16;
+pub use numbers::read_le_u32;
+pub use numbers::read_le_u64;
+pub use numbers::read_u16;
+pub use numbers::read_u32;
+pub use numbers::read_u64;
 ghost use mathlib.Core.Path.{_≡_};
 ghost use mathlib.Core.Logic.{_⊎_};
 ghost use Prim.Native.Nat.{_+_, _*_, _≤_};
 ghost use lib.ListN.{length, replicate};
-ghost use Rattle.octets.specs.Octets.{numberAt, bytesOf, part, put, zeroAt, sameAt};
+ghost use Rattle.octets.specs.Octets.{bytesOf, part, put, zeroAt, sameAt};
 
 // The bytes of a vector. From an index that they divide, no load reads two cache lines, where the slice begins at such an address, as slices
 // of a heap do.
@@ -16,66 +25,6 @@ const BLOCK: usize = 4 * STEP;
 
 // What four parts that begin up to a vector behind a range's start may leave of its end.
 const REST: usize = BLOCK + VECTOR;
-
-// The longest number, and what its upper half counts for.
-const LONG: usize = 8;
-
-const HALF: usize = 4;
-
-const HALF_VALUE: u64 = 4294967296;
-
-// The big-endian number in the n bytes from index a.
-pub fn read_be(s: &[u8], a: usize, n: usize) -> u64
-    requires { ⌜ (n ≤ 8) × (a + n ≤ length (now s)) ⌝ }
-    ensures { λ r. ⌜ r ≡ numberAt (now (s .entry)) a n ⌝ }
-{
-    if n == LONG {
-        return read_long(s, a);
-    }
-    read_bytes(s, a, n)
-}
-
-// Of eight bytes, by halves: LLVM makes a load and a swap of a loop over four bytes, and not of one over eight.
-fn read_long(s: &[u8], a: usize) -> u64
-    requires { ⌜ a + 8 ≤ length (now s) ⌝ }
-    ensures { λ r. ⌜ r ≡ numberAt (now (s .entry)) a 8 ⌝ }
-{
-    let high = read_u32(s, a);
-    let low = read_u32(s, a + HALF);
-    high as u64 * HALF_VALUE + low as u64
-}
-
-fn read_bytes(s: &[u8], a: usize, n: usize) -> u64
-    requires { ⌜ (n ≤ 8) × (a + n ≤ length (now s)) ⌝ }
-    ensures { λ r. ⌜ r ≡ numberAt (now (s .entry)) a n ⌝ }
-{
-    let mut v: u64 = 0;
-    for i in 0..n {
-        v = v * 256 + wide(s[a + i]);
-    }
-    v
-}
-
-// The same for two and for four bytes.
-pub fn read_u16(s: &[u8], a: usize) -> u16
-    requires { ⌜ a + 2 ≤ length (now s) ⌝ }
-    ensures { λ r. ⌜ r ≡ numberAt (now (s .entry)) a 2 ⌝ }
-{
-    read_bytes(s, a, 2) as u16
-}
-
-pub fn read_u32(s: &[u8], a: usize) -> u32
-    requires { ⌜ a + 4 ≤ length (now s) ⌝ }
-    ensures { λ r. ⌜ r ≡ numberAt (now (s .entry)) a 4 ⌝ }
-{
-    read_bytes(s, a, HALF) as u32
-}
-
-fn wide(x: u8) -> u64
-    ensures { λ r. ⌜ r ≡ x ⌝ }
-{
-    x as u64
-}
 
 // Whether the n bytes from index a are zero. The bytes are gathered with no early exit, so that LLVM vectorizes the loop.
 pub fn is_zero(s: &[u8], a: usize, n: usize) -> bool

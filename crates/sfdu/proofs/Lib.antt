@@ -6,4 +6,4 @@ pub mod Nested
 pub mod Parts
 pub mod Words
 pub mod Wholes
-pub mod Swapped
+pub mod Labelled

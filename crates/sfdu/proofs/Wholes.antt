@@ -62,7 +62,7 @@ label-word s bytes at type size found word small = by (eqb (blockType s at) type
 -- ---- a tag
 
 -- What the tag of a kind spells, as a number.
-abbrev tagNumber : Kind → ℕ
+abbrev pub tagNumber : Kind → ℕ
 tagNumber Telemetry = 808988720
 tagNumber Rsr = 1127823671
 

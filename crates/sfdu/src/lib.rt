@@ -1,12 +1,8 @@
 // One record: its label, its nested blocks and its parts, for telemetry and for the radio science receiver (RSR).
-mod loads;
 mod nesting;
 mod reader;
 mod whole;
 
-pub use loads::load_u16;
-pub use loads::load_u32;
-pub use loads::load_u64;
 pub use nesting::AGGREGATION_AT;
 pub use nesting::AGGREGATION_TYPE;
 pub use nesting::AUTHORITY;

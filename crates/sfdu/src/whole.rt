@@ -23,12 +23,12 @@ ghost use Rattle.sfdu.specs.Nesting.{
 ghost use Rattle.sfdu.specs.Read.{recordLength, lengthRules, headerRules, dataRules};
 ghost use Rattle.sfdu.specs.inner.Checked.{isLabel, wholeSize};
 use crate::Kind;
-use crate::loads::load_u32;
 use crate::nesting;
 use crate::reader::has_authority;
 use crate::reader::has_version_class;
 use crate::reader::label_length;
 use crate::reader::length_in_range;
+use octets::read_u32;
 
 const WORD_VALUES: u64 = 65536;
 
@@ -45,7 +45,7 @@ pub fn whole_size(s: &[u8]) -> usize
     if !has_version_class(s) {
         return 0;
     }
-    let tag = load_u32(s, nesting::KIND_AT);
+    let tag = read_u32(s, nesting::KIND_AT);
     if tag == nesting::TELEMETRY_TAG {
         return size_as(s, Kind::Telemetry);
     }
@@ -128,5 +128,5 @@ pub fn is_label(s: &[u8], at: usize, class: u64, size: u64) -> bool
     requires { ⌜ (at + blockLabelSize ≤ length (now s)) × (class ≤ mostData) × (size ≤ mostData) ⌝ }
     ensures { λ r. ⌜ r ≡ isLabel (now (s .entry)) at class size ⌝ }
 {
-    load_u32(s, at) as u64 == class * WORD_VALUES + size
+    read_u32(s, at) as u64 == class * WORD_VALUES + size
 }

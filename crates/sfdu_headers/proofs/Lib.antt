@@ -4,3 +4,4 @@ pub mod Reading
 pub mod Words
 pub mod Dates
 pub mod Keys
+pub mod Numbers

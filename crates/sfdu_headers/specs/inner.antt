@@ -1,3 +1,4 @@
 pub mod Dated
 pub mod Parts
 pub mod Fault
+pub mod Numbers

@@ -1,10 +1,7 @@
 // Read headers, for a wanted kind.
 ghost use mathlib.Core.Path.{_≡_};
-ghost use Prim.Native.Nat.{_≤_};
-ghost use lib.ListN.{length};
-ghost use Rattle.sfdu.specs.Nesting.{dataValueAt};
-ghost use Rattle.sfdu_headers.specs.Fields.{recordNumber};
 ghost use Rattle.sfdu_headers.specs.Headers.{wordsOf, readHeaders};
+ghost use Rattle.sfdu_headers.specs.inner.Numbers.{numberIn};
 use crate::Headers;
 use crate::rsr;
 use crate::telemetry;
@@ -35,11 +32,13 @@ pub fn read_headers(s: &[u8], wanted: u32) -> Headers
     }
 }
 
-// The record number of a whole record.
+// The record number of a record of that kind; 0 where the slice is too short for one.
 pub fn record_number(s: &[u8], kind: Kind) -> u32
-    requires { ⌜ dataValueAt kind ≤ length (now s) ⌝ }
-    ensures { λ r. ⌜ r ≡ recordNumber kind (now (s .entry)) ⌝ }
+    ensures { λ r. ⌜ r ≡ numberIn kind (now (s .entry)) ⌝ }
 {
+    if s.len() < sfdu::data_value_at(kind) {
+        return 0;
+    }
     match kind {
         Kind::Telemetry => telemetry::number(s),
         Kind::Rsr => rsr::number(s) as u32,

@@ -34,14 +34,14 @@ use crate::RsrSignal;
 use crate::RsrSource;
 use crate::RsrTime;
 use dates::CountAnswer;
+use octets::read_u16;
+use octets::read_u64;
 use refusals::Refusal;
 use sfdu::Checked;
 use sfdu::Fault;
 use sfdu::PRIMARY_VALUE_AT;
 use sfdu::Primary;
 use sfdu::SECONDARY_AT;
-use sfdu::load_u16;
-use sfdu::load_u64;
 
 // Where the fields stand, from the record's start.
 const SOFTWARE_AT: usize = SECONDARY_AT + 6;
@@ -219,8 +219,8 @@ fn read_date(s: &[u8]) -> Dated
     requires { ⌜ dataValueAt Rsr ≤ length (now s) ⌝ }
     ensures { λ r. ⌜ IsDated (now (s .entry)) r ⌝ }
 {
-    let year = load_u16(s, YEAR_AT);
-    let day = load_u16(s, DAY_AT);
+    let year = read_u16(s, YEAR_AT);
+    let day = read_u16(s, DAY_AT);
     let answer = dates::day_count(year, day);
     match answer {
         CountAnswer::Day(count) => Dated {
@@ -249,14 +249,14 @@ fn read_source(s: &[u8]) -> RsrSource
     ensures { λ r. ⌜ sourceWords r ≡ sourceOf (now (s .entry)) ⌝ }
 {
     RsrSource {
-        software: load_u16(s, SOFTWARE_AT),
+        software: read_u16(s, SOFTWARE_AT),
         number: number(s),
         complex: s[COMPLEX_AT],
         station: s[STATION_AT],
         receiver: s[RECEIVER_AT],
         subchannel: s[SUBCHANNEL_AT],
         spacecraft: s[SPACECRAFT_AT],
-        pass: load_u16(s, PASS_AT),
+        pass: read_u16(s, PASS_AT),
     }
 }
 
@@ -264,7 +264,7 @@ pub fn number(s: &[u8]) -> u16
     requires { ⌜ dataValueAt Rsr ≤ length (now s) ⌝ }
     ensures { λ r. ⌜ r ≡ recordNumber Rsr (now (s .entry)) ⌝ }
 {
-    load_u16(s, NUMBER_AT)
+    read_u16(s, NUMBER_AT)
 }
 
 fn read_signal(s: &[u8]) -> RsrSignal
@@ -301,8 +301,8 @@ fn read_time(s: &[u8]) -> RsrTime
     ensures { λ r. ⌜ timeWords r ≡ timeOf (now (s .entry)) ⌝ }
 {
     RsrTime {
-        year: load_u16(s, YEAR_AT),
-        day: load_u16(s, DAY_AT),
-        frequency: load_u64(s, FREQUENCY_AT),
+        year: read_u16(s, YEAR_AT),
+        day: read_u16(s, DAY_AT),
+        frequency: read_u64(s, FREQUENCY_AT),
     }
 }

@@ -17,14 +17,14 @@ use crate::Band;
 use crate::Headers;
 use crate::ReceivedTime;
 use crate::TelemetryFields;
+use octets::read_u16;
+use octets::read_u32;
+use octets::read_u64;
 use refusals::Refusal;
 use sfdu::Checked;
 use sfdu::Fault;
 use sfdu::Primary;
 use sfdu::SECONDARY_AT;
-use sfdu::load_u16;
-use sfdu::load_u32;
-use sfdu::load_u64;
 
 // Where the fields stand, from the record's start.
 const SPACECRAFT_AT: usize = SECONDARY_AT + 6;
@@ -112,12 +112,12 @@ fn read_fields(s: &[u8]) -> TelemetryFields
     TelemetryFields {
         spacecraft: spacecraft(s),
         source: s[SOURCE_AT],
-        received: load_u64(s, RECEIVED_AT),
+        received: read_u64(s, RECEIVED_AT),
         number: number(s),
         uplink,
         mode: s[MODE_AT] % 4,
         stream: s[STREAM_AT],
-        equipment: load_u16(s, EQUIPMENT_AT),
+        equipment: read_u16(s, EQUIPMENT_AT),
     }
 }
 
@@ -156,5 +156,5 @@ pub fn number(s: &[u8]) -> u32
     requires { ⌜ dataValueAt Telemetry ≤ length (now s) ⌝ }
     ensures { λ r. ⌜ r ≡ recordNumber Telemetry (now (s .entry)) ⌝ }
 {
-    load_u32(s, NUMBER_AT)
+    read_u32(s, NUMBER_AT)
 }

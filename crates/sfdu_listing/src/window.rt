@@ -1,9 +1,10 @@
 // The window onto the stream: what stands at a place of it, and the listing of a piece more of the stream.
 ghost use mathlib.Core.Path.{_≡_};
 ghost use mathlib.Core.List.{[], _∷_};
-ghost use Prim.Native.Nat.{_+_, _≤_, _<_, _^_};
+ghost use Prim.Native.Nat.{ℕ, _+_, _≤_, _<_, _^_};
 ghost use lib.ListN.{length};
 ghost use lib.Dec.{ltb};
+ghost use Rattle.refusals.specs.Table.{numberOf};
 ghost use Rattle.sfdu.specs.Nesting.{labelSize};
 ghost use Rattle.sfdu.specs.Read.{recordLength, readOne};
 ghost use Rattle.sfdu_listing.specs.Listing.{bufferSize};
@@ -14,6 +15,7 @@ use crate::Found;
 use crate::lines::put_last;
 use crate::lines::put_line;
 use octets::read_be;
+use refusals::Refusal;
 use sfdu::LABEL;
 use sfdu::LENGTH;
 use sfdu::LENGTH_AT;
@@ -25,12 +27,8 @@ use text::State;
 // The window's size: the longest record that the program takes.
 const WINDOW: usize = 65536;
 
-// The refusals that the window judges itself: the numbers of document 01's table.
-const TOO_SHORT: u32 = 1;
-
-const TRUNCATED: u32 = 6;
-
-const OVER_BUFFER: u32 = 17;
+// The stop number of the stream's end.
+const END: u32 = 0;
 
 // The record at the start of `s`, what the window holds from a place of the stream on. `last` says that the stream ends with the
 // window.
@@ -51,37 +49,49 @@ pub fn judge(s: &[u8], place: u64, last: bool) -> Found
         },
         Read::Refused(fault) => {
             let refusal = fault.refusal;
-            stop(s, place, last, refusals::number(refusal), fault.at)
+            stop(s, place, last, refusal, fault.at)
         }
     }
 }
 
-// The same where read one refuses by these two numbers.
-fn stop(s: &[u8], place: u64, last: bool, number: u32, at: usize) -> Found
-    requires { ⌜ (length (now s) ≤ bufferSize) × (place + length (now s) < 2 ^ 64) × (number ∷ at ∷ [] ≡ readOne (now s)) ⌝ }
+// The same where read one refuses.
+fn stop(s: &[u8], place: u64, last: bool, refusal: Refusal, at: usize) -> Found
+    requires { ⌜ (length (now s) ≤ bufferSize) × (place + length (now s) < 2 ^ 64) × (numberOf refusal ∷ at ∷ [] ≡ readOne (now s)) ⌝ }
     ensures { λ r. ⌜ wordsOf r ≡ foundIn place (now (s .entry)) last ⌝ }
 {
-    if number == TRUNCATED {
-        if is_over(s) {
-            return Found::Stop(OVER_BUFFER, 0);
-        }
-        return if last {
-            Found::Stop(TRUNCATED, at as u64)
-        } else {
-            Found::More
-        };
+    match refusal {
+        Refusal::TooShort => stop_short(s, last, at),
+        Refusal::Truncated => stop_cut(s, last, at),
+        _ => Found::Stop(refusals::number(refusal), place + at as u64),
     }
-    if number == TOO_SHORT {
-        if !last {
-            return Found::More;
-        }
-        return if s.len() == 0 {
-            Found::Stop(0, 0)
-        } else {
-            Found::Stop(TOO_SHORT, at as u64)
-        };
+}
+
+// Less than a label: the end of the stream, where it is nothing.
+fn stop_short(s: &[u8], last: bool, at: usize) -> Found
+    requires { ⌜ (length (now s) ≤ bufferSize) × (1 ∷ at ∷ [] ≡ readOne (now s)) ⌝ }
+    ensures { λ r. ⌜ ((place : ℕ) → wordsOf r ≡ foundIn place (now (s .entry)) last) ⌝ }
+{
+    if !last {
+        return Found::More;
     }
-    Found::Stop(number, place + at as u64)
+    if s.len() == 0 {
+        return Found::Stop(END, 0);
+    }
+    Found::Stop(refusals::number(Refusal::TooShort), at as u64)
+}
+
+// Less than the record: one that the window has room for may be whole in the stream.
+fn stop_cut(s: &[u8], last: bool, at: usize) -> Found
+    requires { ⌜ (length (now s) ≤ bufferSize) × (6 ∷ at ∷ [] ≡ readOne (now s)) ⌝ }
+    ensures { λ r. ⌜ ((place : ℕ) → wordsOf r ≡ foundIn place (now (s .entry)) last) ⌝ }
+{
+    if is_over(s) {
+        return Found::Stop(refusals::number(Refusal::BufferSize), 0);
+    }
+    if last {
+        return Found::Stop(refusals::number(Refusal::Truncated), at as u64);
+    }
+    Found::More
 }
 
 // Whether the record's length is over the window's.

@@ -8,8 +8,8 @@ ghost use Rattle.sfdu_samples.specs.Calls.{wordsOf};
 ghost use Rattle.sfdu_samples.specs.inner.Unpacking.{Width, unpackingData};
 use crate::Answer;
 use crate::rates::is_listed;
+use octets::read_u32;
 use refusals::Refusal;
-use sfdu::load_u32;
 
 // Bytes of a packing word.
 pub const WORD: usize = 4;
@@ -110,7 +110,7 @@ fn unpack_words(d: &[u8], words: usize, size: u32, list: &mut [i32])
     let per = per_word(size);
     let mut to = 0;
     for i in 0..words {
-        unpack_word(load_u32(d, i * WORD), size, list, to);
+        unpack_word(read_u32(d, i * WORD), size, list, to);
         to += per;
     }
 }

@@ -19,11 +19,6 @@ use sfdu::Read;
 use sfdu::read_one;
 use sfdu::whole_size;
 
-// The refusals that give a count of bytes: the numbers of document 01's table.
-const TOO_SHORT: u32 = 1;
-
-const TRUNCATED: u32 = 6;
-
 impl Cursor {
     pub fn start() -> Self
         ensures { λ r. ⌜ r .at ≡ 0 ⌝ }
@@ -114,9 +109,10 @@ pub fn in_stream(s: &[u8], place: usize, fault: Fault) -> Fault
     }
 }
 
+// Whether a refusal gives a count of bytes.
 fn is_count(refusal: Refusal) -> bool
     ensures { λ r. ⌜ r ≡ isCount (numberOf refusal) ⌝ }
 {
     let n = number(refusal);
-    (n == TOO_SHORT) | (n == TRUNCATED)
+    (n == number(Refusal::TooShort)) | (n == number(Refusal::Truncated))
 }

@@ -22,15 +22,15 @@ returns c =
     let same = and-split (eqb (blockType s (g .at)) (g .class)) (eqb (blockLength s (g .at)) (g .size)) found in
     rw (same .0, same .1)
 
-load-u16-requires : tie.Need-load-u16-requires
-load-u16-requires c κs = search needs
+read-u16-requires : tie.Need-read-u16-requires
+read-u16-requires c κs = search needs
 
 cast-if2 : tie.Need-cast-if2
 cast-if2 c = search needs
 
 returns-2 : tie.Need-returns-2
 unfolding judge blockType
-returns-2 c = rw (← c .before .load-u16 .ensures, ne-eqb _ _ (c .if2 .taken))
+returns-2 c = rw (← c .before .read-u16 .ensures, ne-eqb _ _ (c .if2 .taken))
 
 add-t9 : tie.Need-add-t9
 add-t9 c = search needs
@@ -41,11 +41,11 @@ returns-3 c =
     let read = c .before in
     let g = read .before .before .before .before .args in
     let s = g .s .now in
-    let typed : eqb (blockType s (g .at)) (g .class) ≡ true = rw (← read .load-u16 .ensures) (eq-eqb _ _ (c .if2 .left)) in
+    let typed : eqb (blockType s (g .at)) (g .class) ≡ true = rw (← read .read-u16 .ensures) (eq-eqb _ _ (c .if2 .left)) in
     let other : eqb (blockLength s (g .at)) (g .size) ≡ false = rw typed at (sym (read .before .before .is-label .ensures) ∙ read .before .if1 .left) in
     rw (typed, other)
 
 pub judge-label-spec : {M : Type 1} → statement M
 judge-label-spec =
     tie.close
-    (tie.spec is-label-requires returns load-u16-requires cast-if2 returns-2 add-t9 returns-3)
+    (tie.spec is-label-requires returns read-u16-requires cast-if2 returns-2 add-t9 returns-3)

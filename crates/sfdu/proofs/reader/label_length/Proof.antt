@@ -4,12 +4,12 @@ use borrow.Author.Needs.{needs}
 use Rattle.sfdu.proofs.reader.label_length.Statement.{statement}
 use Rattle.sfdu.proofs.reader.label_length.Tie as tie
 
-load-u64-requires : tie.Need-load-u64-requires
-load-u64-requires c κs = search needs
+read-u64-requires : tie.Need-read-u64-requires
+read-u64-requires c κs = search needs
 
 returns : tie.Need-returns
 unfolding labelLength
-returns c = c .load-u64 .ensures
+returns c = c .read-u64 .ensures
 
 pub label-length-spec : {M : Type 1} → statement M
-label-length-spec = tie.close (tie.spec load-u64-requires returns)
+label-length-spec = tie.close (tie.spec read-u64-requires returns)

@@ -4,8 +4,8 @@ use borrow.Author.Tests.{lt-ltb, le-ltb}
 use Rattle.refusals.specs.Judge.{judge}
 use Rattle.octets.proofs.Laws.{failed, passed}
 use Rattle.sfdu.specs.declared.Kind.the-variants.{Telemetry, Rsr}
-use Rattle.sfdu.specs.Read.{kindOf, readOne}
-use Rattle.sfdu.proofs.Wholes.{tag-same, tag-other}
+use Rattle.sfdu.specs.Read.{readOne}
+use Rattle.sfdu.proofs.Labelled.{labelled, no-kind, read-as, read-unknown}
 use borrow.Author.Needs.{needs}
 use Rattle.sfdu.proofs.reader.read_one.Statement.{statement}
 use Rattle.sfdu.proofs.reader.read_one.Tie as tie
@@ -49,80 +49,49 @@ returns-3 c =
     )
     (c .refused3 .ensures)
 
-load-u32-requires : tie.Need-load-u32-requires
-load-u32-requires c κs = search needs
+read-u32-requires : tie.Need-read-u32-requires
+read-u32-requires c κs = search needs
 
 read-length-requires : tie.Need-read-length-requires
 read-length-requires c κs = search needs
 
 returns-4 : tie.Need-returns-4
-unfolding readOne judge kindOf
 returns-4 c =
-    let tested = c .before in
-    let tag = tested .before in
+    let tag = c .before .before in
     let classed = tag .before in
     let ours = classed .before .before in
     let long = ours .before .before in
-    let known = long .before in
-    let s = known .before .args .s .now in
-    let here = tag-same Telemetry s (known .shared-slice-known .given) (long .if1 .left) (sym (tag .load-u32 .ensures) ∙ tested .if4 .taken) in
-    rw (
-      le-ltb _ _ (long .if1 .left),
-      passed (ours .before .has-authority .ensures) (ours .if2 .left),
-      passed (classed .before .has-version-class .ensures) (classed .if3 .left),
-      here,
-    )
-    (c .read-length .ensures)
+    let label = labelled _ (long .before .shared-slice-known .given) (long .if1 .left) (ours .before .has-authority .ensures) (ours .if2 .left)
+    (classed .before .has-version-class .ensures) (classed .if3 .left) in
+    c .read-length .ensures ∙ sym (read-as _ label Telemetry (sym (tag .read-u32 .ensures) ∙ c .before .if4 .taken))
 
 read-length-requires-2 : tie.Need-read-length-requires-2
 read-length-requires-2 c κs = search needs
 
 returns-5 : tie.Need-returns-5
-unfolding readOne judge kindOf
 returns-5 c =
-    let tested = c .before in
-    let other = tested .before in
-    let tag = other .before in
+    let tag = c .before .before .before in
     let classed = tag .before in
     let ours = classed .before .before in
     let long = ours .before .before in
-    let known = long .before in
-    let s = known .before .args .s .now in
-    let not-telemetry = tag-other Telemetry s (known .shared-slice-known .given) (long .if1 .left) (λ e. other .if4 .left (tag .load-u32 .ensures ∙ e)) in
-    let here = tag-same Rsr s (known .shared-slice-known .given) (long .if1 .left) (sym (tag .load-u32 .ensures) ∙ tested .if5 .taken) in
-    rw (
-      le-ltb _ _ (long .if1 .left),
-      passed (ours .before .has-authority .ensures) (ours .if2 .left),
-      passed (classed .before .has-version-class .ensures) (classed .if3 .left),
-      not-telemetry,
-      here,
-    )
-    (c .read-length2 .ensures)
+    let label = labelled _ (long .before .shared-slice-known .given) (long .if1 .left) (ours .before .has-authority .ensures) (ours .if2 .left)
+    (classed .before .has-version-class .ensures) (classed .if3 .left) in
+    c .read-length2 .ensures ∙ sym (read-as _ label Rsr (sym (tag .read-u32 .ensures) ∙ c .before .if5 .taken))
 
 refused-requires-4 : tie.Need-refused-requires-4
 refused-requires-4 c κs = search needs
 
 returns-6 : tie.Need-returns-6
-unfolding readOne judge kindOf
 returns-6 c =
-    let tested = c .before in
-    let other = tested .before in
+    let other = c .before .before in
     let tag = other .before in
     let classed = tag .before in
     let ours = classed .before .before in
     let long = ours .before .before in
-    let known = long .before in
-    let s = known .before .args .s .now in
-    let not-telemetry = tag-other Telemetry s (known .shared-slice-known .given) (long .if1 .left) (λ e. other .if4 .left (tag .load-u32 .ensures ∙ e)) in
-    let not-rsr = tag-other Rsr s (known .shared-slice-known .given) (long .if1 .left) (λ e. tested .if5 .left (tag .load-u32 .ensures ∙ e)) in
-    rw (
-      le-ltb _ _ (long .if1 .left),
-      passed (ours .before .has-authority .ensures) (ours .if2 .left),
-      passed (classed .before .has-version-class .ensures) (classed .if3 .left),
-      not-telemetry,
-      not-rsr,
-    )
-    (c .refused4 .ensures)
+    let label = labelled _ (long .before .shared-slice-known .given) (long .if1 .left) (ours .before .has-authority .ensures) (ours .if2 .left)
+    (classed .before .has-version-class .ensures) (classed .if3 .left) in
+    c .refused4 .ensures
+    ∙ sym (read-unknown _ label (no-kind _ (λ e. other .if4 .left (tag .read-u32 .ensures ∙ e)) (λ e. c .before .if5 .left (tag .read-u32 .ensures ∙ e))))
 
 pub read-one-spec : {M : Type 1} → statement M
 read-one-spec =
@@ -136,7 +105,7 @@ read-one-spec =
     has-version-class-requires
     refused-requires-3
     returns-3
-    load-u32-requires
+    read-u32-requires
     read-length-requires
     returns-4
     read-length-requires-2

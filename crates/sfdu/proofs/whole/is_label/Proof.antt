@@ -4,8 +4,8 @@ use borrow.Author.Needs.{needs}
 use Rattle.sfdu.proofs.whole.is_label.Statement.{statement}
 use Rattle.sfdu.proofs.whole.is_label.Tie as tie
 
-load-u32-requires : tie.Need-load-u32-requires
-load-u32-requires c κs = search needs
+read-u32-requires : tie.Need-read-u32-requires
+read-u32-requires c κs = search needs
 
 cast-result : tie.Need-cast-result
 cast-result c = search needs
@@ -19,7 +19,7 @@ add-result c = search needs
 returns : tie.Need-returns
 returns c =
     let k = c .before .before in
-    label-word (k .args .s .now) (c .before .shared-slice-known .given) (k .args .at) (k .args .class) (k .args .size) _ (c .load-u32 .ensures) (k .pre .2)
+    label-word (k .args .s .now) (c .before .shared-slice-known .given) (k .args .at) (k .args .class) (k .args .size) _ (c .read-u32 .ensures) (k .pre .2)
 
 pub is-label-spec : {M : Type 1} → statement M
-is-label-spec = tie.close (tie.spec load-u32-requires cast-result mul-result add-result returns)
+is-label-spec = tie.close (tie.spec read-u32-requires cast-result mul-result add-result returns)

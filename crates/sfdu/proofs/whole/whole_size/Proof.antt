@@ -6,7 +6,7 @@ use Rattle.octets.proofs.Laws.{failed, passed}
 use Rattle.sfdu.specs.declared.Kind.the-variants.{Telemetry, Rsr}
 use Rattle.sfdu.specs.Read.{kindOf, accepts}
 use Rattle.sfdu.specs.inner.Checked.{wholeSize}
-use Rattle.sfdu.proofs.Wholes.{tag-same, tag-other}
+use Rattle.sfdu.proofs.Labelled.{labelled, no-kind, whole-as, whole-unknown}
 use borrow.Author.Needs.{needs}
 use Rattle.sfdu.proofs.whole.whole_size.Statement.{statement}
 use Rattle.sfdu.proofs.whole.whole_size.Tie as tie
@@ -35,77 +35,45 @@ returns-3 c =
       failed (c .before .has-version-class .ensures) (c .if3 .taken),
     )
 
-load-u32-requires : tie.Need-load-u32-requires
-load-u32-requires c κs = search needs
+read-u32-requires : tie.Need-read-u32-requires
+read-u32-requires c κs = search needs
 
 size-as-requires : tie.Need-size-as-requires
 size-as-requires c κs = search needs
 
 returns-4 : tie.Need-returns-4
-unfolding wholeSize accepts judge kindOf
 returns-4 c =
-    let tested = c .before in
-    let tag = tested .before in
+    let tag = c .before .before in
     let classed = tag .before in
     let ours = classed .before .before in
     let long = ours .before .before in
-    let known = long .before in
-    let s = known .before .args .s .now in
-    let here = tag-same Telemetry s (known .shared-slice-known .given) (long .if1 .left) (sym (tag .load-u32 .ensures) ∙ tested .if4 .taken) in
-    rw (
-      le-ltb _ _ (long .if1 .left),
-      passed (ours .before .has-authority .ensures) (ours .if2 .left),
-      passed (classed .before .has-version-class .ensures) (classed .if3 .left),
-      here,
-    ) (c .size-as .ensures)
+    let label = labelled _ (long .before .shared-slice-known .given) (long .if1 .left) (ours .before .has-authority .ensures) (ours .if2 .left)
+    (classed .before .has-version-class .ensures) (classed .if3 .left) in
+    c .size-as .ensures ∙ sym (whole-as _ label Telemetry (sym (tag .read-u32 .ensures) ∙ c .before .if4 .taken))
 
 size-as-requires-2 : tie.Need-size-as-requires-2
 size-as-requires-2 c κs = search needs
 
 returns-5 : tie.Need-returns-5
-unfolding wholeSize accepts judge kindOf
 returns-5 c =
-    let tested = c .before in
-    let other-kind = tested .before in
-    let read = other-kind .before in
-    let classed = read .before in
+    let tag = c .before .before .before in
+    let classed = tag .before in
     let ours = classed .before .before in
     let long = ours .before .before in
-    let known = long .before in
-    let s = known .before .args .s .now in
-    let bytes = known .shared-slice-known .given in
-    let tag = read .load-u32 .ensures in
-    let other = tag-other Telemetry s bytes (long .if1 .left) (λ e. other-kind .if4 .left (tag ∙ e)) in
-    let here = tag-same Rsr s bytes (long .if1 .left) (sym tag ∙ tested .if5 .taken) in
-    rw (
-      le-ltb _ _ (long .if1 .left),
-      passed (ours .before .has-authority .ensures) (ours .if2 .left),
-      passed (classed .before .has-version-class .ensures) (classed .if3 .left),
-      other,
-      here,
-    ) (c .size-as2 .ensures)
+    let label = labelled _ (long .before .shared-slice-known .given) (long .if1 .left) (ours .before .has-authority .ensures) (ours .if2 .left)
+    (classed .before .has-version-class .ensures) (classed .if3 .left) in
+    c .size-as2 .ensures ∙ sym (whole-as _ label Rsr (sym (tag .read-u32 .ensures) ∙ c .before .if5 .taken))
 
 returns-6 : tie.Need-returns-6
-unfolding wholeSize accepts judge kindOf
 returns-6 c =
-    let other-kind = c .before in
-    let read = other-kind .before in
-    let classed = read .before in
+    let other = c .before in
+    let tag = other .before in
+    let classed = tag .before in
     let ours = classed .before .before in
     let long = ours .before .before in
-    let known = long .before in
-    let s = known .before .args .s .now in
-    let bytes = known .shared-slice-known .given in
-    let tag = read .load-u32 .ensures in
-    let other = tag-other Telemetry s bytes (long .if1 .left) (λ e. other-kind .if4 .left (tag ∙ e)) in
-    let neither = tag-other Rsr s bytes (long .if1 .left) (λ e. c .if5 .left (tag ∙ e)) in
-    rw (
-      le-ltb _ _ (long .if1 .left),
-      passed (ours .before .has-authority .ensures) (ours .if2 .left),
-      passed (classed .before .has-version-class .ensures) (classed .if3 .left),
-      other,
-      neither,
-    )
+    let label = labelled _ (long .before .shared-slice-known .given) (long .if1 .left) (ours .before .has-authority .ensures) (ours .if2 .left)
+    (classed .before .has-version-class .ensures) (classed .if3 .left) in
+    sym (whole-unknown _ label (no-kind _ (λ e. other .if4 .left (tag .read-u32 .ensures ∙ e)) (λ e. c .if5 .left (tag .read-u32 .ensures ∙ e))))
 
 pub whole-size-spec : {M : Type 1} → statement M
 whole-size-spec =
@@ -116,7 +84,7 @@ whole-size-spec =
     returns-2
     has-version-class-requires
     returns-3
-    load-u32-requires
+    read-u32-requires
     size-as-requires
     returns-4
     size-as-requires-2

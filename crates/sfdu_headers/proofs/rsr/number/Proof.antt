@@ -4,12 +4,12 @@ use borrow.Author.Needs.{needs}
 use Rattle.sfdu_headers.proofs.rsr.number.Statement.{statement}
 use Rattle.sfdu_headers.proofs.rsr.number.Tie as tie
 
-load-u16-requires : tie.Need-load-u16-requires
-load-u16-requires c κs = search needs
+read-u16-requires : tie.Need-read-u16-requires
+read-u16-requires c κs = search needs
 
 returns : tie.Need-returns
 unfolding recordNumber
-returns c = c .load-u16 .ensures
+returns c = c .read-u16 .ensures
 
 pub number-spec : {M : Type 1} → statement M
-number-spec = tie.close (tie.spec load-u16-requires returns)
+number-spec = tie.close (tie.spec read-u16-requires returns)

@@ -5,11 +5,11 @@ use borrow.Author.Needs.{needs}
 use Rattle.sfdu_headers.proofs.rsr.read_date.Statement.{statement}
 use Rattle.sfdu_headers.proofs.rsr.read_date.Tie as tie
 
-load-u16-requires : tie.Need-load-u16-requires
-load-u16-requires c κs = search needs
+read-u16-requires : tie.Need-read-u16-requires
+read-u16-requires c κs = search needs
 
-load-u16-requires-2 : tie.Need-load-u16-requires-2
-load-u16-requires-2 c κs = search needs
+read-u16-requires-2 : tie.Need-read-u16-requires-2
+read-u16-requires-2 c κs = search needs
 
 day-count-requires : tie.Need-day-count-requires
 day-count-requires c κs = search needs
@@ -26,23 +26,23 @@ wrong-date-at-requires c κs = search needs
 returns : tie.Need-returns
 returns c =
     let counted = c .before .before .before in
-    let year = counted .before .before .load-u16 .ensures in
-    let day = counted .before .load-u162 .ensures in
+    let year = counted .before .before .read-u16 .ensures in
+    let day = counted .before .read-u162 .ensures in
     is-dated _ _ (sym (c .before .answer .given .1) ∙ counted .day-count .ensures ∙ rw (year, day))
 
 returns-2 : tie.Need-returns-2
 returns-2 c =
     let counted = c .before .before .before in
-    let year = counted .before .before .load-u16 .ensures in
-    let day = counted .before .load-u162 .ensures in
+    let year = counted .before .before .read-u16 .ensures in
+    let day = counted .before .read-u162 .ensures in
     is-no-date _ _ (sym (c .before .enum-told .given .1) ∙ counted .day-count .ensures ∙ rw (year, day)) (c .wrong-date-at .ensures ∙ rw year)
 
 pub read-date-spec : {M : Type 1} → statement M
 read-date-spec =
     tie.close
     (tie.spec
-    load-u16-requires
-    load-u16-requires-2
+    read-u16-requires
+    read-u16-requires-2
     day-count-requires
     enum-known-answer
     enum-told

@@ -3,8 +3,8 @@ use borrow.Author.Needs.{needs}
 use Rattle.sfdu_headers.proofs.rsr.read_source.Statement.{statement}
 use Rattle.sfdu_headers.proofs.rsr.read_source.Tie as tie
 
-load-u16-requires : tie.Need-load-u16-requires
-load-u16-requires c κs = search needs
+read-u16-requires : tie.Need-read-u16-requires
+read-u16-requires c κs = search needs
 
 number-requires : tie.Need-number-requires
 number-requires c κs = search needs
@@ -24,26 +24,26 @@ shared-slice-read-t11 c = search needs
 shared-slice-read-t13 : tie.Need-shared-slice-read-t13
 shared-slice-read-t13 c = search needs
 
-load-u16-requires-2 : tie.Need-load-u16-requires-2
-load-u16-requires-2 c κs = search needs
+read-u16-requires-2 : tie.Need-read-u16-requires-2
+read-u16-requires-2 c κs = search needs
 
 returns : tie.Need-returns
 returns c = rw (
-  c .before .before .before .before .before .before .before .load-u16 .ensures,
+  c .before .before .before .before .before .before .before .read-u16 .ensures,
   c .before .before .before .before .before .before .number .ensures,
-  c .load-u162 .ensures,
+  c .read-u162 .ensures,
 )
 
 pub read-source-spec : {M : Type 1} → statement M
 read-source-spec =
     tie.close
     (tie.spec
-    load-u16-requires
+    read-u16-requires
     number-requires
     shared-slice-read-t5
     shared-slice-read-t7
     shared-slice-read-t9
     shared-slice-read-t11
     shared-slice-read-t13
-    load-u16-requires-2
+    read-u16-requires-2
     returns)

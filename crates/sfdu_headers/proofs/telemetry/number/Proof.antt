@@ -4,12 +4,12 @@ use borrow.Author.Needs.{needs}
 use Rattle.sfdu_headers.proofs.telemetry.number.Statement.{statement}
 use Rattle.sfdu_headers.proofs.telemetry.number.Tie as tie
 
-load-u32-requires : tie.Need-load-u32-requires
-load-u32-requires c κs = search needs
+read-u32-requires : tie.Need-read-u32-requires
+read-u32-requires c κs = search needs
 
 returns : tie.Need-returns
 unfolding recordNumber
-returns c = c .load-u32 .ensures
+returns c = c .read-u32 .ensures
 
 pub number-spec : {M : Type 1} → statement M
-number-spec = tie.close (tie.spec load-u32-requires returns)
+number-spec = tie.close (tie.spec read-u32-requires returns)

@@ -12,8 +12,8 @@ spacecraft-requires c κs = search needs
 shared-slice-read-t5 : tie.Need-shared-slice-read-t5
 shared-slice-read-t5 c = search needs
 
-load-u64-requires : tie.Need-load-u64-requires
-load-u64-requires c κs = search needs
+read-u64-requires : tie.Need-read-u64-requires
+read-u64-requires c κs = search needs
 
 number-requires : tie.Need-number-requires
 number-requires c κs = search needs
@@ -24,16 +24,16 @@ shared-slice-read-t9 c = search needs
 shared-slice-read-t12 : tie.Need-shared-slice-read-t12
 shared-slice-read-t12 c = search needs
 
-load-u16-requires : tie.Need-load-u16-requires
-load-u16-requires c κs = search needs
+read-u16-requires : tie.Need-read-u16-requires
+read-u16-requires c κs = search needs
 
 returns : tie.Need-returns
 returns c = rw (
   c .before .before .before .before .before .before .spacecraft .ensures,
-  c .before .before .before .before .load-u64 .ensures,
+  c .before .before .before .before .read-u64 .ensures,
   c .before .before .before .number .ensures,
   c .before .before .before .before .before .before .before .band .ensures,
-  c .load-u16 .ensures,
+  c .read-u16 .ensures,
 )
 
 pub read-fields-spec : {M : Type 1} → statement M
@@ -43,9 +43,9 @@ read-fields-spec =
     band-requires
     spacecraft-requires
     shared-slice-read-t5
-    load-u64-requires
+    read-u64-requires
     number-requires
     shared-slice-read-t9
     shared-slice-read-t12
-    load-u16-requires
+    read-u16-requires
     returns)

@@ -6,6 +6,7 @@ use mathlib.Core.Path.{ap, sym, _∙_}
 use Rattle.sfdu.specs.Read.{wordsOf, primaryWords, recordLength}
 use Rattle.sfdu.proofs.Accepted.{found}
 use Rattle.sfdu.proofs.Parts.{room}
+use Rattle.sfdu_headers.proofs.Numbers.{number-long}
 use Rattle.sfdu_listing.specs.Listing.{bufferSize}
 use Rattle.sfdu_listing.proofs.Judging.{accepted-whole, records}
 use borrow.Author.Needs.{needs}
@@ -19,25 +20,16 @@ enum-known-read : tie.Need-enum-known-read
 enum-known-read c = search needs
 
 record-number-requires : tie.Need-record-number-requires
-record-number-requires c κs =
-    let s = c .before .before .before .before .before .args .s .now in
-    let g = c .before .read .given in
-    let f = found s (g .0 .0) (g .0 .1 .0) (primaryWords (g .0 .1 .1 .0)) (sym (ap wordsOf (g .1)) ∙ c .before .before .before .read-one .ensures) in
-    let r = room s _ _ _ f in
-    omega arith
+record-number-requires c κs = search needs
 
 enum-known-read-2 : tie.Need-enum-known-read-2
 enum-known-read-2 c = search needs
 
-number-requires : tie.Need-number-requires
-number-requires c κs = search needs
-
 stop-requires : tie.Need-stop-requires
 stop-requires c κs =
-    let k = c .before .before .before .before .before .before in
-    let g = c .before .before .read2 .given in
-    let words = sym (ap wordsOf (g .1)) ∙ c .before .before .before .before .read-one .ensures in
-    (k .pre .0, k .pre .1, ap (λ (n : ℕ). n ∷ g .0 .0 .at ∷ []) (c .number .ensures) ∙ words)
+    let k = c .before .before .before .before .before in
+    let g = c .before .read2 .given in
+    (k .pre .0, k .pre .1, sym (ap wordsOf (g .1)) ∙ c .before .before .before .read-one .ensures)
 
 returns : tie.Need-returns
 returns c =
@@ -46,9 +38,10 @@ returns c =
     let s = k .args .s .now in
     let g = c .before .before .read .given in
     let f = found s (g .0 .0) (g .0 .1 .0) (primaryWords (g .0 .1 .1 .0)) (sym (ap wordsOf (g .1)) ∙ at-read-one .read-one .ensures) in
-    let fits : recordLength s ≤ bufferSize = omega (arith, f .size, room s _ _ _ f, k .pre .0) in
+    let within = room s _ _ _ f in
+    let fits : recordLength s ≤ bufferSize = omega (arith, f .size, within, k .pre .0) in
     records (k .args .place) s (k .args .last) (g .0 .0) (g .0 .1 .0) (c .record-number .result) (accepted-whole s (f .accepted) fits) (f .kind) (f .size)
-    (c .record-number .ensures)
+    (c .record-number .ensures ∙ number-long (g .0 .0) s (omega (arith, within)))
 
 returns-2 : tie.Need-returns-2
 returns-2 c = search needs
@@ -61,7 +54,6 @@ judge-spec =
     enum-known-read
     record-number-requires
     enum-known-read-2
-    number-requires
     stop-requires
     returns
     returns-2)

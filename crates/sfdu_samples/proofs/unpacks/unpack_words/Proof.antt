@@ -29,11 +29,11 @@ loop-holds c =
     let all-of-them : c .before .before .args .words - 0 ≡ c .before .before .args .words = omega arith in
     (omega arith, omega arith, refl, rw all-of-them)
 
-mul-load-u32 : tie.Need-mul-load-u32 Inv-loop μ-loop
-mul-load-u32 c = omega (arith, c .before .before .before .before .pre .1)
+mul-read-u32 : tie.Need-mul-read-u32 Inv-loop μ-loop
+mul-read-u32 c = omega (arith, c .before .before .before .before .pre .1)
 
-load-u32-requires : tie.Need-load-u32-requires Inv-loop μ-loop
-load-u32-requires c κs = omega (arith, c .before .before .before .before .pre .1)
+read-u32-requires : tie.Need-read-u32-requires Inv-loop μ-loop
+read-u32-requires c κs = omega (arith, c .before .before .before .before .pre .1)
 
 unpack-word-requires : tie.Need-unpack-word-requires Inv-loop μ-loop
 unpack-word-requires c κs =
@@ -67,7 +67,7 @@ loop-again c =
       rw (
         e,
         per,
-        c .before .before .before .load-u32 .ensures,
+        c .before .before .before .read-u32 .ensures,
       ) (words-more (loop .list) (loop .to) (d .args .size) (loop .i) (d .args .words) (d .args .d .now) (omega arith)) ∙ loop .inv .3,
     )
 
@@ -87,8 +87,8 @@ unpack-words-spec =
     μ-loop
     per-word-requires
     loop-holds
-    mul-load-u32
-    load-u32-requires
+    mul-read-u32
+    read-u32-requires
     unpack-word-requires
     add-to
     add-i

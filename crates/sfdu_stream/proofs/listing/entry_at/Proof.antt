@@ -1,5 +1,7 @@
 -- `sfdu_stream::listing::entry_at` meets its contract. Assumes nothing.
 use native.Mathlib.Omega.{arith}
+use mathlib.Core.Path.{_∙_}
+use Rattle.sfdu_headers.proofs.Numbers.{number-long}
 use Rattle.sfdu_stream.proofs.Places.{whole-record, headers-there}
 use Rattle.sfdu_stream.proofs.Underway.{entry-is}
 use borrow.Author.Needs.{needs}
@@ -23,14 +25,14 @@ part-record-number-end : tie.Need-part-record-number-end
 part-record-number-end c = search needs
 
 record-number-requires : tie.Need-record-number-requires
-record-number-requires c κs =
-    let d = c .before .before .before in
-    headers-there (d .args .s .now) (d .args .at) (d .args .kind) (d .args .size) (d .pre)
+record-number-requires c κs = search needs
 
 returns : tie.Need-returns
 returns c =
     let d = c .before .before .before .before in
-    entry-is (d .args .s .now) (d .args .at) (d .args .kind) (d .args .size) (d .pre) _ _ (c .before .before .kind-number .ensures) (c .record-number .ensures)
+    let there = headers-there (d .args .s .now) (d .args .at) (d .args .kind) (d .args .size) (d .pre) in
+    entry-is (d .args .s .now) (d .args .at) (d .args .kind) (d .args .size) (d .pre) _ _ (c .before .before .kind-number .ensures)
+    (c .record-number .ensures ∙ number-long _ _ there)
 
 pub entry-at-spec : {M : Type 1} → statement M
 entry-at-spec =

@@ -1,12 +1,12 @@
--- `octets::read_bytes` meets its contract. The invariant: v is the number in the first i bytes. Assumes nothing.
+-- `octets::numbers::read_bytes` meets its contract. The invariant: v is the number in the first i bytes. Assumes nothing.
 use mathlib.Core.Path.{sym}
 use Prim.Native.Nat.{_≤_, _+_, _-_}
 use mathlib.Core.Path.{_≡_}
 use native.Mathlib.Omega.{arith}
 use Rattle.octets.specs.Octets.{numberAt}
 use Rattle.octets.proofs.Laws.{number-room, number-none, number-more}
-use Rattle.octets.proofs.read_bytes.Statement.{statement}
-use Rattle.octets.proofs.read_bytes.Tie as tie
+use Rattle.octets.proofs.numbers.read_bytes.Statement.{statement}
+use Rattle.octets.proofs.numbers.read_bytes.Tie as tie
 
 abbrev Inv-loop : tie.InvT-loop
 Inv-loop s a n v₀ i₀ v i = (i ≤ n) × (v ≡ numberAt s a i)

@@ -1,9 +1,9 @@
--- `octets::read_long` meets its contract: a number is its upper and its lower half. Assumes nothing.
+-- `octets::numbers::read_u64` meets its contract: a number is its upper and its lower half. Assumes nothing.
 use mathlib.Core.Path.{sym}
 use Rattle.octets.proofs.Laws.{number-join}
 use borrow.Author.Needs.{needs}
-use Rattle.octets.proofs.read_long.Statement.{statement}
-use Rattle.octets.proofs.read_long.Tie as tie
+use Rattle.octets.proofs.numbers.read_u64.Statement.{statement}
+use Rattle.octets.proofs.numbers.read_u64.Tie as tie
 
 read-u32-requires : tie.Need-read-u32-requires
 read-u32-requires c κs = search needs
@@ -31,8 +31,8 @@ returns c =
     let g = c .before .before .before .args in
     rw (c .before .read-u32 .ensures, c .read-u322 .ensures) (sym (number-join (g .s .now) (g .a) 4 4))
 
-pub read-long-spec : {M : Type 1} → statement M
-read-long-spec =
+pub read-u64-spec : {M : Type 1} → statement M
+read-u64-spec =
     tie.close
     (tie.spec
     read-u32-requires
