@@ -1,6 +1,6 @@
 -- The bits of a number, and of a number of eight tick bytes. Assumes nothing.
 use Prim.Native.Nat.{ℕ, zero, suc, _+_, _-_, _*_, _/_, _%_, _^_, _<_}
-use native.Mathlib.Nat.{pow-succ', mul-assoc, add-zero, div-div-eq-div-mul}
+use native.Mathlib.Nat.{div-div-eq-div-mul}
 use native.Mathlib.Omega.{arith}
 use mathlib.Core.Bool.{Bool, true, false}
 use mathlib.Core.List.{List}
@@ -9,22 +9,14 @@ use borrow.Author.Tests.{ltb-true, ltb-false}
 use lib.Dec.{ltb}
 use lib.ListN.{getD}
 use lib.Pow.{pow-add}
+use Rattle.octets.specs.inner.Little.{littleAt}
 use Rattle.octets.proofs.Laws.{Bytes}
 use Rattle.ledger_sheet.specs.Sheet.{ticksAt, byteBits}
 use Rattle.ledger_rows.specs.Ticks.{tickedAt}
 use Rattle.ledger_rows.proofs.Bits.{below-eight}
-use Rattle.ledger_counts.specs.inner.Words.{wordBits, bitOf, littleAt, IsWord}
+use Rattle.ledger_counts.specs.inner.Words.{wordBits, bitOf, IsWord}
 
 -- ---- numbers of bytes, the lowest first
-
--- a number is its first m bytes, and the others above them
-pub little-join : (s : List ℕ) (b m n : ℕ) → littleAt s b (m + n) ≡ littleAt s b m + 256 ^ m * littleAt s (b + m) n
-unfolding littleAt
-little-join s b zero n = let e : 0 + n ≡ n = omega arith in rw (e, add-zero b) (omega arith)
-little-join s b (suc m) n =
-    let e : b + suc m ≡ b + 1 + m = omega arith in
-    let more : suc m + n ≡ suc (m + n) = omega arith in
-    rw (more, e, little-join s (b + 1) m n, pow-succ', mul-assoc) (omega arith)
 
 -- the bits of a number that has the byte x lowest
 low-bit : (x y : ℕ) → x < 256 → (k : ℕ) → k < 8 → (x + 256 * y) / 2 ^ k % 2 ≡ x / 2 ^ k % 2

@@ -10,6 +10,7 @@ use ledger_sheet::right::first_at;
 use ledger_sheet::right::is_used;
 use ledger_sheet::right::key_at;
 use ledger_sheet::row_at;
+use octets::read_le_u64;
 ghost use mathlib.Core.Path.{_≡_};
 ghost use mathlib.Core.Bool.{true, not, cond};
 ghost use Prim.Native.Nat.{_+_, _≤_, _<_};
@@ -21,7 +22,7 @@ ghost use Rattle.ledger_rows.specs.Ticks.{tickedAt, ticksOf};
 ghost use Rattle.ledger_rows.specs.inner.Scans.{lowest};
 ghost use Rattle.ledger_counts.specs.inner.Counts.{pastHighest, numberAtPosition, reportWords, gapFrom};
 ghost use Rattle.ledger_sheet.specs.Words.{reportAnswerWords, gapWords};
-ghost use Rattle.ledger_counts.specs.inner.Words.{wordBits, wordCount, lastWordAt, littleAt, IsWord, TickedFrom, StartsAt};
+ghost use Rattle.ledger_counts.specs.inner.Words.{wordBits, wordCount, lastWordAt, IsWord, TickedFrom, StartsAt};
 
 // A word of ticks, in bytes and in positions, and how many of them a row has.
 const WORD: usize = 8;
@@ -40,44 +41,12 @@ const FULL: u64 = !0;
 // The positions of a row.
 const POSITIONS: usize = WORD_BITS * WORDS;
 
-const HALF: usize = 4;
-
-const QUARTER: usize = 2;
-
-// The ticks of the 64 positions from 64 k on, as one number: bit i of it is position 64 k + i.
+// The ticks of the 64 positions from 64 k on, as one number: bit i of it is position 64 k + i. LLVM makes one load of it.
 fn tick_word(s: &[u8], a: usize, k: usize) -> u64
     requires { ⌜ (a + rowSize ≤ length (now s)) × (k < wordCount) ⌝ }
     ensures { λ r. ⌜ IsWord (now (s .entry)) a k r ⌝ }
 {
-    read_word(s, a + TICKS_AT + WORD * k)
-}
-
-// The little-endian number in the eight bytes from index b, by halves, and in four and in two. LLVM makes one load of it.
-fn read_word(s: &[u8], b: usize) -> u64
-    requires { ⌜ b + 8 ≤ length (now s) ⌝ }
-    ensures { λ r. ⌜ r ≡ littleAt (now (s .entry)) b 8 ⌝ }
-{
-    let low = read_half(s, b);
-    let high = read_half(s, b + HALF);
-    low as u64 + 4294967296 * high as u64
-}
-
-fn read_half(s: &[u8], b: usize) -> u32
-    requires { ⌜ b + 4 ≤ length (now s) ⌝ }
-    ensures { λ r. ⌜ r ≡ littleAt (now (s .entry)) b 4 ⌝ }
-{
-    let low = read_quarter(s, b);
-    let high = read_quarter(s, b + QUARTER);
-    low as u32 + 65536 * high as u32
-}
-
-fn read_quarter(s: &[u8], b: usize) -> u16
-    requires { ⌜ b + 2 ≤ length (now s) ⌝ }
-    ensures { λ r. ⌜ r ≡ littleAt (now (s .entry)) b 2 ⌝ }
-{
-    let low = s[b];
-    let high = s[b + 1];
-    low as u16 + 256 * high as u16
+    read_le_u64(s, a + TICKS_AT + WORD * k)
 }
 
 // The ones of the words of a block. Full words, which most rows have most of, need not be counted, for which baseline x86-64

@@ -20,12 +20,6 @@ use sfdu::read_one;
 use sfdu::whole_size;
 
 impl Cursor {
-    pub fn start() -> Self
-        ensures { λ r. ⌜ r .at ≡ 0 ⌝ }
-    {
-        Cursor { at: 0 }
-    }
-
     // The record at the cursor, and the cursor past it.
     pub fn step(self, s: &[u8]) -> Step
         ensures { λ r. ⌜ stepWords r ≡ step (now (s .entry)) (self .at) ⌝ }
