@@ -1,6 +1,6 @@
 -- A row that is ticked from a position of its first word on, and nowhere below: what its words say, and its report. Assumes nothing.
-use Prim.Native.Nat.{ℕ, zero, suc, _+_, _-_, _*_, _/_, _^_, _≤_, _<_}
-use native.Mathlib.Nat.{div-div-eq-div-mul, zero-lt-suc, eq-or-lt-of-le}
+use Prim.Native.Nat.{ℕ, _+_, _-_, _*_, _/_, _^_, _≤_, _<_}
+use native.Mathlib.Nat.{div-div-eq-div-mul, eq-or-lt-of-le}
 use native.Mathlib.Omega.{arith}
 use mathlib.Core.Bool.{Bool, true, false, not}
 use mathlib.Core.List.{List, [], _∷_}
@@ -12,12 +12,10 @@ use lib.Count.{trailingZeros, trailing-le}
 use lib.Dec.{ltb}
 use lib.Pow.{pow-pos, pow-add}
 use Rattle.ledger_model.specs.Positions.{rowLength, size}
-use Rattle.octets.specs.Lists.{table}
 use Rattle.ledger_rows.specs.Ticks.{tickedAt, ticksOf}
-use Rattle.ledger_rows.specs.inner.Scans.{lowest}
-use Rattle.ledger_rows.proofs.Scans.{Fails, each-none, lowest-fails, lowest-here, lowest-none}
+use Rattle.ledger_rows.proofs.Scans.{each-none, lowest-fails, lowest-here, lowest-none}
 use Rattle.ledger_counts.specs.inner.Counts.{pastHighest, numberAtPosition, reportWords}
-use Rattle.ledger_counts.specs.inner.Words.{wordBits, lastWordAt, bitOf, IsWord, TickedFrom, StartsAt}
+use Rattle.ledger_counts.specs.inner.Words.{wordBits, bitOf, IsWord, TickedFrom, StartsAt}
 use Rattle.ledger_counts.proofs.Highest.{past-here}
 use Rattle.ledger_counts.proofs.Missing.{size-from}
 use Rattle.ledger_counts.proofs.WordCounts.{bit-above, not-bit, trailing-lowest, trailing-all}
