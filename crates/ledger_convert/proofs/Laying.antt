@@ -15,7 +15,7 @@ use Rattle.octets.specs.Octets.{bytesOf, part, put}
 use Rattle.octets.proofs.Laws.{Bytes, length-part, part-at, length-put}
 use Rattle.octets.proofs.Parts.{part-join, part-whole, part-first, part-second}
 use Rattle.octets.proofs.Puts.{put-next, set-put}
-use Rattle.ledger_sheet.specs.Sheet.{sheetSize, usedWordSize, rowSize, rowCount, rowsStart, deskSize, deskCount, deskRowAt, deskZerosAt}
+use Rattle.ledger_sheet.specs.Sheet.{sheetSize, keyStart, rowSize, rowCount, rowsStart, deskSize, deskCount, deskRowAt, deskZerosAt}
 use Rattle.ledger_sheet.specs.Sheet.{deskZerosSize, openedAt, workedAt, desksStart, headerNumberSize, usedAt, rowAt, deskAt, count}
 use Rattle.ledger_sheet.specs.declared.Row.{Row}
 use Rattle.octets.specs.Lists.{table}
@@ -227,7 +227,7 @@ desk-written s d named opened worked {t} {u} long l lo lw p q r =
 -- ---- what is copied
 
 module _ (old : List ℕ) (r : Old.right old ≡ true) (bytes : Bytes old) where
-  pub row-copied : (i b : ℕ) → i < Old.used old → b + usedWordSize ≡ Old.rowAt i → (v : Row) → v ≡ rowValueAt old b
+  pub row-copied : (i b : ℕ) → i < Old.used old → b + keyStart ≡ Old.rowAt i → (v : Row) → v ≡ rowValueAt old b
       → rowBytes (v .key) (v .first) (v .ticks) ≡ placeBytes (oldPlaceIn old i)
   unfolding oldPlaceIn
   row-copied i b l e v is =
@@ -236,15 +236,15 @@ module _ (old : List ℕ) (r : Old.right old ≡ true) (bytes : Bytes old) where
       rw (lt-ltb i (Old.used old) l) (old-bytes old (Old.rowAt i) b e bytes (omega arith) v is)
 
   -- a copy at offset c of an open desk
-  copied : (d c b : ℕ) → d < deskCount → Old.isClosed old d ≡ false → b + usedWordSize ≡ c → c + Old.rowSize ≤ Old.sheetSize
+  copied : (d c b : ℕ) → d < deskCount → Old.isClosed old d ≡ false → b + keyStart ≡ c → c + Old.rowSize ≤ Old.sheetSize
       → Old.carries old c (Old.deskRow old d) ≡ true → (v : Row) → v ≡ rowValueAt old b
       → rowBytes (v .key) (v .first) (v .ticks) ≡ placeBytes (withTicks (oldTicksOf old c) (place (oldBookOf old) (Old.deskRow old d)))
   copied d c b l o e h k v is =
       let n = long old r in
       old-bytes old c b e bytes (omega arith) v is ∙ ap placeBytes (copy-is old r (Old.deskRow old d) c (opened old r d l o .names) h k)
 
-  pub desk-copied : (d b c : ℕ) → d < deskCount → Old.isClosed old d ≡ false → b + usedWordSize ≡ Old.deskAt d + Old.openedAt
-      → c + usedWordSize ≡ Old.deskAt d + Old.workedAt → (v w : Row) → v ≡ rowValueAt old b → w ≡ rowValueAt old c
+  pub desk-copied : (d b c : ℕ) → d < deskCount → Old.isClosed old d ≡ false → b + keyStart ≡ Old.deskAt d + Old.openedAt
+      → c + keyStart ≡ Old.deskAt d + Old.workedAt → (v w : Row) → v ≡ rowValueAt old b → w ≡ rowValueAt old c
       → openDesk (Old.deskRow old d) (rowBytes (v .key) (v .first) (v .ticks)) (rowBytes (w .key) (w .first) (w .ticks))
       ≡ deskBytes (oldBookOf old .places) (oldDeskIn old d)
   unfolding oldDeskIn deskBytes

@@ -16,7 +16,7 @@ use Rattle.ledger_model.specs.WellFormed.{IsSet, PlaceOk, DeskOk, keyOf, WellFo
 use Rattle.octets.specs.Octets.{numberAt, part}
 use Rattle.octets.proofs.Laws.{Bytes, and-split, all-at, length-part}
 use Rattle.octets.proofs.Parts.{same-part}
-use Rattle.ledger_sheet.specs.Sheet.{usedWordSize, rowSize, ticksAt, ticksSize}
+use Rattle.ledger_sheet.specs.Sheet.{keyStart, rowSize, ticksAt, ticksSize}
 use Rattle.ledger_sheet.specs.Sheet as New
 use Rattle.ledger_sheet.specs.declared.Row.{Row}
 use Rattle.ledger_rows.specs.Ticks.{tickedAt, ticksOf}
@@ -36,7 +36,7 @@ use Rattle.ledger_convert.proofs.Clauses.{Right, right-parts, sized}
 
 -- ---- a row or a copy at offset a, read as a new one at offset b
 
-module _ (s : List ℕ) (a b : ℕ) (e : b + usedWordSize ≡ a) where
+module _ (s : List ℕ) (a b : ℕ) (e : b + keyStart ≡ a) where
   pub old-key : New.keyAt s b ≡ keyAt s a
   old-key = ap (λ (x : ℕ). numberAt s x keySize) e
 
