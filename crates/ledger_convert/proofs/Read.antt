@@ -1,6 +1,6 @@
 -- What a right old sheet holds: its rows and copies, read as new ones whose used word would stand before their key, are its book's; and the
 -- book is well-formed. Assumes nothing.
-use Prim.Native.Nat.{ℕ, _+_, _-_, _≤_, _<_}
+use Prim.Native.Nat.{ℕ, _+_, _≤_, _<_}
 use native.Mathlib.Nat.{add-zero}
 use native.Mathlib.Omega.{arith}
 use mathlib.Core.Bool.{Bool, true, false, cond, not, _&&_}
@@ -23,7 +23,7 @@ use Rattle.ledger_rows.specs.Ticks.{tickedAt, ticksOf}
 use Rattle.octets.specs.Lists.{table}
 use Rattle.ledger_changes.specs.Rows.{rowBytes}
 use Rattle.ledger_changes.specs.inner.Rows.{rowValueAt}
-use Rattle.ledger_layout.specs.Layout.{tickBytes, placeBytes}
+use Rattle.ledger_layout.specs.Layout.{placeBytes}
 use Rattle.ledger_layout.proofs.Parts.{number-within}
 use Rattle.octets.proofs.Lists.{length-table, getD-table, table-is}
 use Rattle.ledger_layout.proofs.Ticks.{ticks-bytes}

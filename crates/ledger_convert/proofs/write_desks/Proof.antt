@@ -1,5 +1,5 @@
 -- `write_desks` meets its contract. The invariant: the first d desks are laid out. Assumes nothing.
-use Prim.Native.Nat.{_≤_, _-_, _*_, _+_}
+use Prim.Native.Nat.{_≤_, _-_, _+_}
 use mathlib.Core.Path.{_≡_}
 use mathlib.Core.Logic.{⊎-elim}
 use native.Mathlib.Omega.{arith}

@@ -1,5 +1,5 @@
 -- `write_rows` meets its contract. The invariant: the first i rows are laid out. Assumes nothing.
-use Prim.Native.Nat.{_≤_, _-_, _*_, _+_}
+use Prim.Native.Nat.{_≤_, _-_}
 use mathlib.Core.Path.{_≡_}
 use native.Mathlib.Omega.{arith}
 use Rattle.ledger_sheet.specs.Sheet.{keyStart}
