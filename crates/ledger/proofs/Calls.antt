@@ -19,12 +19,12 @@ use Rattle.ledger_layout.proofs.Judged.{refuses, passes, accepts}
 use Rattle.ledger_layout.specs.Layout.{call, onSheet}
 use Rattle.ledger_layout.proofs.Sheets.{call-law}
 use Rattle.ledger_verdicts.proofs.Judged.{Law}
-use Rattle.ledger_verdicts.specs.inner.Verdicts.{enrolRows, findRows, openRows, deskRows, reportRows, strikeRows}
+use Rattle.ledger_verdicts.specs.inner.Verdicts.{enrolRows, findRows, openRows, deskRows, rowRows, strikeRows}
 
 abbrev pub rowsOf : Call → List ℕ → List (Rule ℕ)
 rowsOf (Enrol key first) s = enrolRows key first s
 rowsOf (Ask (Find key)) s = findRows key s
-rowsOf (Ask (RowReport r)) s = reportRows r s
+rowsOf (Ask (RowReport r)) s = rowRows r s
 rowsOf (Ask FirstGap) s = (20 when not (right s)) ∷ []
 rowsOf (Open d r) s = openRows d r s
 rowsOf (Mark flag d n) s = deskRows d s

@@ -13,7 +13,7 @@ use ledger_sheet::SHEET;
 use ledger_sheet::right::is_sheet;
 use ledger_verdicts::Verdict;
 use ledger_verdicts::find_verdict;
-use ledger_verdicts::report_verdict;
+use ledger_verdicts::row_verdict;
 use refusals::Refusal;
 ghost use mathlib.Core.Path.{_≡_};
 ghost use mathlib.Core.Bool.{true, false};
@@ -44,7 +44,7 @@ pub fn enrol(s: &mut [u8], key: u64, first: u32) -> RowAnswer
 pub fn find(s: &[u8], key: u64) -> RowAnswer
     ensures { λ r. ⌜ (rowWords r, now (s .entry)) ≡ onSheet (call (Ask (Find key))) (now (s .entry)) ⌝ }
 {
-    let verdict = find_verdict(s, key);
+    let verdict = find_verdict(s, is_sheet(s), key);
     if let Verdict::Refused(why) = verdict {
         return RowAnswer::Refused(why);
     }
@@ -109,7 +109,7 @@ pub fn strike(s: &mut [u8], row: u32) -> Answer
 pub fn row_report(s: &[u8], row: u32) -> ReportAnswer
     ensures { λ r. ⌜ (reportAnswerWords r, now (s .entry)) ≡ onSheet (call (Ask (RowReport row))) (now (s .entry)) ⌝ }
 {
-    let verdict = report_verdict(s, row);
+    let verdict = row_verdict(s, is_sheet(s), row);
     if let Verdict::Refused(why) = verdict {
         return ReportAnswer::Refused(why);
     }

@@ -5,7 +5,7 @@ use native.Mathlib.Omega.{arith}
 use mathlib.Core.List.{List, _++_, append-assoc, append-nil}
 use mathlib.Core.Path.{_≡_, sym, ap, _∙_}
 use lib.ListN.{length, take, drop, getD, take-append-drop, List·getD-append}
-use mathlib.Core.Logic.{_⊎_, inl}
+use mathlib.Core.Logic.{_⊎_, inl, inr, ⊎-elim}
 use lib.Seq.{length-take-le, drop-drop, drop-length, take-add, ext-getD, getD-append-add}
 use Rattle.octets.specs.Octets.{part, put}
 use Rattle.octets.proofs.Laws.{length-part, part-at, length-put, put-all, putting, putting-outside}
@@ -28,13 +28,19 @@ put-inside s a v i h l =
     ap (λ (n : ℕ). getD (take a s ++ (v ++ drop (a + length v) s)) (n + i) 0) (sym e) ∙ getD-append-add (take a s) (v ++ drop (a + length v) s) i 0 in
     rw append-assoc (at ∙ List·getD-append v (drop (a + length v) s) 0 i l)
 
--- a part that ends before what is put in
+-- a part that ends before what is put in, or begins behind it
+pub part-apart : (s : List ℕ) (a : ℕ) (v : List ℕ) (b n : ℕ) → a + length v ≤ length s → b + n ≤ length s → (b + n ≤ a) ⊎ (a + length v ≤ b)
+    → part (put s a v) b n ≡ part s b n
+part-apart s a v b n l m o =
+    let lp : length (part (put s a v) b n) ≡ n = length-part (put s a v) b n (rw (length-put s a v l) m) in
+    ext-getD 0 (part (put s a v) b n) (part s b n) (lp ∙ sym (length-part s b n m)) (λ i q.
+    let k : i < n = omega arith in
+    part-at (put s a v) b n i k
+    ∙ put-outside s a v (b + i) l (⊎-elim (λ (x : b + n ≤ a). inl (omega arith)) (λ (x : a + length v ≤ b). inr (omega arith)) o)
+    ∙ sym (part-at s b n i k))
+
 pub part-before : (s : List ℕ) (a : ℕ) (v : List ℕ) (b n : ℕ) → b + n ≤ a → a + length v ≤ length s → part (put s a v) b n ≡ part s b n
-part-before s a v b n h l =
-    let lp : length (part (put s a v) b n) ≡ n = length-part (put s a v) b n (rw (length-put s a v l) (omega arith)) in
-    ext-getD 0 (part (put s a v) b n) (part s b n) (lp ∙ sym (length-part s b n (omega arith))) (λ i q.
-    let m : i < n = omega arith in
-    part-at (put s a v) b n i m ∙ put-outside s a v (b + i) l (inl (omega arith)) ∙ sym (part-at s b n i m))
+part-before s a v b n h l = part-apart s a v b n l (omega arith) (inl h)
 
 -- the part put in
 pub part-put : (s : List ℕ) (a : ℕ) (v : List ℕ) (n : ℕ) → length v ≡ n → a + n ≤ length s → part (put s a v) a n ≡ v

@@ -73,30 +73,39 @@ row-written s a key first ticks room lt o p q r =
 
 -- ---- an open desk
 
-module _ (s : List ℕ) (d row : ℕ) (long : length s ≡ sheetSize) (desk : d < deskCount) (used : row < rowCount) {t u v : List ℕ}
-    (p : t ≡ put (set (set s (deskAt d) 1) (deskAt d + deskRowAt) row) (deskAt d + deskZerosAt) (replicate deskZerosSize 0))
-    (q : u ≡ put t (deskAt d + openedAt) (part t (rowAt row) rowSize)) (r : v ≡ put u (deskAt d + workedAt) (part u (rowAt row) rowSize)) where
-  -- the row, as it is in the sheet while the desk is written
-  same-row : (w : List ℕ) → length w ≤ workedAt → part (put s (deskAt d) w) (rowAt row) rowSize ≡ part s (rowAt row) rowSize
-  same-row w l = part-before s (deskAt d) w (rowAt row) rowSize (omega arith) (omega arith)
-
-  pub open-written : v ≡ openAt d row s
-  unfolding openAt openDesk
-  open-written =
+-- its mark, its row and two zeros, and then its two copies, one behind the other
+module _ (s : List ℕ) (d row : ℕ) (long : length s ≡ sheetSize) (desk : d < deskCount) {t : List ℕ}
+    (p : t ≡ put (set (set s (deskAt d) 1) (deskAt d + deskRowAt) row) (deskAt d + deskZerosAt) (replicate deskZerosSize 0)) where
+  begun-written : t ≡ put s (deskAt d) (1 ∷ row ∷ 0 ∷ 0 ∷ [])
+  begun-written =
       let a = deskAt d in
-      let copy = part s (rowAt row) rowSize in
-      let lc = length-part s (rowAt row) rowSize (omega arith) in
       let two : set (set s a 1) (a + deskRowAt) row ≡ put s a (1 ∷ row ∷ []) =
       put-next s a (1 ∷ []) (a + deskRowAt) (row ∷ []) (set-put s a 1 (omega arith))
       (set-put (set s a 1) (a + deskRowAt) row (rw length-set (omega arith))) refl (omega arith) in
-      let four : t ≡ put s a (1 ∷ row ∷ 0 ∷ 0 ∷ []) =
-      put-next s a (1 ∷ row ∷ []) (a + deskZerosAt) (0 ∷ 0 ∷ []) two p refl (omega arith) in
-      let first : u ≡ put s a (1 ∷ row ∷ 0 ∷ 0 ∷ copy) =
-      put-next s a (1 ∷ row ∷ 0 ∷ 0 ∷ []) (a + openedAt) copy four
-      (q ∙ ap (λ (w : List ℕ). put t (a + openedAt) w) (ap (λ (w : List ℕ). part w (rowAt row) rowSize) four ∙ same-row _ (omega arith))) refl (omega arith) in
-      put-next s a (1 ∷ row ∷ 0 ∷ 0 ∷ copy) (a + workedAt) copy first
-      (r ∙ ap (λ (w : List ℕ). put u (a + workedAt) w) (ap (λ (w : List ℕ). part w (rowAt row) rowSize) first ∙ same-row _ (omega arith)))
-      (rw lc) (omega arith)
+      put-next s a (1 ∷ row ∷ []) (a + deskZerosAt) (0 ∷ 0 ∷ []) two p refl (omega arith)
+
+  module _ (opened : List ℕ) (lo : length opened ≡ rowSize) {u : List ℕ} (q : u ≡ put t (deskAt d + openedAt) opened) where
+    opened-written : u ≡ put s (deskAt d) (1 ∷ row ∷ 0 ∷ 0 ∷ opened)
+    opened-written = put-next s (deskAt d) (1 ∷ row ∷ 0 ∷ 0 ∷ []) (deskAt d + openedAt) opened begun-written q refl (omega arith)
+
+    pub desk-written : (worked : List ℕ) → length worked ≡ rowSize → {v : List ℕ} → v ≡ put u (deskAt d + workedAt) worked
+        → v ≡ put s (deskAt d) (openDesk row opened worked)
+    unfolding openDesk
+    desk-written worked lw r = put-next s (deskAt d) (1 ∷ row ∷ 0 ∷ 0 ∷ opened) (deskAt d + workedAt) worked opened-written r (rw lo) (omega arith)
+
+  -- both copies are the row, as it stands in the sheet while the desk is written
+  same-row : (w : List ℕ) → length w ≤ workedAt → row < rowCount → {x : List ℕ} → x ≡ put s (deskAt d) w → part x (rowAt row) rowSize ≡ part s (rowAt row) rowSize
+  same-row w l used e = rw e (part-before s (deskAt d) w (rowAt row) rowSize (omega arith) (omega arith))
+
+  pub open-written : row < rowCount → {u v : List ℕ} → u ≡ put t (deskAt d + openedAt) (part t (rowAt row) rowSize)
+      → v ≡ put u (deskAt d + workedAt) (part u (rowAt row) rowSize) → v ≡ openAt d row s
+  unfolding openAt
+  open-written used q r =
+      let copy = part s (rowAt row) rowSize in
+      let lc = length-part s (rowAt row) rowSize (omega arith) in
+      let first = rw (same-row (1 ∷ row ∷ 0 ∷ 0 ∷ []) (omega arith) used begun-written) at q in
+      let second = rw (same-row (1 ∷ row ∷ 0 ∷ 0 ∷ copy) (omega arith) used (opened-written copy lc first)) at r in
+      desk-written copy lc first copy lc second
 
 -- ---- an enrolled row
 

@@ -3,29 +3,27 @@ use Prim.Native.Nat.{ℕ, zero, suc, _+_, _*_, _-_, _≤_, _<_}
 use native.Mathlib.Nat.{eq-or-lt-of-le}
 use native.Mathlib.Omega.{arith}
 use mathlib.Core.Bool.{Bool, true, false, cond, not, Bool·not-not}
-use mathlib.Core.List.{List, [], _∷_, _++_, append-nil}
+use mathlib.Core.List.{List, [], _++_, append-nil}
 use mathlib.Core.Logic.{_⊎_, inl, inr, ⊎-elim}
 use mathlib.Core.Path.{_≡_, refl, sym, ap, _∙_}
 use lib.Dec.{ltb}
-use lib.ListN.{length, set, replicate, length-append, length-replicate, getD-replicate, length-set}
+use lib.ListN.{length, replicate, length-append, length-replicate, getD-replicate}
 use lib.Seq.{ext-getD}
 use borrow.Author.Tests.{ltb-true, ltb-false, lt-ltb, le-ltb}
 use Rattle.ledger_model.specs.Book.{row, closed, place, withTicks}
 use Rattle.octets.specs.Octets.{bytesOf, part, put}
 use Rattle.octets.proofs.Laws.{Bytes, length-part, part-at, length-put}
 use Rattle.octets.proofs.Parts.{part-join, part-whole, part-first, part-second}
-use Rattle.octets.proofs.Puts.{put-next, set-put}
-use Rattle.ledger_sheet.specs.Sheet.{sheetSize, usedWordSize, rowSize, rowCount, rowsStart, deskSize, deskCount, deskRowAt, deskZerosAt}
-use Rattle.ledger_sheet.specs.Sheet.{deskZerosSize, openedAt, workedAt, desksStart, headerNumberSize, usedAt, rowAt, deskAt, count}
+use Rattle.ledger_sheet.specs.Sheet.{sheetSize, keyStart, rowSize, rowCount, rowsStart, deskSize, deskCount}
+use Rattle.ledger_sheet.specs.Sheet.{openedAt, workedAt, desksStart, headerNumberSize, usedAt, rowAt, deskAt, count}
 use Rattle.ledger_sheet.specs.declared.Row.{Row}
-use Rattle.octets.specs.Lists.{table}
 use Rattle.ledger_changes.specs.Rows.{rowBytes}
 use Rattle.ledger_changes.specs.inner.Rows.{rowValueAt}
 use Rattle.ledger_changes.specs.Bytes.{headerBytes, freshSheet, openDesk}
-use Rattle.ledger_changes.proofs.Puts.{put-outside, part-put}
+use Rattle.ledger_changes.proofs.Puts.{part-put, part-apart}
 use Rattle.ledger_changes.proofs.Written.{length-header}
 use Rattle.ledger_layout.specs.Layout.{placeBytes, deskBytes, countUsed, layout}
-use Rattle.octets.proofs.Lists.{length-table, getD-table, laid-table}
+use Rattle.octets.proofs.Lists.{length-table, laid-table}
 use Rattle.ledger_layout.proofs.Rows.{length-place}
 use Rattle.ledger_layout.proofs.Places.{header-put, length-desk}
 use Rattle.ledger_layout.proofs.Used.{count-law}
@@ -35,16 +33,6 @@ use Rattle.ledger_convert.specs.inner.Laid.{Laid}
 use Rattle.ledger_convert.proofs.Read.{old-bytes, few, long, opened, copy-is, free-at}
 
 -- ---- parts and what is put elsewhere
-
-part-apart : (s : List ℕ) (a : ℕ) (v : List ℕ) (b n : ℕ) → a + length v ≤ length s → b + n ≤ length s → (b + n ≤ a) ⊎ (a + length v ≤ b)
-    → part (put s a v) b n ≡ part s b n
-part-apart s a v b n l m o =
-    let lp : length (part (put s a v) b n) ≡ n = length-part (put s a v) b n (rw (length-put s a v l) m) in
-    ext-getD 0 (part (put s a v) b n) (part s b n) (lp ∙ sym (length-part s b n m)) (λ i q.
-    let k : i < n = omega arith in
-    part-at (put s a v) b n i k
-    ∙ put-outside s a v (b + i) l (⊎-elim (λ (x : b + n ≤ a). inl (omega arith)) (λ (x : a + length v ≤ b). inr (omega arith)) o)
-    ∙ sym (part-at s b n i k))
 
 part-zeros : (n a m : ℕ) → a + m ≤ n → part (replicate n 0) a m ≡ replicate m 0
 part-zeros n a m l =
@@ -206,28 +194,10 @@ module _ (old : List ℕ) (r : Old.right old ≡ true) where
       let whole = part-join new 0 desksStart desksStart (deskSize * deskCount) sheetSize refl refl in
       sym (rw (count-is, ← h .header, rows, desks, front, whole) (part-whole new sheetSize (h .long)))
 
--- ---- an open desk
-
-pub desk-written : (s : List ℕ) (d named : ℕ) (opened worked : List ℕ) {t u v : List ℕ} → length s ≡ sheetSize → d < deskCount
-    → length opened ≡ rowSize → length worked ≡ rowSize
-    → t ≡ put (set (set s (deskAt d) 1) (deskAt d + deskRowAt) named) (deskAt d + deskZerosAt) (replicate deskZerosSize 0)
-    → u ≡ put t (deskAt d + openedAt) opened → v ≡ put u (deskAt d + workedAt) worked → v ≡ put s (deskAt d) (openDesk named opened worked)
-unfolding openDesk
-desk-written s d named opened worked {t} {u} long l lo lw p q r =
-    let a = deskAt d in
-    let two : set (set s a 1) (a + deskRowAt) named ≡ put s a (1 ∷ named ∷ []) =
-    put-next s a (1 ∷ []) (a + deskRowAt) (named ∷ []) (set-put s a 1 (omega arith))
-    (set-put (set s a 1) (a + deskRowAt) named (rw length-set (omega arith))) refl (omega arith) in
-    let four : t ≡ put s a (1 ∷ named ∷ 0 ∷ 0 ∷ []) =
-    put-next s a (1 ∷ named ∷ []) (a + deskZerosAt) (0 ∷ 0 ∷ []) two p refl (omega arith) in
-    let first : u ≡ put s a (1 ∷ named ∷ 0 ∷ 0 ∷ opened) =
-    put-next s a (1 ∷ named ∷ 0 ∷ 0 ∷ []) (a + openedAt) opened four q refl (omega arith) in
-    put-next s a (1 ∷ named ∷ 0 ∷ 0 ∷ opened) (a + workedAt) worked first r (rw lo) (omega arith)
-
 -- ---- what is copied
 
 module _ (old : List ℕ) (r : Old.right old ≡ true) (bytes : Bytes old) where
-  pub row-copied : (i b : ℕ) → i < Old.used old → b + usedWordSize ≡ Old.rowAt i → (v : Row) → v ≡ rowValueAt old b
+  pub row-copied : (i b : ℕ) → i < Old.used old → b + keyStart ≡ Old.rowAt i → (v : Row) → v ≡ rowValueAt old b
       → rowBytes (v .key) (v .first) (v .ticks) ≡ placeBytes (oldPlaceIn old i)
   unfolding oldPlaceIn
   row-copied i b l e v is =
@@ -236,15 +206,15 @@ module _ (old : List ℕ) (r : Old.right old ≡ true) (bytes : Bytes old) where
       rw (lt-ltb i (Old.used old) l) (old-bytes old (Old.rowAt i) b e bytes (omega arith) v is)
 
   -- a copy at offset c of an open desk
-  copied : (d c b : ℕ) → d < deskCount → Old.isClosed old d ≡ false → b + usedWordSize ≡ c → c + Old.rowSize ≤ Old.sheetSize
+  copied : (d c b : ℕ) → d < deskCount → Old.isClosed old d ≡ false → b + keyStart ≡ c → c + Old.rowSize ≤ Old.sheetSize
       → Old.carries old c (Old.deskRow old d) ≡ true → (v : Row) → v ≡ rowValueAt old b
       → rowBytes (v .key) (v .first) (v .ticks) ≡ placeBytes (withTicks (oldTicksOf old c) (place (oldBookOf old) (Old.deskRow old d)))
   copied d c b l o e h k v is =
       let n = long old r in
       old-bytes old c b e bytes (omega arith) v is ∙ ap placeBytes (copy-is old r (Old.deskRow old d) c (opened old r d l o .names) h k)
 
-  pub desk-copied : (d b c : ℕ) → d < deskCount → Old.isClosed old d ≡ false → b + usedWordSize ≡ Old.deskAt d + Old.openedAt
-      → c + usedWordSize ≡ Old.deskAt d + Old.workedAt → (v w : Row) → v ≡ rowValueAt old b → w ≡ rowValueAt old c
+  pub desk-copied : (d b c : ℕ) → d < deskCount → Old.isClosed old d ≡ false → b + keyStart ≡ Old.deskAt d + Old.openedAt
+      → c + keyStart ≡ Old.deskAt d + Old.workedAt → (v w : Row) → v ≡ rowValueAt old b → w ≡ rowValueAt old c
       → openDesk (Old.deskRow old d) (rowBytes (v .key) (v .first) (v .ticks)) (rowBytes (w .key) (w .first) (w .ticks))
       ≡ deskBytes (oldBookOf old .places) (oldDeskIn old d)
   unfolding oldDeskIn deskBytes

@@ -1,6 +1,6 @@
 -- What a right old sheet holds: its rows and copies, read as new ones whose used word would stand before their key, are its book's; and the
 -- book is well-formed. Assumes nothing.
-use Prim.Native.Nat.{ℕ, _+_, _-_, _≤_, _<_}
+use Prim.Native.Nat.{ℕ, _+_, _≤_, _<_}
 use native.Mathlib.Nat.{add-zero}
 use native.Mathlib.Omega.{arith}
 use mathlib.Core.Bool.{Bool, true, false, cond, not, _&&_}
@@ -16,14 +16,14 @@ use Rattle.ledger_model.specs.WellFormed.{IsSet, PlaceOk, DeskOk, keyOf, WellFo
 use Rattle.octets.specs.Octets.{numberAt, part}
 use Rattle.octets.proofs.Laws.{Bytes, and-split, all-at, length-part}
 use Rattle.octets.proofs.Parts.{same-part}
-use Rattle.ledger_sheet.specs.Sheet.{usedWordSize, rowSize, ticksAt, ticksSize}
+use Rattle.ledger_sheet.specs.Sheet.{keyStart, rowSize, ticksAt, ticksSize}
 use Rattle.ledger_sheet.specs.Sheet as New
 use Rattle.ledger_sheet.specs.declared.Row.{Row}
 use Rattle.ledger_rows.specs.Ticks.{tickedAt, ticksOf}
 use Rattle.octets.specs.Lists.{table}
 use Rattle.ledger_changes.specs.Rows.{rowBytes}
 use Rattle.ledger_changes.specs.inner.Rows.{rowValueAt}
-use Rattle.ledger_layout.specs.Layout.{tickBytes, placeBytes}
+use Rattle.ledger_layout.specs.Layout.{placeBytes}
 use Rattle.ledger_layout.proofs.Parts.{number-within}
 use Rattle.octets.proofs.Lists.{length-table, getD-table, table-is}
 use Rattle.ledger_layout.proofs.Ticks.{ticks-bytes}
@@ -36,7 +36,7 @@ use Rattle.ledger_convert.proofs.Clauses.{Right, right-parts, sized}
 
 -- ---- a row or a copy at offset a, read as a new one at offset b
 
-module _ (s : List ℕ) (a b : ℕ) (e : b + usedWordSize ≡ a) where
+module _ (s : List ℕ) (a b : ℕ) (e : b + keyStart ≡ a) where
   pub old-key : New.keyAt s b ≡ keyAt s a
   old-key = ap (λ (x : ℕ). numberAt s x keySize) e
 

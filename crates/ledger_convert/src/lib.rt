@@ -2,7 +2,6 @@
 pub mod old;
 
 use ledger_changes::desks::make_fresh;
-use ledger_changes::rows::read_row;
 use ledger_changes::rows::write_row;
 use ledger_sheet as sheet;
 use ledger_sheet::Answer;
@@ -27,10 +26,6 @@ ghost use Rattle.ledger_layout.specs.Layout.{layout};
 ghost use Rattle.ledger_convert.specs.Old as Old;
 ghost use Rattle.ledger_convert.specs.Convert.{oldBookOf, convertOn};
 ghost use Rattle.ledger_convert.specs.inner.Laid.{Laid};
-
-// A row of the new layout, from its key on, is laid out as an old one: so an old row is read as the new one whose used word
-// would stand before its key.
-const BEFORE_KEY: usize = sheet::USED_WORD;
 
 // Makes a new sheet of an old one: places and open desks are kept. What is not a right old sheet, or no slice of a new sheet's length, is
 // refused, and nothing is written.
@@ -65,7 +60,7 @@ fn write_rows(old: &[u8], new: &mut [u8], used: usize)
     ensures { λ _. ⌜ Laid (now (old .entry)) (now (new .exit)) rowCount 0 ⌝ }
 {
     for i in 0..used {
-        let row = read_row(old, old::row_at(i) - BEFORE_KEY);
+        let row = old::read_row(old, old::row_at(i));
         write_row(new, row_at(i), row);
     }
 }
@@ -79,8 +74,8 @@ fn write_desks(old: &[u8], new: &mut [u8])
     for d in 0..sheet::DESKS {
         let from = old::desk_at(d);
         if old[from] != sheet::CLOSED {
-            let opened = read_row(old, from + sheet::OPENED_AT - BEFORE_KEY);
-            let worked = read_row(old, from + old::WORKED_AT - BEFORE_KEY);
+            let opened = old::read_row(old, from + sheet::OPENED_AT);
+            let worked = old::read_row(old, from + old::WORKED_AT);
             write_desk(new, d, old[from + sheet::DESK_ROW_AT], opened, worked);
         }
     }

@@ -1,5 +1,7 @@
 // Whether a slice is a right old sheet: document 01's layout, before rows had a used word.
+use ledger_changes::rows;
 use ledger_sheet as sheet;
+use ledger_sheet::Row;
 use ledger_sheet::right::is_other;
 use octets::is_long_zero;
 use octets::is_same;
@@ -7,13 +9,14 @@ use octets::is_zero;
 use octets::read_be;
 ghost use mathlib.Core.Path.{_≡_};
 ghost use mathlib.Core.Bool.{not, _&&_};
-ghost use Prim.Native.Nat.{_+_, _≤_, _<_};
-ghost use lib.Dec.{eqb};
-ghost use lib.ListN.{length, getD};
+ghost use Prim.Native.Nat.{_+_, _-_, _≤_, _<_};
+ghost use lib.ListN.{length};
 ghost use Rattle.octets.specs.Octets.{all};
 ghost use Rattle.ledger_convert.specs.Old.{sheetSize, rowSize, rowCount, deskCount, rowAt, deskAt, used, keyAt, firstNumberAt, deskByte};
 ghost use Rattle.ledger_convert.specs.Old.{headerRight, validKeys, differentKeys, firstNumbers, unusedZero, deskRight, right};
 ghost use Rattle.ledger_convert.specs.inner.Sized.{Sized};
+ghost use Rattle.ledger_sheet.specs.Sheet.{keyStart};
+ghost use Rattle.ledger_changes.specs.inner.Rows.{rowValueAt};
 
 // An old row: key, first number, ticks.
 const FIRST_AT: usize = sheet::KEY;
@@ -99,6 +102,15 @@ fn first_at(s: &[u8], a: usize) -> u32
     ensures { λ r. ⌜ r ≡ firstNumberAt (now (s .entry)) a ⌝ }
 {
     read_be(s, a + FIRST_AT, sheet::FIRST) as u32
+}
+
+// The row or the copy at offset a, as a value. A new row, from its key on, is laid out as an old one: so an old row is read as the new
+// one whose used word would stand before its key.
+pub fn read_row(s: &[u8], a: usize) -> Row
+    requires { ⌜ (keyStart ≤ a) × (a + rowSize ≤ length (now s)) ⌝ }
+    ensures { λ r. ⌜ r ≡ rowValueAt (now (s .entry)) (a - keyStart) ⌝ }
+{
+    rows::read_row(s, a - sheet::KEY_AT)
 }
 
 // Whether the used rows have valid, different keys and first numbers of their streams. Each key is read once.

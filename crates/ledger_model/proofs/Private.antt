@@ -205,5 +205,6 @@ seen ticked = (Enrol 7 1 ⇒ atRow 0) ∷ (Open 0 0 ⇒ done) ∷ (Save 0 ⇒ do
 pub save-shows : (unmarked 0 (shown (Mark true 0 1 ∷ [])) ≡ unmarked 0 (shown []))
     × (unmarkedLog 0 (run fresh (shown (Mark true 0 1 ∷ [])) .log) ≡ seen 1)
     × (unmarkedLog 0 (run fresh (shown []) .log) ≡ seen 0)
-unfolding only marks run step refusals judge effect asked afterRefusal validKey modulus position noTicks hasKey allUsed lowestFree same size missing anyTicked least
+unfolding only marks run step refusals judge effect asked afterRefusal validKey modulus position noTicks hasKey allUsed lowestFree same size missing
+    anyTicked least
 save-shows = (refl, refl, refl)

@@ -308,5 +308,6 @@ example =
 pub example-13 : (savedTicks (run fresh example .log) ≡ 2)
     × (savedUnticks (run fresh example .log) ≡ 1)
     × (ticked (run fresh example .book .places) ≡ 1)
-unfolding run step refusals judge effect afterRefusal validKey modulus position noTicks same size hasKey allUsed lowestFree anyHasOpen noted transactionFrom openedBy lastOpened only marked strikes struckIn counted savedFrom ticked
+unfolding run step refusals judge effect afterRefusal validKey modulus position noTicks same size hasKey allUsed lowestFree anyHasOpen noted
+    transactionFrom openedBy lastOpened only marked strikes struckIn counted savedFrom ticked
 example-13 = (refl, refl, refl)

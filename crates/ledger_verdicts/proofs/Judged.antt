@@ -2,14 +2,14 @@
 -- holds, so what the functions on a right sheet ask is so. Assumes nothing.
 use Prim.Native.Nat.{ℕ, _<_}
 use native.Mathlib.Omega.{arith}
-use mathlib.Core.Bool.{true, not}
+use mathlib.Core.Bool.{Bool, true, false, not}
 use mathlib.Core.List.{List, [], _∷_}
-use mathlib.Core.Path.{_≡_, sym, ap, _∙_}
+use mathlib.Core.Path.{_≡_, refl, sym, ap, _∙_}
 use lib.ListN.{length}
 use borrow.Author.Tests.{not-false, ne-eqb, eqb-false, ltb-true}
 use Rattle.refusals.specs.declared.Refusal.{Refusal}
 use Rattle.refusals.specs.Table.{numberOf}
-use Rattle.refusals.specs.Judge.{Rule, verdict}
+use Rattle.refusals.specs.Judge.{Rule, _when_, judge, verdict}
 use Rattle.refusals.proofs.Laws.{number-positive}
 use Rattle.refusals.proofs.Judged.{NoneHolds, Numbered, verdict-none}
 use Rattle.ledger_sheet.specs.Sheet.{sheetSize, rowCount, deskCount, used, isUsed, deskRow, right}
@@ -19,7 +19,7 @@ use Rattle.ledger_rows.proofs.Scans.{lowest-within}
 use Rattle.ledger_verdicts.specs.declared.Verdict.{Verdict}
 use Rattle.ledger_verdicts.specs.declared.Verdict.the-variants as Case
 use Rattle.ledger_sheet.proofs.Clauses.{right-parts, row-parts, count-some, open-row}
-use Rattle.ledger_verdicts.specs.inner.Verdicts.{enrolRows, findRows, openRows, deskRows, reportRows, strikeRows, verdictNumber}
+use Rattle.ledger_verdicts.specs.inner.Verdicts.{notSheet, enrolRows, findRows, openRows, deskRows, rowRows, strikeRows, verdictNumber}
 
 -- the number that a verdict gives, or 0
 module _ (rows : List (Rule ℕ)) {v : Verdict} (e : verdictNumber v ≡ verdict rows) where
@@ -31,6 +31,61 @@ module _ (rows : List (Rule ℕ)) {v : Verdict} (e : verdictNumber v ≡ verdict
 
   none-holds : Numbered rows → v ≡ Case.Fine → NoneHolds rows
   none-holds n g = verdict-none rows n (none-is g)
+
+-- ---- the two rules that a call begins with: the sheet's, and that of the key, the desk or the row that it names
+
+abbrev given : Rule ℕ → ℕ
+given (n when c) = n
+
+abbrev holds : Rule ℕ → Bool
+holds (n when c) = c
+
+-- where neither holds, the sheet is right
+pub record Begun (s : List ℕ) (rule : Rule ℕ) : Type 0 where
+  pub right-is : right s ≡ true
+  pub long : length s ≡ sheetSize
+  pub passed : holds rule ≡ false
+
+module _ (s : List ℕ) {fine : Bool} (is : fine ≡ right s) (rule : Rule ℕ) {v : Verdict} (e : verdictNumber v ≡ verdict (notSheet fine ∷ rule ∷ [])) where
+  pub begun : 0 < given rule → v ≡ Case.Fine → Begun s rule
+  begun p g = by rule e p
+    where
+      by : (rule : Rule ℕ) → verdictNumber v ≡ verdict (notSheet fine ∷ rule ∷ []) → 0 < given rule → Begun s rule
+      by (n when c) e p =
+          let h = none-holds (notSheet fine ∷ (n when c) ∷ []) e (omega arith, (p, tt)) g in
+          let r = sym is ∙ not-false fine (h .0) in
+          record { right-is = r; long = right-parts s r .long; passed = h .1 .0 }
+
+  -- a refusal by these two is one by the whole list; where they refuse nothing, the others decide
+  pub refused-first : (q : Refusal) → v ≡ Case.Refused q → (more : List (Rule ℕ)) → verdictNumber v ≡ verdict (notSheet (right s) ∷ rule ∷ more)
+  unfolding judge
+  refused-first q g more = rw (← is) (e ∙ by fine rule (λ z. number-positive q (number-is (notSheet fine ∷ rule ∷ []) e q g ∙ z)))
+    where
+      by : (r : Bool) (rule : Rule ℕ) → (verdict (notSheet r ∷ rule ∷ []) ≡ 0 → ⊥) → verdict (notSheet r ∷ rule ∷ []) ≡ verdict (notSheet r ∷ rule ∷ more)
+      by false rule l = refl
+      by true (n when true) l = refl
+      by true (n when false) l = absurd (l refl)
+
+  pub accepted-first : 0 < given rule → v ≡ Case.Fine → (more : List (Rule ℕ)) → verdict (notSheet (right s) ∷ rule ∷ more) ≡ verdict more
+  unfolding judge
+  accepted-first p g more = let h = begun p g in rw (h .right-is) (by rule (h .passed))
+    where
+      by : (rule : Rule ℕ) → holds rule ≡ false → verdict (rule ∷ more) ≡ verdict more
+      by (n when c) l = rw l
+
+-- one rule more
+module _ (n : ℕ) {c : Bool} (more : List (Rule ℕ)) where
+  pub stops : c ≡ true → verdict ((n when c) ∷ more) ≡ n
+  unfolding judge
+  stops h = rw h
+
+  pub passes : c ≡ false → verdict ((n when c) ∷ more) ≡ verdict more
+  unfolding judge
+  passes h = rw h
+
+pub none-left : verdict [] ≡ 0
+unfolding judge
+none-left = refl
 
 -- ---- the call that these rows judge
 
@@ -82,9 +137,9 @@ module _ (s : List ℕ) {v : Verdict} where
       let d = ltb-true _ _ (not-false _ (h .1 .0)) in
       (long s r, d, row-parts s (deskRow s desk) (open-row s desk r d (h .1 .1 .0)) .0)
 
-  pub report-fine : (row : ℕ) → verdictNumber v ≡ verdict (reportRows row s) → v ≡ Case.Fine → (length s ≡ sheetSize) × (row < rowCount)
-  report-fine row e g =
-      let h = none-holds (reportRows row s) e (omega arith, (omega arith, tt)) g in
+  pub row-fine : (row : ℕ) → verdictNumber v ≡ verdict (rowRows row s) → v ≡ Case.Fine → (length s ≡ sheetSize) × (row < rowCount)
+  row-fine row e g =
+      let h = none-holds (rowRows row s) e (omega arith, (omega arith, tt)) g in
       (long s (not-false (right s) (h .0)), row-parts s row (not-false _ (h .1 .0)) .0)
 
   -- a row that there is makes the header's count positive

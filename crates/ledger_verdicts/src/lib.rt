@@ -1,5 +1,6 @@
-// Whether a call of the ledger is refused, judged in the order of the refusal table. Nothing is changed. A call that may be made again and
-// again is handed whether the sheet is right: one that such a call left is.
+// Whether a call of the ledger is refused, judged in the order of the refusal table. Nothing is changed. Each verdict is handed whether the sheet
+// is right: one that a call has left is, so that calls made one after the other need one check. Every call begins with 20 and the rule of what
+// it names, a key, a desk or a row.
 use ledger_rows::free_row;
 use ledger_rows::has_key;
 use ledger_rows::is_closed;
@@ -7,12 +8,12 @@ use ledger_rows::is_idle;
 use ledger_sheet::DESKS;
 use ledger_sheet::ROWS;
 use ledger_sheet::right::is_row;
-use ledger_sheet::right::is_sheet;
 use refusals::Refusal;
 ghost use mathlib.Core.Path.{_≡_};
 ghost use Rattle.refusals.specs.Judge.{verdict};
 ghost use Rattle.ledger_sheet.specs.Sheet.{right};
-ghost use Rattle.ledger_verdicts.specs.inner.Verdicts.{enrolRows, findRows, openRows, deskRows, reportRows, strikeRows, verdictNumber};
+ghost use Rattle.ledger_verdicts.specs.inner.Verdicts.{keyRows, enrolRows, findRows, deskNumberRows, openRows, deskRows, rowRows, strikeRows};
+ghost use Rattle.ledger_verdicts.specs.inner.Verdicts.{verdictNumber};
 
 // What a call is judged: it may be made, or it is refused.
 pub enum Verdict {
@@ -20,15 +21,26 @@ pub enum Verdict {
     Refused(Refusal),
 }
 
-pub fn enrol_verdict(s: &[u8], fine: bool, key: u64, first: u32) -> Verdict
-    requires { ⌜ fine ≡ right (now s) ⌝ }
-    ensures { λ r. ⌜ verdictNumber r ≡ verdict (enrolRows key first (now (s .entry))) ⌝ }
+// Of a call with a key: 20, 22.
+fn key_verdict(fine: bool, key: u64) -> Verdict
+    ensures { λ r. ⌜ verdictNumber r ≡ verdict (keyRows fine key) ⌝ }
 {
     if !fine {
         return Verdict::Refused(Refusal::NotSheet);
     }
     if !keys::valid(key) {
         return Verdict::Refused(Refusal::BadKey);
+    }
+    Verdict::Fine
+}
+
+pub fn enrol_verdict(s: &[u8], fine: bool, key: u64, first: u32) -> Verdict
+    requires { ⌜ fine ≡ right (now s) ⌝ }
+    ensures { λ r. ⌜ verdictNumber r ≡ verdict (enrolRows key first (now (s .entry))) ⌝ }
+{
+    let judged = key_verdict(fine, key);
+    if let Verdict::Refused(_) = judged {
+        return judged;
     }
     if !keys::is_number(key, first) {
         return Verdict::Refused(Refusal::FirstNumber);
@@ -42,17 +54,29 @@ pub fn enrol_verdict(s: &[u8], fine: bool, key: u64, first: u32) -> Verdict
     Verdict::Fine
 }
 
-pub fn find_verdict(s: &[u8], key: u64) -> Verdict
+pub fn find_verdict(s: &[u8], fine: bool, key: u64) -> Verdict
+    requires { ⌜ fine ≡ right (now s) ⌝ }
     ensures { λ r. ⌜ verdictNumber r ≡ verdict (findRows key (now (s .entry))) ⌝ }
 {
-    if !is_sheet(s) {
-        return Verdict::Refused(Refusal::NotSheet);
-    }
-    if !keys::valid(key) {
-        return Verdict::Refused(Refusal::BadKey);
+    let judged = key_verdict(fine, key);
+    if let Verdict::Refused(_) = judged {
+        return judged;
     }
     if !has_key(s, key) {
         return Verdict::Refused(Refusal::NoRow);
+    }
+    Verdict::Fine
+}
+
+// Of a call by a desk: 20, 21.
+fn desk_number_verdict(fine: bool, desk: u32) -> Verdict
+    ensures { λ r. ⌜ verdictNumber r ≡ verdict (deskNumberRows fine desk) ⌝ }
+{
+    if !fine {
+        return Verdict::Refused(Refusal::NotSheet);
+    }
+    if desk as usize >= DESKS {
+        return Verdict::Refused(Refusal::NoDesk);
     }
     Verdict::Fine
 }
@@ -61,11 +85,9 @@ pub fn open_verdict(s: &[u8], fine: bool, desk: u32, row: u32) -> Verdict
     requires { ⌜ fine ≡ right (now s) ⌝ }
     ensures { λ r. ⌜ verdictNumber r ≡ verdict (openRows desk row (now (s .entry))) ⌝ }
 {
-    if !fine {
-        return Verdict::Refused(Refusal::NotSheet);
-    }
-    if desk as usize >= DESKS {
-        return Verdict::Refused(Refusal::NoDesk);
+    let judged = desk_number_verdict(fine, desk);
+    if let Verdict::Refused(_) = judged {
+        return judged;
     }
     if !is_row(s, row as usize) {
         return Verdict::Refused(Refusal::NoRow);
@@ -81,11 +103,9 @@ pub fn desk_verdict(s: &[u8], fine: bool, desk: u32) -> Verdict
     requires { ⌜ fine ≡ right (now s) ⌝ }
     ensures { λ r. ⌜ verdictNumber r ≡ verdict (deskRows desk (now (s .entry))) ⌝ }
 {
-    if !fine {
-        return Verdict::Refused(Refusal::NotSheet);
-    }
-    if desk as usize >= DESKS {
-        return Verdict::Refused(Refusal::NoDesk);
+    let judged = desk_number_verdict(fine, desk);
+    if let Verdict::Refused(_) = judged {
+        return judged;
     }
     if is_closed(s, desk as usize) {
         return Verdict::Refused(Refusal::DeskClosed);
@@ -93,10 +113,12 @@ pub fn desk_verdict(s: &[u8], fine: bool, desk: u32) -> Verdict
     Verdict::Fine
 }
 
-pub fn report_verdict(s: &[u8], row: u32) -> Verdict
-    ensures { λ r. ⌜ verdictNumber r ≡ verdict (reportRows row (now (s .entry))) ⌝ }
+// Of a call on a row: 20, 25. Row report has no other.
+pub fn row_verdict(s: &[u8], fine: bool, row: u32) -> Verdict
+    requires { ⌜ fine ≡ right (now s) ⌝ }
+    ensures { λ r. ⌜ verdictNumber r ≡ verdict (rowRows row (now (s .entry))) ⌝ }
 {
-    if !is_sheet(s) {
+    if !fine {
         return Verdict::Refused(Refusal::NotSheet);
     }
     if !is_row(s, row as usize) {
@@ -109,11 +131,9 @@ pub fn strike_verdict(s: &[u8], fine: bool, row: u32) -> Verdict
     requires { ⌜ fine ≡ right (now s) ⌝ }
     ensures { λ r. ⌜ verdictNumber r ≡ verdict (strikeRows row (now (s .entry))) ⌝ }
 {
-    if !fine {
-        return Verdict::Refused(Refusal::NotSheet);
-    }
-    if !is_row(s, row as usize) {
-        return Verdict::Refused(Refusal::NoRow);
+    let judged = row_verdict(s, fine, row);
+    if let Verdict::Refused(_) = judged {
+        return judged;
     }
     if !is_idle(s, row as usize) {
         return Verdict::Refused(Refusal::RowOpen);

@@ -48,7 +48,10 @@ module _ (calls : List Call) where
       ∙ ap (λ (x : List ℕ). map number (getD (layout (run fresh calls .book)) (rowAt 0 + ticksAt) 0 ∷ x)) reported
 
 pub worked : Agree table
-unfolding judge modulus numberAt bytesOf part put all sameAt hasKind kindOf labelLength recordLength blockType blockLength lengthInRange accepts readOne dataPart labelBytes block primaryBlock headBytes recordBytes signedByte recordNumber isLeap yearLength isYear isDay isRsrBand isBand inRange judgedBytes fault readHeaders validKey telemetryKeyCall position noTicks same size anyTicked missing least numberAtPosition hasKey placeWith allUsed lowestFree refusals effect afterRefusal step run rowBytes headerBytes bitsValue tickBytes placeBytes countUsed laid layout asked
+unfolding judge modulus numberAt bytesOf part put all sameAt hasKind kindOf labelLength recordLength blockType blockLength lengthInRange accepts
+    readOne dataPart labelBytes block primaryBlock headBytes recordBytes signedByte recordNumber isLeap yearLength isYear isDay isRsrBand isBand
+    inRange judgedBytes fault readHeaders validKey telemetryKeyCall position noTicks same size anyTicked missing least numberAtPosition hasKey
+    placeWith allUsed lowestFree refusals effect afterRefusal step run rowBytes headerBytes bitsValue tickBytes placeBytes countUsed laid layout asked
 worked = (
   refl,
   (

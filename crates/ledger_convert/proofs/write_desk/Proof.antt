@@ -3,7 +3,7 @@ use native.Mathlib.Omega.{arith}
 use mathlib.Core.Path.{_∙_}
 use lib.ListN.{length-set}
 use Rattle.ledger_changes.proofs.ReadBack.{length-row}
-use Rattle.ledger_convert.proofs.Laying.{desk-written}
+use Rattle.ledger_changes.proofs.Written.{desk-written}
 use borrow.Author.Needs.{needs}
 use Rattle.ledger_convert.proofs.write_desk.Statement.{statement}
 use Rattle.ledger_convert.proofs.write_desk.Tie as tie
@@ -55,8 +55,8 @@ returns c =
     let start = cleared .before .before in
     let pre = start .before .before .pre in
     let place = start .desk-at .ensures in
-    desk-written _ _ _ _ _ (pre .0 .0) (pre .0 .1) (length-row _ _ _ (pre .1 .0)) (length-row _ _ _ (pre .1 .1)) (rw place at (cleared .clear .ensures))
-    (rw place at (opened .write-row .ensures)) (rw place at (c .before .before .write-row2 .ensures))
+    desk-written _ _ _ (pre .0 .0) (pre .0 .1) (rw place at (cleared .clear .ensures)) _ (length-row _ _ _ (pre .1 .0))
+    (rw place at (opened .write-row .ensures)) _ (length-row _ _ _ (pre .1 .1)) (rw place at (c .before .before .write-row2 .ensures))
 
 pub write-desk-spec : {M : Type 1} → statement M
 write-desk-spec =

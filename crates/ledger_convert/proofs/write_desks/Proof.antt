@@ -1,10 +1,10 @@
 -- `write_desks` meets its contract. The invariant: the first d desks are laid out. Assumes nothing.
-use Prim.Native.Nat.{_≤_, _-_, _*_, _+_}
+use Prim.Native.Nat.{_≤_, _-_, _+_}
 use mathlib.Core.Path.{_≡_}
 use mathlib.Core.Logic.{⊎-elim}
 use native.Mathlib.Omega.{arith}
 use borrow.Author.Tests.{eq-eqb, ne-eqb}
-use Rattle.ledger_sheet.specs.Sheet.{usedWordSize, rowCount, deskCount, openedAt}
+use Rattle.ledger_sheet.specs.Sheet.{keyStart, rowCount, deskCount, openedAt}
 use Rattle.ledger_convert.specs.Old as Old
 use Rattle.ledger_convert.specs.inner.Laid.{Laid}
 use Rattle.ledger_convert.proofs.Read.{long, value-ticks}
@@ -33,9 +33,6 @@ shared-slice-read-if1 c =
 add-read-row : tie.Need-add-read-row Inv-loop μ-loop
 add-read-row c = omega arith
 
-sub-read-row : tie.Need-sub-read-row Inv-loop μ-loop
-sub-read-row c = omega arith
-
 read-row-requires : tie.Need-read-row-requires Inv-loop μ-loop
 read-row-requires c κs =
     let start = c .before .before .before .before .before .before .before in
@@ -43,9 +40,6 @@ read-row-requires c κs =
 
 add-read-row-2 : tie.Need-add-read-row-2 Inv-loop μ-loop
 add-read-row-2 c = omega arith
-
-sub-read-row-2 : tie.Need-sub-read-row-2 Inv-loop μ-loop
-sub-read-row-2 c = omega arith
 
 read-row-requires-2 : tie.Need-read-row-requires-2 Inv-loop μ-loop
 read-row-requires-2 c κs =
@@ -94,7 +88,7 @@ loop-again c =
       omega arith,
       rw (w .8)
           (desk-laid old (turn .loop .new) rowCount d (turn .loop .inv .1) _ _ (omega arith)
-          (desk-copied old right bytes d (from + openedAt - usedWordSize) (from + Old.workedAt - usedWordSize) (omega arith)
+          (desk-copied old right bytes d (from + openedAt - keyStart) (from + Old.workedAt - keyStart) (omega arith)
           (ne-eqb _ _ (rw desk at (w .0 .taken))) (omega arith) (omega arith) _ _ (w .1 .ensures) (w .2 .ensures))
           (rw desk at (w .5 .ensures))),
     ))
@@ -119,10 +113,8 @@ write-desks-spec =
     desk-at-requires
     shared-slice-read-if1
     add-read-row
-    sub-read-row
     read-row-requires
     add-read-row-2
-    sub-read-row-2
     read-row-requires-2
     add-write-desk
     shared-slice-read-write-desk

@@ -1,8 +1,8 @@
 -- `write_rows` meets its contract. The invariant: the first i rows are laid out. Assumes nothing.
-use Prim.Native.Nat.{_≤_, _-_, _*_, _+_}
+use Prim.Native.Nat.{_≤_, _-_}
 use mathlib.Core.Path.{_≡_}
 use native.Mathlib.Omega.{arith}
-use Rattle.ledger_sheet.specs.Sheet.{usedWordSize}
+use Rattle.ledger_sheet.specs.Sheet.{keyStart}
 use Rattle.ledger_convert.specs.Old as Old
 use Rattle.ledger_convert.specs.inner.Laid.{Laid}
 use Rattle.ledger_convert.proofs.Read.{few, long, value-ticks}
@@ -24,9 +24,6 @@ row-at-requires : tie.Need-row-at-requires Inv-loop μ-loop
 row-at-requires c κs =
     let start = c .before .before .before .before in
     omega (arith, few (start .args .old .now) (start .pre .0 .0), start .pre .0 .1)
-
-sub-read-row : tie.Need-sub-read-row Inv-loop μ-loop
-sub-read-row c = omega arith
 
 read-row-requires : tie.Need-read-row-requires Inv-loop μ-loop
 read-row-requires c κs =
@@ -68,7 +65,7 @@ loop-again c =
     let i = turn .i in (
       omega arith,
       row-laid old (turn .new) i 0 (turn .inv .1) _ _ (omega (arith, few old right, start .pre .0 .1))
-          (row-copied old right bytes i (from - usedWordSize) (omega (arith, start .pre .0 .1)) (omega arith) _ (read .read-row .ensures))
+          (row-copied old right bytes i (from - keyStart) (omega (arith, start .pre .0 .1)) (omega arith) _ (read .read-row .ensures))
           (rw (written .before .row-at2 .ensures) at (written .write-row .ensures)),
     )
 
@@ -89,7 +86,6 @@ write-rows-spec =
     μ-loop
     loop-holds
     row-at-requires
-    sub-read-row
     read-row-requires
     row-at-requires-2
     write-row-requires

@@ -10,7 +10,7 @@ use Rattle.ledger_sheet.specs.inner.Done.{done}
 use Rattle.ledger_changes.specs.inner.Bytes.{enrolAt, strikeAt, openAt, clearDesk, markDesk, saveAt}
 use Rattle.ledger_rows.specs.inner.Scans.{rowWith, freeRow}
 use Rattle.ledger_counts.specs.inner.Counts.{reportWords, gapFrom}
-use Rattle.ledger_verdicts.specs.inner.Verdicts.{enrolRows, findRows, openRows, deskRows, reportRows, strikeRows}
+use Rattle.ledger_verdicts.specs.inner.Verdicts.{enrolRows, findRows, openRows, deskRows, rowRows, strikeRows}
 
 -- Enrol: the stream at the lowest free row, with no ticks; the answer is the row.
 unfoldable pub enrolCall : (key first : ℕ) → List ℕ → Outcome
@@ -35,7 +35,7 @@ unfoldable pub dropCall : (d : ℕ) → List ℕ → Outcome
 dropCall d s = judged (deskRows d s) (done, clearDesk d s) s
 
 unfoldable pub reportCall : (row : ℕ) → List ℕ → Outcome
-reportCall row s = judged (reportRows row s) (reportWords s (rowAt row), s) s
+reportCall row s = judged (rowRows row s) (reportWords s (rowAt row), s) s
 
 unfoldable pub gapCall : List ℕ → Outcome
 gapCall s = judged ((20 when not (right s)) ∷ []) (gapFrom s 0 rowCount, s) s

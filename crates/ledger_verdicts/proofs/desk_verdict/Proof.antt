@@ -1,35 +1,45 @@
--- `ledger_verdicts::desk_verdict` meets its contract. Assumes nothing.
-use borrow.Author.Tests.{lt-ltb, le-ltb}
-use Rattle.octets.proofs.Laws.{failed, passed}
-use Rattle.refusals.specs.Judge.{judge}
-use Rattle.ledger_sheet.proofs.Clauses.{right-parts}
+-- `desk_verdict` meets its contract. Assumes nothing.
+use mathlib.Core.Path.{sym, _∙_}
+use borrow.Author.Tests.{not-false, ltb-true}
+use native.Mathlib.Omega.{arith}
+use borrow.Author.Needs.{needs}
+use Rattle.ledger_verdicts.proofs.Judged.{begun, refused-first, accepted-first, stops, passes, none-left}
 use Rattle.ledger_verdicts.proofs.desk_verdict.Statement.{statement}
 use Rattle.ledger_verdicts.proofs.desk_verdict.Tie as tie
 
-returns : tie.Need-returns
-unfolding judge
-returns c = rw (failed (c .before .before .pre) (c .if1 .taken))
+desk-number-verdict-requires : tie.Need-desk-number-verdict-requires
+desk-number-verdict-requires c κs = search needs
 
-returns-2 : tie.Need-returns-2
-unfolding judge
-returns-2 c = rw (passed (c .before .before .before .pre) (c .before .if1 .left), le-ltb _ _ (c .if2 .taken))
+enum-told : tie.Need-enum-told
+enum-told c = search needs
+
+returns : tie.Need-returns
+returns c =
+    let judged = c .before .before in
+    refused-first _ (judged .before .before .pre) _ (judged .desk-number-verdict .ensures) _ (c .enum-told .given .1) _
+
+enum-told-2 : tie.Need-enum-told-2
+enum-told-2 c = search needs
 
 is-closed-requires : tie.Need-is-closed-requires
-is-closed-requires c κs = (right-parts _ (passed (c .before .before .before .pre) (c .before .if1 .left)) .long, c .if2 .left)
+is-closed-requires c κs =
+    let judged = c .before .before in
+    let fine = begun _ (judged .before .before .pre) _ (judged .desk-number-verdict .ensures) (omega arith) (c .enum-told2 .given .1) in
+    (fine .long, ltb-true _ _ (not-false _ (fine .passed)))
+
+returns-2 : tie.Need-returns-2
+returns-2 c =
+    let told = c .before .before in
+    let judged = told .before .before in
+    sym (accepted-first _ (judged .before .before .pre) _ (judged .desk-number-verdict .ensures) (omega arith) (told .enum-told2 .given .1) _
+    ∙ stops _ _ (rw (c .before .is-closed .ensures) at (c .if1 .taken)))
 
 returns-3 : tie.Need-returns-3
-unfolding judge
 returns-3 c =
-    let there = c .before .before in
-    let right = there .before in
-    rw (passed (right .before .before .pre) (right .if1 .left), lt-ltb _ _ (there .if2 .left), ← c .before .is-closed .ensures, c .if3 .taken)
-
-returns-4 : tie.Need-returns-4
-unfolding judge
-returns-4 c =
-    let there = c .before .before in
-    let right = there .before in
-    rw (passed (right .before .before .pre) (right .if1 .left), lt-ltb _ _ (there .if2 .left), ← c .before .is-closed .ensures, c .if3 .left)
+    let told = c .before .before in
+    let judged = told .before .before in
+    sym (accepted-first _ (judged .before .before .pre) _ (judged .desk-number-verdict .ensures) (omega arith) (told .enum-told2 .given .1) _
+    ∙ passes _ _ (rw (c .before .is-closed .ensures) at (c .if1 .left)) ∙ none-left)
 
 pub desk-verdict-spec : {M : Type 1} → statement M
-desk-verdict-spec = tie.close (tie.spec returns returns-2 is-closed-requires returns-3 returns-4)
+desk-verdict-spec = tie.close (tie.spec desk-number-verdict-requires enum-told returns enum-told-2 is-closed-requires returns-2 returns-3)

@@ -1,65 +1,77 @@
--- `ledger_verdicts::open_verdict` meets its contract. Assumes nothing.
+-- `open_verdict` meets its contract. Assumes nothing.
+use mathlib.Core.Path.{sym, _∙_}
+use borrow.Author.Tests.{not-false, ltb-true}
 use native.Mathlib.Omega.{arith}
-use borrow.Author.Tests.{lt-ltb, le-ltb}
-use Rattle.octets.proofs.Laws.{failed, passed}
-use Rattle.refusals.specs.Judge.{judge}
-use Rattle.ledger_sheet.proofs.Clauses.{right-parts}
+use borrow.Author.Needs.{needs}
+use Rattle.ledger_sheet.specs.Sheet.{deskCount}
+use Rattle.ledger_verdicts.specs.inner.Verdicts.{noDesk}
+use Rattle.ledger_verdicts.proofs.Judged.{begun, refused-first, accepted-first, stops, passes, none-left}
 use Rattle.ledger_verdicts.proofs.open_verdict.Statement.{statement}
 use Rattle.ledger_verdicts.proofs.open_verdict.Tie as tie
 
-returns : tie.Need-returns
-unfolding judge
-returns c = rw (failed (c .before .before .pre) (c .if1 .taken))
+desk-number-verdict-requires : tie.Need-desk-number-verdict-requires
+desk-number-verdict-requires c κs = search needs
 
-returns-2 : tie.Need-returns-2
-unfolding judge
-returns-2 c = rw (passed (c .before .before .before .pre) (c .before .if1 .left), le-ltb _ _ (c .if2 .taken))
+enum-told : tie.Need-enum-told
+enum-told c = search needs
+
+returns : tie.Need-returns
+returns c =
+    let judged = c .before .before in
+    refused-first _ (judged .before .before .pre) _ (judged .desk-number-verdict .ensures) _ (c .enum-told .given .1) _
+
+enum-told-2 : tie.Need-enum-told-2
+enum-told-2 c = search needs
 
 is-row-requires : tie.Need-is-row-requires
-is-row-requires c κs = right-parts _ (passed (c .before .before .before .pre) (c .before .if1 .left)) .long
+is-row-requires c κs =
+    let judged = c .before .before in
+    begun _ (judged .before .before .pre) _ (judged .desk-number-verdict .ensures) (omega arith) (c .enum-told2 .given .1) .long
 
-returns-3 : tie.Need-returns-3
-unfolding judge
-returns-3 c =
-    let desk = c .before .before in
-    let right = desk .before in
-    rw (
-      passed (right .before .before .pre) (right .if1 .left),
-      lt-ltb _ _ (desk .if2 .left),
-      failed (c .before .is-row .ensures) (c .if3 .taken),
-    )
+returns-2 : tie.Need-returns-2
+returns-2 c =
+    let told = c .before .before in
+    let judged = told .before .before in
+    sym (accepted-first _ (judged .before .before .pre) _ (judged .desk-number-verdict .ensures) (omega arith) (told .enum-told2 .given .1) _
+    ∙ stops _ _ (rw (c .before .is-row .ensures) at (c .if1 .taken)))
 
 is-closed-requires : tie.Need-is-closed-requires
 is-closed-requires c κs =
-    let desk = c .before .before in
-    let right = desk .before in
-    (right-parts _ (passed (right .before .before .pre) (right .if1 .left)) .long, omega (arith, desk .if2 .left))
+    let told = c .before .before in
+    let judged = told .before .before in
+    let desk = judged .before .before .args .desk in
+    let fine = begun _ (judged .before .before .pre) (noDesk desk) (judged .desk-number-verdict .ensures) (omega arith) (told .enum-told2 .given .1) in
+    let there = ltb-true desk deskCount (not-false _ (fine .passed)) in
+    (fine .long, omega arith)
+
+returns-3 : tie.Need-returns-3
+returns-3 c =
+    let there = c .before .before in
+    let told = there .before .before in
+    let judged = told .before .before in
+    sym (accepted-first _ (judged .before .before .pre) _ (judged .desk-number-verdict .ensures) (omega arith) (told .enum-told2 .given .1) _
+    ∙ passes _ _ (rw (there .before .is-row .ensures) at (there .if1 .left))
+    ∙ stops _ _ (rw (c .before .is-closed .ensures) at (c .if2 .taken)))
 
 returns-4 : tie.Need-returns-4
-unfolding judge
 returns-4 c =
     let there = c .before .before in
-    let desk = there .before .before in
-    let right = desk .before in
-    rw (
-      passed (right .before .before .pre) (right .if1 .left),
-      lt-ltb _ _ (desk .if2 .left),
-      passed (there .before .is-row .ensures) (there .if3 .left),
-      failed (c .before .is-closed .ensures) (c .if4 .taken),
-    )
-
-returns-5 : tie.Need-returns-5
-unfolding judge
-returns-5 c =
-    let there = c .before .before in
-    let desk = there .before .before in
-    let right = desk .before in
-    rw (
-      passed (right .before .before .pre) (right .if1 .left),
-      lt-ltb _ _ (desk .if2 .left),
-      passed (there .before .is-row .ensures) (there .if3 .left),
-      passed (c .before .is-closed .ensures) (c .if4 .left),
-    )
+    let told = there .before .before in
+    let judged = told .before .before in
+    sym (accepted-first _ (judged .before .before .pre) _ (judged .desk-number-verdict .ensures) (omega arith) (told .enum-told2 .given .1) _
+    ∙ passes _ _ (rw (there .before .is-row .ensures) at (there .if1 .left))
+    ∙ passes _ _ (rw (c .before .is-closed .ensures) at (c .if2 .left)) ∙ none-left)
 
 pub open-verdict-spec : {M : Type 1} → statement M
-open-verdict-spec = tie.close (tie.spec returns returns-2 is-row-requires returns-3 is-closed-requires returns-4 returns-5)
+open-verdict-spec =
+    tie.close
+    (tie.spec
+    desk-number-verdict-requires
+    enum-told
+    returns
+    enum-told-2
+    is-row-requires
+    returns-2
+    is-closed-requires
+    returns-3
+    returns-4)

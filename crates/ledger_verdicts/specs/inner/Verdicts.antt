@@ -1,7 +1,7 @@
 -- What a call of the ledger is refused for, read on the bytes of a sheet: rows of the refusal table, in the table's order. What a
 -- public call promises is said by the model, not by these. Assumes nothing.
 use Prim.Native.Nat.{ℕ}
-use mathlib.Core.Bool.{not}
+use mathlib.Core.Bool.{Bool, not}
 use mathlib.Core.List.{List, [], _∷_}
 use lib.Dec.{eqb, ltb}
 use Rattle.refusals.specs.Table.{numberOf}
@@ -13,35 +13,51 @@ use Rattle.ledger_rows.specs.inner.Scans.{hasKey, freeRow, noneHasOpen}
 use Rattle.ledger_verdicts.specs.declared.Verdict.{Verdict}
 use Rattle.ledger_verdicts.specs.declared.Verdict.the-variants as Case
 
+-- The rules that more than one call has: the sheet is not right, there is no such desk, the key is not valid, there is no such row.
+abbrev pub notSheet : (fine : Bool) → Rule ℕ
+notSheet fine = 20 when not fine
+
+abbrev pub noDesk : (desk : ℕ) → Rule ℕ
+noDesk desk = 21 when not (ltb desk deskCount)
+
+abbrev pub badKey : (key : ℕ) → Rule ℕ
+badKey key = 22 when not (validKey key)
+
+abbrev pub noRow : (row : ℕ) → List ℕ → Rule ℕ
+noRow row s = 25 when not (isRow s row)
+
+-- Calls with a key: what both begin with; enrol; find.
+abbrev pub keyRows : (fine : Bool) (key : ℕ) → List (Rule ℕ)
+keyRows fine key = notSheet fine ∷ badKey key ∷ []
+
 abbrev pub enrolRows : (key first : ℕ) → List ℕ → List (Rule ℕ)
 enrolRows key first s =
-    (20 when not (right s))
-    ∷ (22 when not (validKey key))
+    notSheet (right s)
+    ∷ badKey key
     ∷ (32 when not (isNumber key first))
     ∷ (23 when hasKey s key)
     ∷ (24 when eqb (freeRow s) rowCount)
     ∷ []
 
 abbrev pub findRows : (key : ℕ) → List ℕ → List (Rule ℕ)
-findRows key s = (20 when not (right s)) ∷ (22 when not (validKey key)) ∷ (25 when not (hasKey s key)) ∷ []
+findRows key s = notSheet (right s) ∷ badKey key ∷ (25 when not (hasKey s key)) ∷ []
+
+-- Calls by a desk: what all begin with; open; and tick, untick, save and drop, for which the desk must have a row open.
+abbrev pub deskNumberRows : (fine : Bool) (desk : ℕ) → List (Rule ℕ)
+deskNumberRows fine desk = notSheet fine ∷ noDesk desk ∷ []
 
 abbrev pub openRows : (desk row : ℕ) → List ℕ → List (Rule ℕ)
-openRows desk row s =
-    (20 when not (right s))
-    ∷ (21 when not (ltb desk deskCount))
-    ∷ (25 when not (isRow s row))
-    ∷ (26 when not (isClosed s desk))
-    ∷ []
+openRows desk row s = notSheet (right s) ∷ noDesk desk ∷ noRow row s ∷ (26 when not (isClosed s desk)) ∷ []
 
--- Tick, untick, save and drop: the desk must have a row open.
 abbrev pub deskRows : (desk : ℕ) → List ℕ → List (Rule ℕ)
-deskRows desk s = (20 when not (right s)) ∷ (21 when not (ltb desk deskCount)) ∷ (27 when isClosed s desk) ∷ []
+deskRows desk s = notSheet (right s) ∷ noDesk desk ∷ (27 when isClosed s desk) ∷ []
 
-abbrev pub reportRows : (row : ℕ) → List ℕ → List (Rule ℕ)
-reportRows row s = (20 when not (right s)) ∷ (25 when not (isRow s row)) ∷ []
+-- Calls on a row: what both begin with, and all of row report's; strike.
+abbrev pub rowRows : (row : ℕ) → List ℕ → List (Rule ℕ)
+rowRows row s = notSheet (right s) ∷ noRow row s ∷ []
 
 abbrev pub strikeRows : (row : ℕ) → List ℕ → List (Rule ℕ)
-strikeRows row s = (20 when not (right s)) ∷ (25 when not (isRow s row)) ∷ (36 when not (noneHasOpen s row)) ∷ []
+strikeRows row s = notSheet (right s) ∷ noRow row s ∷ (36 when not (noneHasOpen s row)) ∷ []
 
 -- The number of a verdict: the refusal's, or 0 where the call may be made.
 abbrev pub verdictNumber : Verdict → ℕ

@@ -62,7 +62,7 @@ returns c =
     let desk = start .desk-at .ensures in
     let row = cleared .before .before .row-at .ensures in
     let pre = start .before .before .pre in
-    open-written _ _ _ (pre .0) (pre .1) (pre .2) (rw desk at (cleared .clear .ensures)) (rw (desk, row) at (copied .copy .ensures))
+    open-written _ _ _ (pre .0) (pre .1) (rw desk at (cleared .clear .ensures)) (pre .2) (rw (desk, row) at (copied .copy .ensures))
     (rw (desk, row) at (c .before .before .copy2 .ensures))
 
 pub open-desk-spec : {M : Type 1} → statement M
