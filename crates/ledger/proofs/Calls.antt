@@ -19,18 +19,18 @@ use Rattle.ledger_layout.proofs.Judged.{refuses, passes, accepts}
 use Rattle.ledger_layout.specs.Layout.{call, onSheet}
 use Rattle.ledger_layout.proofs.Sheets.{call-law}
 use Rattle.ledger_verdicts.proofs.Judged.{Law}
-use Rattle.ledger_verdicts.specs.inner.Verdicts.{enrolRows, findRows, openRows, deskRows, rowRows, strikeRows}
+use Rattle.ledger_verdicts.specs.inner.Verdicts.{enrolRules, findRules, openRules, deskRules, rowRules, strikeRules}
 
-abbrev pub rowsOf : Call → List ℕ → List (Rule ℕ)
-rowsOf (Enrol key first) s = enrolRows key first s
-rowsOf (Ask (Find key)) s = findRows key s
-rowsOf (Ask (RowReport r)) s = rowRows r s
-rowsOf (Ask FirstGap) s = (20 when not (right s)) ∷ []
-rowsOf (Open d r) s = openRows d r s
-rowsOf (Mark flag d n) s = deskRows d s
-rowsOf (Save d) s = deskRows d s
-rowsOf (Drop d) s = deskRows d s
-rowsOf (Strike r) s = strikeRows r s
+abbrev pub rulesOf : Call → List ℕ → List (Rule ℕ)
+rulesOf (Enrol key first) s = enrolRules key first s
+rulesOf (Ask (Find key)) s = findRules key s
+rulesOf (Ask (RowReport r)) s = rowRules r s
+rulesOf (Ask FirstGap) s = (20 when not (right s)) ∷ []
+rulesOf (Open d r) s = openRules d r s
+rulesOf (Mark flag d n) s = deskRules d s
+rulesOf (Save d) s = deskRules d s
+rulesOf (Drop d) s = deskRules d s
+rulesOf (Strike r) s = strikeRules r s
 
 abbrev pub outcomeOf : Call → List ℕ → Outcome
 outcomeOf (Enrol key first) s = (0 ∷ freeRow s ∷ [], enrolAt (freeRow s) key first s)
@@ -43,7 +43,7 @@ outcomeOf (Save d) s = saveAt d s
 outcomeOf (Drop d) s = (done, clearDesk d s)
 outcomeOf (Strike r) s = (done, strikeAt r s)
 
-pub by-rows : (c : Call) (s : List ℕ) → Bytes s → Law (rowsOf c s) (outcomeOf c s) s (onSheet (call c) s)
+pub by-rows : (c : Call) (s : List ℕ) → Bytes s → Law (rulesOf c s) (outcomeOf c s) s (onSheet (call c) s)
 unfolding enrolCall findCall reportCall gapCall openCall markCall saveCall dropCall strikeCall
 by-rows (Enrol key first) s bytes = record { same = call-law (Enrol key first) s bytes }
 by-rows (Ask (Find key)) s bytes = record { same = call-law (Ask (Find key)) s bytes }

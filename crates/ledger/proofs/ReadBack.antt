@@ -18,7 +18,7 @@ use Rattle.ledger_sheet.specs.Words.{rowWords}
 use Rattle.ledger_sheet.specs.declared.RowAnswer.the-variants as R
 use Rattle.ledger_changes.proofs.ReadBack.{enrolled-blank}
 use Rattle.ledger_layout.specs.Layout.{call, onSheet}
-use Rattle.ledger_verdicts.specs.inner.Verdicts.{enrolRows}
+use Rattle.ledger_verdicts.specs.inner.Verdicts.{enrolRules}
 use Rattle.ledger_verdicts.specs.declared.Verdict.the-variants as Case
 use Rattle.ledger_verdicts.proofs.Judged.{enrol-fine}
 use Rattle.ledger.proofs.Calls.{by-rows}
@@ -29,7 +29,7 @@ unfolding judged
 enrol-reads-back s t key first row bytes k f e = by (eqb (verdict rows) 0) refl
   where
     rows : List (Rule ℕ)
-    rows = enrolRows key first s
+    rows = enrolRules key first s
 
     done : _≡_ {A = Outcome} (0 ∷ row ∷ [], t) (judged rows (0 ∷ freeRow s ∷ [], enrolAt (freeRow s) key first s) s)
     done = e ∙ sym (by-rows (Enrol key first) s bytes .same)

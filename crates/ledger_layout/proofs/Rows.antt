@@ -24,7 +24,7 @@ use Rattle.ledger_rows.specs.Ticks.{tickedAt, ticksOf}
 use Rattle.ledger_changes.specs.Rows.{rowBytes}
 use Rattle.ledger_changes.specs.inner.Rows.{setTick, clearTick}
 use Rattle.ledger_sheet.specs.Outcome.{judged}
-use Rattle.ledger_changes.specs.inner.Bytes.{marked, markRows, markPosition, markRow}
+use Rattle.ledger_changes.specs.inner.Bytes.{marked, markRules, markPosition, markRow}
 use Rattle.ledger_changes.proofs.ReadBack.{length-row, row-word, row-key, row-first, row-ticks}
 use Rattle.ledger_layout.specs.Layout.{tickBytes, placeBytes}
 use Rattle.ledger_layout.proofs.Parts.{number-within, part-within}
@@ -164,11 +164,11 @@ module _ (key first : ℕ) (t : Positions) (ok : PlaceOk (row key first t)) wher
   marked-law false i c = clear-law i (c .in-row) (c .was-not)
 
   -- the row is refused a mark for what the set is
-  verdict-law : (flag : Bool) (i : ℕ) → verdict (markRows flag bytes i) ≡ markVerdict flag i t
+  verdict-law : (flag : Bool) (i : ℕ) → verdict (markRules flag bytes i) ≡ markVerdict flag i t
   unfolding judge markVerdict
   verdict-law flag i = by (inRow i) refl
     where
-      by : (x : Bool) → inRow i ≡ x → verdict (markRows flag bytes i) ≡ markVerdict flag i t
+      by : (x : Bool) → inRow i ≡ x → verdict (markRules flag bytes i) ≡ markVerdict flag i t
       by true e = rw (e, ticked i (ltb-true _ _ e))
       by false e = rw e
 

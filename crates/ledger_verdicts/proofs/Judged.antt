@@ -19,7 +19,7 @@ use Rattle.ledger_rows.proofs.Scans.{lowest-within}
 use Rattle.ledger_verdicts.specs.declared.Verdict.{Verdict}
 use Rattle.ledger_verdicts.specs.declared.Verdict.the-variants as Case
 use Rattle.ledger_sheet.proofs.Clauses.{right-parts, row-parts, count-some, open-row}
-use Rattle.ledger_verdicts.specs.inner.Verdicts.{notSheet, enrolRows, findRows, openRows, deskRows, rowRows, strikeRows, verdictNumber}
+use Rattle.ledger_verdicts.specs.inner.Verdicts.{notSheet, enrolRules, findRules, openRules, deskRules, rowRules, strikeRules, verdictNumber}
 
 -- the number that a verdict gives, or 0
 module _ (rows : List (Rule ℕ)) {v : Verdict} (e : verdictNumber v ≡ verdict rows) where
@@ -112,41 +112,41 @@ long : (s : List ℕ) → right s ≡ true → length s ≡ sheetSize
 long s r = right-parts s r .long
 
 module _ (s : List ℕ) {v : Verdict} where
-  pub enrol-fine : (key first : ℕ) → verdictNumber v ≡ verdict (enrolRows key first s) → v ≡ Case.Fine → (length s ≡ sheetSize) × (freeRow s < rowCount)
+  pub enrol-fine : (key first : ℕ) → verdictNumber v ≡ verdict (enrolRules key first s) → v ≡ Case.Fine → (length s ≡ sheetSize) × (freeRow s < rowCount)
   unfolding freeRow
   enrol-fine key first e g =
-      let h = none-holds (enrolRows key first s) e (omega arith, (omega arith, (omega arith, (omega arith, (omega arith, tt))))) g in
+      let h = none-holds (enrolRules key first s) e (omega arith, (omega arith, (omega arith, (omega arith, (omega arith, tt))))) g in
       (long s (not-false (right s) (h .0)), omega (arith, lowest-within rowCount (λ i. not (isUsed s i)), eqb-false (freeRow s) rowCount (h .1 .1 .1 .1 .0)))
 
-  pub find-fine : (key : ℕ) → verdictNumber v ≡ verdict (findRows key s) → v ≡ Case.Fine → (length s ≡ sheetSize) × (rowWith s key < rowCount)
+  pub find-fine : (key : ℕ) → verdictNumber v ≡ verdict (findRules key s) → v ≡ Case.Fine → (length s ≡ sheetSize) × (rowWith s key < rowCount)
   find-fine key e g =
-      let h = none-holds (findRows key s) e (omega arith, (omega arith, (omega arith, tt))) g in
+      let h = none-holds (findRules key s) e (omega arith, (omega arith, (omega arith, tt))) g in
       (long s (not-false (right s) (h .0)), ltb-true (rowWith s key) rowCount (not-false _ (h .1 .1 .0)))
 
-  pub open-fine : (desk row : ℕ) → verdictNumber v ≡ verdict (openRows desk row s) → v ≡ Case.Fine
+  pub open-fine : (desk row : ℕ) → verdictNumber v ≡ verdict (openRules desk row s) → v ≡ Case.Fine
       → (length s ≡ sheetSize) × (desk < deskCount) × (row < rowCount)
   open-fine desk row e g =
-      let h = none-holds (openRows desk row s) e (omega arith, (omega arith, (omega arith, (omega arith, tt)))) g in
+      let h = none-holds (openRules desk row s) e (omega arith, (omega arith, (omega arith, (omega arith, tt)))) g in
       (long s (not-false (right s) (h .0)), ltb-true _ _ (not-false _ (h .1 .0)), row-parts s row (not-false _ (h .1 .1 .0)) .0)
 
-  pub desk-fine : (desk : ℕ) → verdictNumber v ≡ verdict (deskRows desk s) → v ≡ Case.Fine
+  pub desk-fine : (desk : ℕ) → verdictNumber v ≡ verdict (deskRules desk s) → v ≡ Case.Fine
       → (length s ≡ sheetSize) × (desk < deskCount) × (deskRow s desk < rowCount)
   desk-fine desk e g =
-      let h = none-holds (deskRows desk s) e (omega arith, (omega arith, (omega arith, tt))) g in
+      let h = none-holds (deskRules desk s) e (omega arith, (omega arith, (omega arith, tt))) g in
       let r = not-false (right s) (h .0) in
       let d = ltb-true _ _ (not-false _ (h .1 .0)) in
       (long s r, d, row-parts s (deskRow s desk) (open-row s desk r d (h .1 .1 .0)) .0)
 
-  pub row-fine : (row : ℕ) → verdictNumber v ≡ verdict (rowRows row s) → v ≡ Case.Fine → (length s ≡ sheetSize) × (row < rowCount)
+  pub row-fine : (row : ℕ) → verdictNumber v ≡ verdict (rowRules row s) → v ≡ Case.Fine → (length s ≡ sheetSize) × (row < rowCount)
   row-fine row e g =
-      let h = none-holds (rowRows row s) e (omega arith, (omega arith, tt)) g in
+      let h = none-holds (rowRules row s) e (omega arith, (omega arith, tt)) g in
       (long s (not-false (right s) (h .0)), row-parts s row (not-false _ (h .1 .0)) .0)
 
   -- a row that there is makes the header's count positive
-  pub strike-fine : (row : ℕ) → verdictNumber v ≡ verdict (strikeRows row s) → v ≡ Case.Fine
+  pub strike-fine : (row : ℕ) → verdictNumber v ≡ verdict (strikeRules row s) → v ≡ Case.Fine
       → (length s ≡ sheetSize) × (row < rowCount) × (0 < used s)
   strike-fine row e g =
-      let h = none-holds (strikeRows row s) e (omega arith, (omega arith, (omega arith, tt))) g in
+      let h = none-holds (strikeRules row s) e (omega arith, (omega arith, (omega arith, tt))) g in
       let parts = right-parts s (not-false (right s) (h .0)) in
       let p = row-parts s row (not-false _ (h .1 .0)) in
       (parts .long, p .0, rw (parts .counted) at (count-some rowCount row (isUsed s) (p .0) (p .1)))

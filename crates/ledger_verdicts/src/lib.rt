@@ -12,7 +12,7 @@ use refusals::Refusal;
 ghost use mathlib.Core.Path.{_≡_};
 ghost use Rattle.refusals.specs.Judge.{verdict};
 ghost use Rattle.ledger_sheet.specs.Sheet.{right};
-ghost use Rattle.ledger_verdicts.specs.inner.Verdicts.{keyRows, enrolRows, findRows, deskNumberRows, openRows, deskRows, rowRows, strikeRows};
+ghost use Rattle.ledger_verdicts.specs.inner.Verdicts.{keyRules, enrolRules, findRules, deskNumberRules, openRules, deskRules, rowRules, strikeRules};
 ghost use Rattle.ledger_verdicts.specs.inner.Verdicts.{verdictNumber};
 
 // What a call is judged: it may be made, or it is refused.
@@ -23,7 +23,7 @@ pub enum Verdict {
 
 // Of a call with a key: 20, 22.
 fn key_verdict(fine: bool, key: u64) -> Verdict
-    ensures { λ r. ⌜ verdictNumber r ≡ verdict (keyRows fine key) ⌝ }
+    ensures { λ r. ⌜ verdictNumber r ≡ verdict (keyRules fine key) ⌝ }
 {
     if !fine {
         return Verdict::Refused(Refusal::NotSheet);
@@ -36,7 +36,7 @@ fn key_verdict(fine: bool, key: u64) -> Verdict
 
 pub fn enrol_verdict(s: &[u8], fine: bool, key: u64, first: u32) -> Verdict
     requires { ⌜ fine ≡ right (now s) ⌝ }
-    ensures { λ r. ⌜ verdictNumber r ≡ verdict (enrolRows key first (now (s .entry))) ⌝ }
+    ensures { λ r. ⌜ verdictNumber r ≡ verdict (enrolRules key first (now (s .entry))) ⌝ }
 {
     let judged = key_verdict(fine, key);
     if let Verdict::Refused(_) = judged {
@@ -56,7 +56,7 @@ pub fn enrol_verdict(s: &[u8], fine: bool, key: u64, first: u32) -> Verdict
 
 pub fn find_verdict(s: &[u8], fine: bool, key: u64) -> Verdict
     requires { ⌜ fine ≡ right (now s) ⌝ }
-    ensures { λ r. ⌜ verdictNumber r ≡ verdict (findRows key (now (s .entry))) ⌝ }
+    ensures { λ r. ⌜ verdictNumber r ≡ verdict (findRules key (now (s .entry))) ⌝ }
 {
     let judged = key_verdict(fine, key);
     if let Verdict::Refused(_) = judged {
@@ -70,7 +70,7 @@ pub fn find_verdict(s: &[u8], fine: bool, key: u64) -> Verdict
 
 // Of a call by a desk: 20, 21.
 fn desk_number_verdict(fine: bool, desk: u32) -> Verdict
-    ensures { λ r. ⌜ verdictNumber r ≡ verdict (deskNumberRows fine desk) ⌝ }
+    ensures { λ r. ⌜ verdictNumber r ≡ verdict (deskNumberRules fine desk) ⌝ }
 {
     if !fine {
         return Verdict::Refused(Refusal::NotSheet);
@@ -83,7 +83,7 @@ fn desk_number_verdict(fine: bool, desk: u32) -> Verdict
 
 pub fn open_verdict(s: &[u8], fine: bool, desk: u32, row: u32) -> Verdict
     requires { ⌜ fine ≡ right (now s) ⌝ }
-    ensures { λ r. ⌜ verdictNumber r ≡ verdict (openRows desk row (now (s .entry))) ⌝ }
+    ensures { λ r. ⌜ verdictNumber r ≡ verdict (openRules desk row (now (s .entry))) ⌝ }
 {
     let judged = desk_number_verdict(fine, desk);
     if let Verdict::Refused(_) = judged {
@@ -101,7 +101,7 @@ pub fn open_verdict(s: &[u8], fine: bool, desk: u32, row: u32) -> Verdict
 // Of a call by a desk that must have a row open.
 pub fn desk_verdict(s: &[u8], fine: bool, desk: u32) -> Verdict
     requires { ⌜ fine ≡ right (now s) ⌝ }
-    ensures { λ r. ⌜ verdictNumber r ≡ verdict (deskRows desk (now (s .entry))) ⌝ }
+    ensures { λ r. ⌜ verdictNumber r ≡ verdict (deskRules desk (now (s .entry))) ⌝ }
 {
     let judged = desk_number_verdict(fine, desk);
     if let Verdict::Refused(_) = judged {
@@ -116,7 +116,7 @@ pub fn desk_verdict(s: &[u8], fine: bool, desk: u32) -> Verdict
 // Of a call on a row: 20, 25. Row report has no other.
 pub fn row_verdict(s: &[u8], fine: bool, row: u32) -> Verdict
     requires { ⌜ fine ≡ right (now s) ⌝ }
-    ensures { λ r. ⌜ verdictNumber r ≡ verdict (rowRows row (now (s .entry))) ⌝ }
+    ensures { λ r. ⌜ verdictNumber r ≡ verdict (rowRules row (now (s .entry))) ⌝ }
 {
     if !fine {
         return Verdict::Refused(Refusal::NotSheet);
@@ -129,7 +129,7 @@ pub fn row_verdict(s: &[u8], fine: bool, row: u32) -> Verdict
 
 pub fn strike_verdict(s: &[u8], fine: bool, row: u32) -> Verdict
     requires { ⌜ fine ≡ right (now s) ⌝ }
-    ensures { λ r. ⌜ verdictNumber r ≡ verdict (strikeRows row (now (s .entry))) ⌝ }
+    ensures { λ r. ⌜ verdictNumber r ≡ verdict (strikeRules row (now (s .entry))) ⌝ }
 {
     let judged = row_verdict(s, fine, row);
     if let Verdict::Refused(_) = judged {

@@ -53,12 +53,12 @@ abbrev pub marked : Bool → List ℕ → ℕ → List ℕ
 marked on row i = cond on (setTick row 0 i) (clearTick row 0 i)
 
 -- The refusals that the row itself decides; 29 and 30 look at the worked copy.
-abbrev pub markRows : Bool → List ℕ → ℕ → List (Rule ℕ)
-markRows on row i = (28 when not (inRow i)) ∷ (alreadySo on when Bool·beq (tickedAt row 0 i) on) ∷ []
+abbrev pub markRules : Bool → List ℕ → ℕ → List (Rule ℕ)
+markRules on row i = (28 when not (inRow i)) ∷ (alreadySo on when Bool·beq (tickedAt row 0 i) on) ∷ []
 
 -- A tick or an untick of position i, and of number n, in a row's bytes.
 unfoldable pub markPosition : Bool → ℕ → List ℕ → Outcome
-markPosition on i row = judged (markRows on row i) (done, marked on row i) row
+markPosition on i row = judged (markRules on row i) (done, marked on row i) row
 
 unfoldable pub markRow : Bool → ℕ → List ℕ → Outcome
 markRow on n row = markPosition on (positionIn row n) row

@@ -27,11 +27,11 @@ abbrev pub noRow : (row : ℕ) → List ℕ → Rule ℕ
 noRow row s = 25 when not (isRow s row)
 
 -- Calls with a key: what both begin with; enrol; find.
-abbrev pub keyRows : (fine : Bool) (key : ℕ) → List (Rule ℕ)
-keyRows fine key = notSheet fine ∷ badKey key ∷ []
+abbrev pub keyRules : (fine : Bool) (key : ℕ) → List (Rule ℕ)
+keyRules fine key = notSheet fine ∷ badKey key ∷ []
 
-abbrev pub enrolRows : (key first : ℕ) → List ℕ → List (Rule ℕ)
-enrolRows key first s =
+abbrev pub enrolRules : (key first : ℕ) → List ℕ → List (Rule ℕ)
+enrolRules key first s =
     notSheet (right s)
     ∷ badKey key
     ∷ (32 when not (isNumber key first))
@@ -39,25 +39,25 @@ enrolRows key first s =
     ∷ (24 when eqb (freeRow s) rowCount)
     ∷ []
 
-abbrev pub findRows : (key : ℕ) → List ℕ → List (Rule ℕ)
-findRows key s = notSheet (right s) ∷ badKey key ∷ (25 when not (hasKey s key)) ∷ []
+abbrev pub findRules : (key : ℕ) → List ℕ → List (Rule ℕ)
+findRules key s = notSheet (right s) ∷ badKey key ∷ (25 when not (hasKey s key)) ∷ []
 
 -- Calls by a desk: what all begin with; open; and tick, untick, save and drop, for which the desk must have a row open.
-abbrev pub deskNumberRows : (fine : Bool) (desk : ℕ) → List (Rule ℕ)
-deskNumberRows fine desk = notSheet fine ∷ noDesk desk ∷ []
+abbrev pub deskNumberRules : (fine : Bool) (desk : ℕ) → List (Rule ℕ)
+deskNumberRules fine desk = notSheet fine ∷ noDesk desk ∷ []
 
-abbrev pub openRows : (desk row : ℕ) → List ℕ → List (Rule ℕ)
-openRows desk row s = notSheet (right s) ∷ noDesk desk ∷ noRow row s ∷ (26 when not (isClosed s desk)) ∷ []
+abbrev pub openRules : (desk row : ℕ) → List ℕ → List (Rule ℕ)
+openRules desk row s = notSheet (right s) ∷ noDesk desk ∷ noRow row s ∷ (26 when not (isClosed s desk)) ∷ []
 
-abbrev pub deskRows : (desk : ℕ) → List ℕ → List (Rule ℕ)
-deskRows desk s = notSheet (right s) ∷ noDesk desk ∷ (27 when isClosed s desk) ∷ []
+abbrev pub deskRules : (desk : ℕ) → List ℕ → List (Rule ℕ)
+deskRules desk s = notSheet (right s) ∷ noDesk desk ∷ (27 when isClosed s desk) ∷ []
 
 -- Calls on a row: what both begin with, and all of row report's; strike.
-abbrev pub rowRows : (row : ℕ) → List ℕ → List (Rule ℕ)
-rowRows row s = notSheet (right s) ∷ noRow row s ∷ []
+abbrev pub rowRules : (row : ℕ) → List ℕ → List (Rule ℕ)
+rowRules row s = notSheet (right s) ∷ noRow row s ∷ []
 
-abbrev pub strikeRows : (row : ℕ) → List ℕ → List (Rule ℕ)
-strikeRows row s = notSheet (right s) ∷ noRow row s ∷ (36 when not (noneHasOpen s row)) ∷ []
+abbrev pub strikeRules : (row : ℕ) → List ℕ → List (Rule ℕ)
+strikeRules row s = notSheet (right s) ∷ noRow row s ∷ (36 when not (noneHasOpen s row)) ∷ []
 
 -- The number of a verdict: the refusal's, or 0 where the call may be made.
 abbrev pub verdictNumber : Verdict → ℕ
