@@ -94,7 +94,8 @@ module _ (s : List ℕ) (d row : ℕ) (long : length s ≡ sheetSize) (desk : d 
     desk-written worked lw r = put-next s (deskAt d) (1 ∷ row ∷ 0 ∷ 0 ∷ opened) (deskAt d + workedAt) worked opened-written r (rw lo) (omega arith)
 
   -- both copies are the row, as it stands in the sheet while the desk is written
-  same-row : (w : List ℕ) → length w ≤ workedAt → row < rowCount → {x : List ℕ} → x ≡ put s (deskAt d) w → part x (rowAt row) rowSize ≡ part s (rowAt row) rowSize
+  same-row : (w : List ℕ) → length w ≤ workedAt → row < rowCount → {x : List ℕ} → x ≡ put s (deskAt d) w
+      → part x (rowAt row) rowSize ≡ part s (rowAt row) rowSize
   same-row w l used e = rw e (part-before s (deskAt d) w (rowAt row) rowSize (omega arith) (omega arith))
 
   pub open-written : row < rowCount → {u v : List ℕ} → u ≡ put t (deskAt d + openedAt) (part t (rowAt row) rowSize)

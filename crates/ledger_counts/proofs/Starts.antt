@@ -44,7 +44,8 @@ tail-bit k x n i e h l =
 
 -- a word that is not zero has a lowest one
 pub some-one : (k x : ℕ) → x < 2 ^ k → (x ≡ 0 → ⊥) → trailingZeros k x < k
-some-one k x l n = ⊎-elim (λ (e : trailingZeros k x ≡ k). absurd (n (trailing-all k x l e))) (λ (q : trailingZeros k x < k). q) (eq-or-lt-of-le (trailing-le k x))
+some-one k x l n =
+    ⊎-elim (λ (e : trailingZeros k x ≡ k). absurd (n (trailing-all k x l e))) (λ (q : trailingZeros k x < k). q) (eq-or-lt-of-le (trailing-le k x))
 
 -- ---- the positions of a word
 
