@@ -146,11 +146,12 @@ fn year_of(count: u32) -> TableYear
     if YEARS <= i {
         return year_at(i - 1);
     }
-    let found = year_at(i);
-    if count < found.start {
+    let start = table::entry(i);
+    if count < start {
         return year_at(i - 1);
     }
-    found
+    let year = FIRST_YEAR + years as u16;
+    TableYear { year, start }
 }
 
 // The date of a day count; refused past the last day of 3000.

@@ -30,33 +30,37 @@ returns c =
     let past = past-table _ _ (start .pre) (c .before .if1 .taken) in
     (rw (y .0) (mean-before _ _ (quotient 146097 _ (omega arith)) (start .pre) past), y .1)
 
-year-at-requires-2 : tie.Need-year-at-requires-2
-year-at-requires-2 c κs = search needs
+entry-requires : tie.Need-entry-requires
+entry-requires c κs = search needs
 
 -- The new year that the mean leads to is past the count.
-late : (c : tie.Then2) → let count = c .before .before .before .before .args .count in count < newYear (firstYear + (count * 400 + 496) / 146097)
-late c =
-    let y = c .before .before .year-at2 .ensures in
-    rw (y .1, y .0) at (c .if2 .taken)
+late : (c : tie.Then2) → let count = c .before .before .before .args .count in count < newYear (firstYear + (count * 400 + 496) / 146097)
+late c = rw (c .before .entry .ensures) at (c .if2 .taken)
 
 sub-year-at-2 : tie.Need-sub-year-at-2
 sub-year-at-2 c = not-first _ _ (late c)
 
-year-at-requires-3 : tie.Need-year-at-requires-3
-year-at-requires-3 c κs = search needs
+year-at-requires-2 : tie.Need-year-at-requires-2
+year-at-requires-2 c κs = search needs
 
 returns-2 : tie.Need-returns-2
 returns-2 c =
-    let start = c .before .before .before .before .before in
-    let y = c .year-at3 .ensures in
+    let start = c .before .before .before .before in
+    let y = c .year-at2 .ensures in
     (rw (y .0) (mean-before _ _ (quotient 146097 _ (omega arith)) (start .pre) (late (c .before))), y .1)
+
+cast-year : tie.Need-cast-year
+cast-year c = search needs
+
+add-year : tie.Need-add-year
+add-year c = search needs
 
 returns-3 : tie.Need-returns-3
 returns-3 c =
-    let start = c .before .before .before .before in
-    let y = c .before .before .year-at2 .ensures in
-    let begun = rw (y .1, y .0) at (c .if2 .left) in
-    (rw (y .0) (mean-year _ _ (quotient 146097 _ (omega arith)) (start .pre) begun), y .1)
+    let start = c .before .before .before in
+    let read = c .before .entry .ensures in
+    let begun = rw read at (c .if2 .left) in
+    (mean-year _ _ (quotient 146097 _ (omega arith)) (start .pre) begun, read)
 
 pub year-of-spec : {M : Type 1} → statement M
 year-of-spec =
@@ -68,8 +72,10 @@ year-of-spec =
     sub-year-at
     year-at-requires
     returns
-    year-at-requires-2
+    entry-requires
     sub-year-at-2
-    year-at-requires-3
+    year-at-requires-2
     returns-2
+    cast-year
+    add-year
     returns-3)
