@@ -10,7 +10,7 @@ use Rattle.refusals.specs.declared.Refusal.the-variants as Why
 use Rattle.refusals.specs.Table.{numberOf}
 use Rattle.refusals.proofs.Laws.{number-positive}
 use Rattle.refusals.proofs.Judged as Rules
-use Rattle.ledger_model.specs.Positions.{Positions, size, missing, least, numberAt}
+use Rattle.ledger_model.specs.Positions.{Positions, size, missing, least, positionNumber}
 use Rattle.ledger_model.specs.Book.{Place, free, row, Book, fresh, place, isFree}
 use Rattle.ledger_model.specs.Counts.{firstGapFrom}
 use Rattle.ledger_model.specs.Step.{Find, RowReport, FirstGap, Question, Call, Enrol, Ask, Open, Mark, Save, Drop, Strike}
@@ -96,7 +96,7 @@ unfolding asked
 report-told key first ticks none e =
     rw (e, least-none (missing ticks) e) (record { value = Report.Whole (size ticks); stands = refl; says = refl })
 report-told key first ticks (some i) e =
-    rw e (record { value = Report.Gaps (size ticks) (size (missing ticks)) (numberAt key first i); stands = refl; says = refl })
+    rw e (record { value = Report.Gaps (size ticks) (size (missing ticks)) (positionNumber key first i); stands = refl; says = refl })
 
 report : (r : ℕ) (b : Book) → Told reportAnswerOf Words.reportAnswerWords (step (Ask (RowReport r)) b .answer)
 unfolding refusals effect asked
@@ -119,7 +119,7 @@ gap-told r (row key first ticks ∷ ps) = by (least (missing ticks)) refl (gap-t
     by : (o : Option ℕ) → least (missing ticks) ≡ o → Told gapAnswerOf Words.gapWords (gave (firstGapFrom (suc r) ps))
         → Told gapAnswerOf Words.gapWords (gave (firstGapFrom r (row key first ticks ∷ ps)))
     by none e later = rw e later
-    by (some i) e later = rw e (record { value = G.Gap (numberAt key first i) r; stands = refl; says = refl })
+    by (some i) e later = rw e (record { value = G.Gap (positionNumber key first i) r; stands = refl; says = refl })
 
 gap : (b : Book) → Told gapAnswerOf Words.gapWords (step (Ask FirstGap) b .answer)
 unfolding effect asked

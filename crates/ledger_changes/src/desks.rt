@@ -37,14 +37,14 @@ fn write_header(s: &mut [u8], used: u64)
     write_be(s, sheet::ROW_COUNT_AT, sheet::NUMBER, sheet::ROWS as u64);
     write_be(
         s,
-        sheet::ROWS_START_AT,
+        sheet::ROWS_OFFSET_AT,
         sheet::NUMBER,
         sheet::ROWS_AT as u64,
     );
     write_be(s, sheet::DESK_COUNT_AT, sheet::NUMBER, sheet::DESKS as u64);
     write_be(
         s,
-        sheet::DESKS_START_AT,
+        sheet::DESKS_OFFSET_AT,
         sheet::NUMBER,
         sheet::DESKS_AT as u64,
     );

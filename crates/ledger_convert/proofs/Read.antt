@@ -19,7 +19,7 @@ use Rattle.octets.proofs.Parts.{same-part}
 use Rattle.ledger_sheet.specs.Sheet.{keyStart, rowSize, ticksAt, ticksSize}
 use Rattle.ledger_sheet.specs.Sheet as New
 use Rattle.ledger_sheet.specs.declared.Row.{Row}
-use Rattle.ledger_rows.specs.Ticks.{tickedAt, ticksOf}
+use Rattle.ledger_rows.specs.Ticks.{tickedAt, ticksIn}
 use Rattle.octets.specs.Lists.{table}
 use Rattle.ledger_changes.specs.Rows.{rowBytes}
 use Rattle.ledger_changes.specs.inner.Rows.{rowValueAt}
@@ -43,8 +43,8 @@ module _ (s : List ℕ) (a b : ℕ) (e : b + keyStart ≡ a) where
   pub old-first : New.firstNumberAt s b ≡ firstNumberAt s a
   old-first = let q : b + New.firstAt ≡ a + firstAt = omega arith in ap (λ (x : ℕ). numberAt s x firstSize) q
 
-  pub old-ticks : ticksOf s b ≡ oldTicksOf s a
-  unfolding ticksOf tickedAt oldTicksOf
+  pub old-ticks : ticksIn s b ≡ oldTicksOf s a
+  unfolding ticksIn tickedAt oldTicksOf
   old-ticks =
       table-is rowLength (tickedAt s b) (table rowLength (oldTickedAt s a)) false (length-table rowLength (oldTickedAt s a)) (λ i l.
       let q : (k : ℕ) → b + New.ticksAt + k ≡ a + Old.ticksAt + k = λ k. omega arith in

@@ -10,7 +10,7 @@ use borrow.Author.Tests.{not-true, not-false}
 use Rattle.ledger_model.specs.Positions.{rowLength, size, missing, least}
 use Rattle.ledger_model.proofs.Counts.{least-none}
 use Rattle.ledger_sheet.specs.Sheet.{rowAt, isUsed}
-use Rattle.ledger_rows.specs.Ticks.{tickedAt, ticksOf}
+use Rattle.ledger_rows.specs.Ticks.{tickedAt, ticksIn}
 use Rattle.ledger_rows.specs.inner.Scans.{lowest}
 use Rattle.ledger_counts.specs.inner.Counts.{pastHighest, numberAtPosition, reportWords, gapFrom}
 use Rattle.ledger_rows.proofs.Scans.{Each, lowest-holds, lowest-fails}
@@ -29,16 +29,16 @@ module _ (s : List ℕ) (a : ℕ) where
   end-within = top-of rowLength (tickedAt s a) .within
 
   -- ticked and missing positions are those below the end
-  pub row-count : size (ticksOf s a) + size (missing (ticksOf s a)) ≡ end
-  unfolding ticksOf
+  pub row-count : size (ticksIn s a) + size (missing (ticksIn s a)) ≡ end
+  unfolding ticksIn
   row-count = missing-count rowLength end (tickedAt s a) (top-of rowLength (tickedAt s a))
 
-  pub row-gap : (i : ℕ) → i < end → Each true (tickedAt s a) i → tickedAt s a i ≡ false → least (missing (ticksOf s a)) ≡ some i
-  unfolding ticksOf
+  pub row-gap : (i : ℕ) → i < end → Each true (tickedAt s a) i → tickedAt s a i ≡ false → least (missing (ticksIn s a)) ≡ some i
+  unfolding ticksIn
   row-gap i l h e = missing-lowest rowLength end i (tickedAt s a) (top-of rowLength (tickedAt s a)) l h e
 
-  pub row-whole : Each true (tickedAt s a) end → least (missing (ticksOf s a)) ≡ none
-  unfolding ticksOf
+  pub row-whole : Each true (tickedAt s a) end → least (missing (ticksIn s a)) ≡ none
+  unfolding ticksIn
   row-whole h = missing-none rowLength end (tickedAt s a) (top-of rowLength (tickedAt s a)) h
 
   -- where none is missing they are as many as there are positions below the end
@@ -46,19 +46,19 @@ module _ (s : List ℕ) (a : ℕ) where
   unfolding reportWords
   report-whole l =
       let none = row-whole (λ j q. not-false _ (lowest-fails end unticked j (omega arith))) in
-      let missed : size (missing (ticksOf s a)) ≡ 0 = least-none (missing (ticksOf s a)) none in
-      let ticked : size (ticksOf s a) ≡ end = omega (arith, row-count) in
+      let missed : size (missing (ticksIn s a)) ≡ 0 = least-none (missing (ticksIn s a)) none in
+      let ticked : size (ticksIn s a) ≡ end = omega (arith, row-count) in
       rw (none, missed, ticked)
 
   pub report-none : end ≡ 0 → 0 ∷ 0 ∷ 0 ∷ [] ≡ reportWords s a
   report-none e = rw e at (report-whole (omega arith))
 
   pub report-gaps : lowest end unticked < end
-      → 0 ∷ size (ticksOf s a) ∷ (end - size (ticksOf s a)) ∷ numberAtPosition s a (lowest end unticked) ∷ [] ≡ reportWords s a
+      → 0 ∷ size (ticksIn s a) ∷ (end - size (ticksIn s a)) ∷ numberAtPosition s a (lowest end unticked) ∷ [] ≡ reportWords s a
   unfolding reportWords
   report-gaps l =
       let at = row-gap (lowest end unticked) l (λ j q. not-false _ (lowest-fails end unticked j q)) (not-true _ (lowest-holds end unticked l)) in
-      let count : end - size (ticksOf s a) ≡ size (missing (ticksOf s a)) = omega (arith, row-count) in
+      let count : end - size (ticksIn s a) ≡ size (missing (ticksIn s a)) = omega (arith, row-count) in
       rw (at, count)
 
 -- ---- the first gap

@@ -12,7 +12,7 @@ use lib.Count.{trailingZeros, trailing-le}
 use lib.Dec.{ltb}
 use lib.Pow.{pow-pos, pow-add}
 use Rattle.ledger_model.specs.Positions.{rowLength, size}
-use Rattle.ledger_rows.specs.Ticks.{tickedAt, ticksOf}
+use Rattle.ledger_rows.specs.Ticks.{tickedAt, ticksIn}
 use Rattle.ledger_rows.proofs.Scans.{each-none, lowest-fails, lowest-here, lowest-none}
 use Rattle.ledger_counts.specs.inner.Counts.{pastHighest, numberAtPosition, reportWords}
 use Rattle.ledger_counts.specs.inner.Words.{wordBits, bitOf, IsWord, TickedFrom, StartsAt}
@@ -92,15 +92,15 @@ module _ (s : List ℕ) (a : ℕ) where
     last : pastHighest rowLength (tickedAt s a) ≡ rowLength
     last = past-here rowLength (tickedAt s a) (omega arith) (starts .ticked (rowLength - 1) (omega arith) (omega arith))
 
-    count : size (ticksOf s a) + r ≡ rowLength
-    unfolding ticksOf
+    count : size (ticksIn s a) + r ≡ rowLength
+    unfolding ticksIn
     count = size-from rowLength r (tickedAt s a) (omega arith) (starts .unticked) (starts .ticked)
 
     pub report-start : 0 < r → 0 ∷ (rowLength - r) ∷ r ∷ numberAtPosition s a 0 ∷ [] ≡ reportWords s a
     report-start some =
         let first = lowest-here rowLength 0 (λ i. not (tickedAt s a i)) (omega arith) (each-none _ _) (ap not (starts .unticked 0 some)) in
         let gaps = rw (last, first) at (report-gaps s a (rw (last, first) (omega arith))) in
-        let ticked : size (ticksOf s a) ≡ rowLength - r = omega (arith, count) in
+        let ticked : size (ticksIn s a) ≡ rowLength - r = omega (arith, count) in
         let missing : rowLength - (rowLength - r) ≡ r = omega arith in
         rw (ticked, missing) at gaps
 

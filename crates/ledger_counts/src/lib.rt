@@ -18,7 +18,7 @@ ghost use lib.Count.{ones};
 ghost use lib.ListN.{length};
 ghost use Rattle.ledger_model.specs.Positions.{rowLength, size};
 ghost use Rattle.ledger_sheet.specs.Sheet.{sheetSize, rowSize, rowCount, rowAt, isUsed};
-ghost use Rattle.ledger_rows.specs.Ticks.{tickedAt, ticksOf};
+ghost use Rattle.ledger_rows.specs.Ticks.{tickedAt, ticksIn};
 ghost use Rattle.ledger_rows.specs.inner.Scans.{lowest};
 ghost use Rattle.ledger_counts.specs.inner.Counts.{pastHighest, numberAtPosition, reportWords, gapFrom};
 ghost use Rattle.ledger_sheet.specs.Words.{reportAnswerWords, gapWords};
@@ -66,7 +66,7 @@ fn block_ones(first: u64, second: u64, third: u64, fourth: u64) -> u32
 // How many positions of the row at offset a are ticked: the ones of its words.
 fn ticked_count(s: &[u8], a: usize) -> u32
     requires { ⌜ a + rowSize ≤ length (now s) ⌝ }
-    ensures { λ r. ⌜ r ≡ size (ticksOf (now (s .entry)) a) ⌝ }
+    ensures { λ r. ⌜ r ≡ size (ticksIn (now (s .entry)) a) ⌝ }
 {
     let mut count: u32 = 0;
     for b in 0..BLOCKS {

@@ -150,7 +150,7 @@ module _ (b : Book) (ok : WellFormed b) where
         of-free = λ i l e. rw (row-used b ok i (omega arith), e);
       }
 
-  has-key : (key : ℕ) → Scans.hasKey s key ≡ hasKey key (b .places)
+  has-key : (key : ℕ) → Scans.sheetHasKey s key ≡ hasKey key (b .places)
   unfolding rowWith
   has-key key = rw (ok .places-count) at (has-law (b .places) key (isRowOf s key) (of-key key))
 

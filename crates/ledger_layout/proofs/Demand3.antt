@@ -25,7 +25,7 @@ use Rattle.ledger_sheet.specs.declared.GapAnswer.{GapAnswer}
 use Rattle.ledger_sheet.specs.declared.GapAnswer.the-variants as G
 use Rattle.ledger_layout.specs.Layout.{layout, call, onSheet}
 use Rattle.ledger_layout.specs.Demand3.{answerOf, rowAnswerOf, reportAnswerOf, gapAnswerOf, headerAndRows}
-use Rattle.ledger_layout.specs.inner.Demand3.{Meets, Demand3}
+use Rattle.ledger_layout.specs.inner.Demand3.{Meets, MetCalls}
 use Rattle.ledger_layout.proofs.Places.{shape, front-part}
 use Rattle.ledger_layout.proofs.Sheets.{fresh-layout, on-layout}
 
@@ -73,7 +73,7 @@ front-same : (b : Book) → WellFormed b → headerAndRows (layout (idle (b .pla
 front-same b ok =
     front-part (idle (b .places)) (record { rows-count = ok .places-count; desks-count = refl }) ∙ sym (front-part b (shape ok))
 
-pub demand3 : {log : List Entry} {last : List ℕ} → Chain Meets freshSheet log last → Demand3 log last
+pub demand3 : {log : List Entry} {last : List ℕ} → Chain Meets freshSheet log last → MetCalls log last
 demand3 {log = log} {last = last} chain =
     let claim = chain-claim Meets layout each (rw fresh-layout at chain) in
     record {

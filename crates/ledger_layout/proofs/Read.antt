@@ -23,7 +23,7 @@ use Rattle.ledger_sheet.specs.Sheet.{deskRowAt, deskZerosAt, deskZerosSize, ope
 use Rattle.ledger_sheet.specs.Sheet.{usedAt, rowCountAt, rowsStartAt, deskCountAt, desksStartAt, rowAt, deskAt, headerNumber, used, isUsed}
 use Rattle.ledger_sheet.specs.Sheet.{isRow, keyAt, firstNumberAt, deskByte, deskRow, isClosed, carries, headerRight, validKeys, isNew}
 use Rattle.ledger_sheet.specs.Sheet.{differentKeys, firstNumbers, freeZero, closedZero, deskMarked, openNames, deskRight, right}
-use Rattle.ledger_rows.specs.Ticks.{ticksOf}
+use Rattle.ledger_rows.specs.Ticks.{ticksIn}
 use Rattle.octets.specs.Lists.{table}
 use Rattle.ledger_changes.specs.Bytes.{headerBytes, openDesk}
 use Rattle.ledger_sheet.proofs.Clauses.{Right, right-parts, row-parts}
@@ -146,12 +146,12 @@ module _ (s : List ℕ) (bytes : Bytes s) (r : right s ≡ true) where
   unfolding bookOf
   place-at i l = getD-table rowCount (placeIn s) i free l
 
-  row-at : (i : ℕ) → isRow s i ≡ true → place b i ≡ row (keyAt s (rowAt i)) (firstNumberAt s (rowAt i)) (ticksOf s (rowAt i))
+  row-at : (i : ℕ) → isRow s i ≡ true → place b i ≡ row (keyAt s (rowAt i)) (firstNumberAt s (rowAt i)) (ticksIn s (rowAt i))
   unfolding placeIn
   row-at i h = let p = row-parts s i h in place-at i (p .0) ∙ rw (p .1)
 
   -- a place is one of the rows that there are, or free
-  by-place : (P : Place → Type 0) (i : ℕ) → (isRow s i ≡ true → P (row (keyAt s (rowAt i)) (firstNumberAt s (rowAt i)) (ticksOf s (rowAt i)))) → P free
+  by-place : (P : Place → Type 0) (i : ℕ) → (isRow s i ≡ true → P (row (keyAt s (rowAt i)) (firstNumberAt s (rowAt i)) (ticksIn s (rowAt i)))) → P free
       → P (place b i)
   unfolding placeIn bookOf
   by-place P i f g = by (ltb i rowCount) refl (isUsed s i) refl
@@ -167,7 +167,7 @@ module _ (s : List ℕ) (bytes : Bytes s) (r : right s ≡ true) where
   unfolding placeIn
   used-at i l = rw (place-at i l) (by (isUsed s i))
     where
-      by : (t : Bool) → t ≡ not (isFree (cond t (row (keyAt s (rowAt i)) (firstNumberAt s (rowAt i)) (ticksOf s (rowAt i))) free))
+      by : (t : Bool) → t ≡ not (isFree (cond t (row (keyAt s (rowAt i)) (firstNumberAt s (rowAt i)) (ticksIn s (rowAt i))) free))
       by true = refl
       by false = refl
 
@@ -178,7 +178,7 @@ module _ (s : List ℕ) (bytes : Bytes s) (r : right s ≡ true) where
 
   -- a copy at c that carries the word, the key and the first number of row i
   copy-there : (i c : ℕ) → isRow s i ≡ true → c + rowSize ≤ sheetSize → carries s c i ≡ true
-      → placeBytes (withTicks (ticksOf s c) (place b i)) ≡ part s c rowSize
+      → placeBytes (withTicks (ticksIn s c) (place b i)) ≡ part s c rowSize
   copy-there i c l h e =
       let there = row-parts s i l in
       let same = same-part s (rowAt i) s c ticksAt (omega (arith, long)) (omega (arith, long)) e in
@@ -236,8 +236,8 @@ module _ (s : List ℕ) (bytes : Bytes s) (r : right s ≡ true) where
 
   -- ---- the book is well-formed
 
-  set-there : (a : ℕ) → IsSet (ticksOf s a)
-  unfolding ticksOf
+  set-there : (a : ℕ) → IsSet (ticksIn s a)
+  unfolding ticksIn
   set-there a = length-table rowLength _
 
   -- what is asked of a row that there is

@@ -20,7 +20,7 @@ use Rattle.octets.specs.Octets.{numberAt, bytesOf, part}
 use Rattle.octets.proofs.Laws.{Bytes, length-bytesOf, getD-past}
 use Rattle.octets.proofs.Parts.{bytes-number, part-join, part-first, part-whole}
 use Rattle.ledger_sheet.specs.Sheet.{usedWordSize, usedWord, keyStart, keySize, firstAt, firstSize, ticksAt, ticksSize, rowSize, byteBits, keyAt, firstNumberAt}
-use Rattle.ledger_rows.specs.Ticks.{tickedAt, ticksOf}
+use Rattle.ledger_rows.specs.Ticks.{tickedAt, ticksIn}
 use Rattle.ledger_changes.specs.Rows.{rowBytes}
 use Rattle.ledger_changes.specs.inner.Rows.{setTick, clearTick}
 use Rattle.ledger_sheet.specs.Outcome.{judged}
@@ -81,7 +81,7 @@ pub record Says (s : List ℕ) (a : ℕ) (key first : ℕ) (ticks : Positions) :
   pub word-is : numberAt s a usedWordSize ≡ usedWord
   pub key-is : keyAt s a ≡ key
   pub first-is : firstNumberAt s a ≡ first
-  pub ticks-are : ticksOf s a ≡ ticks
+  pub ticks-are : ticksIn s a ≡ ticks
 
 -- a row is read back from its bytes
 pub row-says : (s : List ℕ) (a key first : ℕ) (ticks : Positions) → PlaceOk (row key first ticks) → part s a rowSize ≡ placeBytes (row key first ticks)
@@ -119,7 +119,7 @@ row-carries key first t u = row-head key first (tickBytes ticksSize t) ∙ sym (
 
 -- the bytes of a row that is read are the bytes that are there
 pub row-there : (s : List ℕ) (a : ℕ) → Bytes s → a + rowSize ≤ length s → numberAt s a usedWordSize ≡ usedWord
-    → placeBytes (row (keyAt s a) (firstNumberAt s a) (ticksOf s a)) ≡ part s a rowSize
+    → placeBytes (row (keyAt s a) (firstNumberAt s a) (ticksIn s a)) ≡ part s a rowSize
 unfolding placeBytes rowBytes
 row-there s a bytes h one =
     let word : bytesOf usedWordSize usedWord ≡ part s a usedWordSize =

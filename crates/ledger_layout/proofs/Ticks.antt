@@ -15,7 +15,7 @@ use Rattle.ledger_model.specs.Positions.{rowLength, Positions, has}
 use Rattle.octets.specs.Octets.{part}
 use Rattle.octets.proofs.Laws.{Bytes, length-part, part-at}
 use Rattle.ledger_sheet.specs.Sheet.{ticksAt, ticksSize, rowSize, byteBits}
-use Rattle.ledger_rows.specs.Ticks.{tickByteAt, tickBit, tickedAt, ticksOf}
+use Rattle.ledger_rows.specs.Ticks.{tickByteAt, tickBit, tickedAt, ticksIn}
 use Rattle.ledger_layout.specs.Layout.{bit, bitsValue, tickBytes}
 use Rattle.octets.proofs.Lists.{getD-table, table-is}
 
@@ -151,15 +151,15 @@ tick-byte-lt (suc n) t (suc j) l = tick-byte-lt n (drop byteBits t) j (le-of-suc
 -- ---- the ticks of a row at offset a of a sheet
 
 module _ (s : List ℕ) (a : ℕ) where
-  bit-there : (i : ℕ) → i < rowLength → bit (has (ticksOf s a) i) ≡ getD s (tickByteAt a i) 0 / tickBit i % 2
-  unfolding ticksOf tickedAt
+  bit-there : (i : ℕ) → i < rowLength → bit (has (ticksIn s a) i) ≡ getD s (tickByteAt a i) 0 / tickBit i % 2
+  unfolding ticksIn tickedAt
   bit-there i l = ap bit (getD-table rowLength (tickedAt s a) i false l) ∙ bit-test _ (omega arith)
 
   -- the bytes of the set that is read are the bytes that are there
-  pub ticks-bytes : Bytes s → a + rowSize ≤ length s → tickBytes ticksSize (ticksOf s a) ≡ part s (a + ticksAt) ticksSize
+  pub ticks-bytes : Bytes s → a + rowSize ≤ length s → tickBytes ticksSize (ticksIn s a) ≡ part s (a + ticksAt) ticksSize
   ticks-bytes bytes h =
       let n = ticksSize in
-      let t = ticksOf s a in
+      let t = ticksIn s a in
       let lt = length-ticks n t in
       ext-getD 0 (tickBytes n t) (part s (a + ticksAt) n) (lt ∙ sym (length-part s (a + ticksAt) n (omega arith))) (λ j l.
       let q : j < n = omega arith in
@@ -171,8 +171,8 @@ module _ (s : List ℕ) (a : ℕ) where
       rw here (rw (byte, place) at (tick-at n t i (omega arith) ∙ bit-there i (omega arith)))))
 
   -- the set that is read from the bytes of a set is that set
-  pub ticks-read : (t : Positions) → length t ≡ rowLength → part s (a + ticksAt) ticksSize ≡ tickBytes ticksSize t → ticksOf s a ≡ t
-  unfolding ticksOf tickedAt
+  pub ticks-read : (t : Positions) → length t ≡ rowLength → part s (a + ticksAt) ticksSize ≡ tickBytes ticksSize t → ticksIn s a ≡ t
+  unfolding ticksIn tickedAt
   ticks-read t e h =
       table-is rowLength (tickedAt s a) t false e (λ i l.
       let byte : getD s (tickByteAt a i) 0 ≡ getD (tickBytes ticksSize t) (i / byteBits) 0 =

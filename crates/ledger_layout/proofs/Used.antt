@@ -9,12 +9,12 @@ use mathlib.Core.List.{List, [], _∷_}
 use mathlib.Core.Path.{_≡_, refl, sym, ap, subst, _∙_}
 use lib.Dec.{eqb, ltb, eqb·zero-suc, eqb·suc-suc, leb·zero, leb·suc-suc}
 use lib.ListN.{length, getD, set}
-use Rattle.ledger_model.specs.Positions.{Positions, numberAt, size, missing, least}
+use Rattle.ledger_model.specs.Positions.{Positions, positionNumber, size, missing, least}
 use Rattle.ledger_model.specs.Book.{Place, free, row, isFree, withTicks, hasKey, placeWith, allUsed, lowestFree}
 use Rattle.ledger_model.specs.Counts.{lowestNumber, placeReport, firstGapFrom}
 use Rattle.ledger_model.specs.Counts as Counts
 use Rattle.ledger_sheet.specs.Sheet.{count, rowAt, isUsed}
-use Rattle.ledger_rows.specs.Ticks.{ticksOf}
+use Rattle.ledger_rows.specs.Ticks.{ticksIn}
 use Rattle.ledger_rows.specs.inner.Scans.{lowest}
 use Rattle.ledger_counts.specs.inner.Counts.{numberAtPosition, lowestWords, reportWords, gapOr, gapFrom}
 use Rattle.ledger_layout.specs.Layout.{countUsed}
@@ -135,7 +135,7 @@ find-law (row k first ticks ∷ ps) key p h e =
 
 -- the words of a row's lowest missing number, and of a gap in it
 module _ {s : List ℕ} {a k first : ℕ} {ticks : Positions} (says : Says s a k first ticks) where
-  number-law : (i : ℕ) → numberAtPosition s a i ≡ numberAt k first i
+  number-law : (i : ℕ) → numberAtPosition s a i ≡ positionNumber k first i
   number-law i = rw (says .key-is, says .first-is)
 
   pub report-law : reportWords s a ≡ 0 ∷ placeReport (row k first ticks)
@@ -147,7 +147,7 @@ module _ {s : List ℕ} {a k first : ℕ} {ticks : Positions} (says : Says s a k
       by (some i) = rw (number-law i)
 
 gap-words : (s : List ℕ) (r k first : ℕ) (ticks : Positions) (rest : List ℕ) → Says s (rowAt r) k first ticks
-    → gapOr s r (least (missing (ticksOf s (rowAt r)))) (0 ∷ rest) ≡ 0 ∷ Counts.gapOr k first r (least (missing ticks)) rest
+    → gapOr s r (least (missing (ticksIn s (rowAt r)))) (0 ∷ rest) ≡ 0 ∷ Counts.gapOr k first r (least (missing ticks)) rest
 gap-words s r k first ticks rest says = rw (says .ticks-are) (by (least (missing ticks)))
   where
     by : (o : Option ℕ) → gapOr s r o (0 ∷ rest) ≡ 0 ∷ Counts.gapOr k first r o rest

@@ -11,7 +11,7 @@ use Rattle.ledger_model.specs.Book.{Place, free, row, Desk, closed, working, Bo
 use Rattle.ledger_model.specs.Step.{Call, answerWords, step}
 use Rattle.ledger_sheet.specs.Sheet.{sheetSize, rowSize, rowCount, ticksSize, byteBits, openedAt, workedAt, deskSize, deskCount}
 use Rattle.ledger_sheet.specs.Sheet.{rowAt, deskAt, isUsed, keyAt, firstNumberAt, deskRow, isClosed, right}
-use Rattle.ledger_rows.specs.Ticks.{ticksOf}
+use Rattle.ledger_rows.specs.Ticks.{ticksIn}
 use Rattle.octets.specs.Lists.{table, laid}
 use Rattle.ledger_changes.specs.Rows.{rowBytes}
 use Rattle.ledger_sheet.specs.Outcome.{Outcome}
@@ -58,11 +58,11 @@ layout b = headerBytes (countUsed (b .places)) ++ laid placeBytes (b .places) ++
 -- ---- the book that a right sheet holds
 
 unfoldable pub placeIn : List ℕ → ℕ → Place
-placeIn s i = cond (isUsed s i) (row (keyAt s (rowAt i)) (firstNumberAt s (rowAt i)) (ticksOf s (rowAt i))) free
+placeIn s i = cond (isUsed s i) (row (keyAt s (rowAt i)) (firstNumberAt s (rowAt i)) (ticksIn s (rowAt i))) free
 
 unfoldable pub deskIn : List ℕ → ℕ → Desk
 deskIn s d =
-    cond (isClosed s d) closed (working (deskRow s d) (ticksOf s (deskAt d + openedAt)) (ticksOf s (deskAt d + workedAt)))
+    cond (isClosed s d) closed (working (deskRow s d) (ticksIn s (deskAt d + openedAt)) (ticksIn s (deskAt d + workedAt)))
 
 unfoldable pub bookOf : List ℕ → Book
 bookOf s = record { places = table rowCount (placeIn s); desks = table deskCount (deskIn s) }

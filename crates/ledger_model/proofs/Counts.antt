@@ -8,7 +8,7 @@ use mathlib.Core.Bool.{Bool, true, false, not, _&&_, true≢false, false≢true}
 use mathlib.Core.Option.{Option, none, some, Option·map, Option·none-ne-some}
 use mathlib.Core.List.{List, [], _∷_}
 use lib.ListN.{length, getD, set}
-use Rattle.ledger_model.specs.Positions.{Positions, has, size, anyTicked, missing, least, numberAt}
+use Rattle.ledger_model.specs.Positions.{Positions, has, size, anyTicked, missing, least, positionNumber}
 use Rattle.ledger_model.specs.Book.{Place, free, row}
 use Rattle.ledger_model.specs.Counts.{gapOr, firstGapFrom}
 use Rattle.ledger_model.proofs.Basics.{and-true}
@@ -166,7 +166,7 @@ NoGap (row key first ticks) = least (missing ticks) ≡ none
 pub data Gap (r : ℕ) (ps : List Place) : List ℕ → Type 0 where
   no-gap : ((j : ℕ) → NoGap (getD ps j free)) → Gap r ps []
   gap-at : (i key first : ℕ) (ticks : Positions) (p : ℕ) → getD ps i free ≡ row key first ticks → least (missing ticks) ≡ some p
-      → ((j : ℕ) → j < i → NoGap (getD ps j free)) → (q : ℕ) → q ≡ r + i → Gap r ps (numberAt key first p ∷ q ∷ [])
+      → ((j : ℕ) → j < i → NoGap (getD ps j free)) → (q : ℕ) → q ≡ r + i → Gap r ps (positionNumber key first p ∷ q ∷ [])
 
 -- A place without a gap, before the others.
 gap-after : (r : ℕ) (p : Place) (ps : List Place) → NoGap p → {words : List ℕ} → Gap (suc r) ps words → Gap r (p ∷ ps) words

@@ -8,7 +8,7 @@ use borrow.Author.Tests.{lt-ltb, le-ltb}
 use Rattle.keys.specs.Key.{rsrStart}
 use Rattle.keys.specs.Numbers.{modulus, isNumber}
 use Rattle.keys.proofs.Numbers.{telemetry-modulus, rsr-modulus}
-use Rattle.ledger_model.specs.Positions.{rowLength, position, numberAt, inRow}
+use Rattle.ledger_model.specs.Positions.{rowLength, position, positionNumber, inRow}
 
 -- ---- the two kinds
 
@@ -26,17 +26,17 @@ module _ (key first n r : ℕ) where
   unfolding position
   rsr-outside k l = rw (rsr-modulus key k, le-ltb n (2 ^ 16) l)
 
-  pub telemetry-number : key < rsrStart → r ≡ (first + n) % 2 ^ 32 → r ≡ numberAt key first n
-  unfolding numberAt
+  pub telemetry-number : key < rsrStart → r ≡ (first + n) % 2 ^ 32 → r ≡ positionNumber key first n
+  unfolding positionNumber
   telemetry-number k e = rw (telemetry-modulus key k) e
 
-  pub rsr-number : rsrStart ≤ key → r ≡ (first + n) % 2 ^ 32 → r % 2 ^ 16 ≡ numberAt key first n
-  unfolding numberAt
+  pub rsr-number : rsrStart ≤ key → r ≡ (first + n) % 2 ^ 32 → r % 2 ^ 16 ≡ positionNumber key first n
+  unfolding positionNumber
   rsr-number k e = rw (rsr-modulus key k) (omega arith)
 
 -- In an RSR row from 65,530, number 2 has position 8 (document 02, Req 03): the number after 65,535 is 0.
-pub example-03 : (position rsrStart 65530 2 ≡ 8) × (numberAt rsrStart 65530 6 ≡ 0)
-unfolding position numberAt modulus
+pub example-03 : (position rsrStart 65530 2 ≡ 8) × (positionNumber rsrStart 65530 6 ≡ 0)
+unfolding position positionNumber modulus
 example-03 = (refl, refl)
 
 -- ---- numbers and positions
@@ -48,16 +48,16 @@ outside key first n e = rw e
 
 module _ (key first i : ℕ) (f : first < modulus key) (g : i < modulus key) where
   -- Position i holds the number whose position is i,
-  pub position-number : position key first (numberAt key first i) ≡ i
-  unfolding position numberAt
+  pub position-number : position key first (positionNumber key first i) ≡ i
+  unfolding position positionNumber
   position-number =
       let m = modulus key in
       let sum : first + i + (m - first) ≡ i + m = omega arith in
       rw (lt-ltb _ m (mod-lt (first + i) (omega arith)), mod-eq-of-lt f, mod-add-mod (first + i) m (m - first), sum, add-mod-right) (mod-eq-of-lt g)
 
   -- and a number stands at its position.
-  pub number-position : numberAt key first (position key first i) ≡ i
-  unfolding position numberAt
+  pub number-position : positionNumber key first (position key first i) ≡ i
+  unfolding position positionNumber
   number-position =
       let m = modulus key in
       let sum : first + (i + (m - first)) ≡ i + m = omega arith in

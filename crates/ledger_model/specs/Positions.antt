@@ -20,8 +20,8 @@ unfoldable pub position : (key first n : ℕ) → ℕ
 position key first n = cond (isNumber key n) ((n + (modulus key - first % modulus key)) % modulus key) rowLength
 
 -- The number at a position.
-unfoldable pub numberAt : (key first i : ℕ) → ℕ
-numberAt key first i = (first + i) % modulus key
+unfoldable pub positionNumber : (key first i : ℕ) → ℕ
+positionNumber key first i = (first + i) % modulus key
 
 -- The positions of a row are those below 1,024.
 abbrev pub inRow : ℕ → Bool

@@ -23,7 +23,7 @@ pub fn position(key: u64, first: u32, n: u32) -> u32
 
 // The number at a position of such a row.
 pub fn number_at(key: u64, first: u32, position: u32) -> u32
-    ensures { λ r. ⌜ r ≡ Positions.numberAt key first position ⌝ }
+    ensures { λ r. ⌜ r ≡ Positions.positionNumber key first position ⌝ }
 {
     let number = std::num::wrapping_add_u32(first, position);
     if key < RSR_START {

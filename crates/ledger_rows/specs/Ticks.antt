@@ -19,5 +19,5 @@ unfoldable pub tickedAt : List ℕ → ℕ → ℕ → Bool
 tickedAt s a i = eqb (getD s (tickByteAt a i) 0 / tickBit i % 2) 1
 
 -- The set of the row's ticked positions.
-unfoldable pub ticksOf : List ℕ → ℕ → Positions
-ticksOf s a = table rowLength (tickedAt s a)
+unfoldable pub ticksIn : List ℕ → ℕ → Positions
+ticksIn s a = table rowLength (tickedAt s a)

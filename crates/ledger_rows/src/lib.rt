@@ -10,7 +10,7 @@ ghost use lib.ListN.{length};
 ghost use Rattle.ledger_model.specs.Positions.{rowLength};
 ghost use Rattle.ledger_sheet.specs.Sheet.{sheetSize, rowSize, rowCount, byteBits, deskCount, deskRow, isClosed};
 ghost use Rattle.ledger_rows.specs.Ticks.{tickedAt};
-ghost use Rattle.ledger_rows.specs.inner.Scans.{isRowOf, rowWith, hasKey, freeRow, noneHasOpen};
+ghost use Rattle.ledger_rows.specs.inner.Scans.{isRowOf, rowWith, sheetHasKey, freeRow, noneHasOpen};
 
 // The used row with the key, or 32 where there is none.
 pub fn find_row(s: &[u8], key: u64) -> usize
@@ -39,7 +39,7 @@ fn is_row_of(s: &[u8], key: u64, i: usize) -> bool
 // Whether a used row has the key.
 pub fn has_key(s: &[u8], key: u64) -> bool
     requires { ⌜ length (now s) ≡ sheetSize ⌝ }
-    ensures { λ r. ⌜ r ≡ hasKey (now (s .entry)) key ⌝ }
+    ensures { λ r. ⌜ r ≡ sheetHasKey (now (s .entry)) key ⌝ }
 {
     find_row(s, key) < sheet::ROWS
 }

@@ -11,7 +11,7 @@ use lib.ListN.{length, getD, take}
 use lib.Seq.{take-suc, take-length}
 use Rattle.octets.specs.Octets.{all}
 use Rattle.octets.proofs.Parts.{part-whole}
-use Rattle.ledger_model.specs.Positions.{Positions, size, missing, least, numberAt}
+use Rattle.ledger_model.specs.Positions.{Positions, size, missing, least, positionNumber}
 use Rattle.ledger_model.specs.Book.{Place, free, row, Book, place, isFree, ticksOf}
 use Rattle.ledger_model.specs.Counts.{firstGapFrom}
 use Rattle.ledger_model.specs.Step.{Ask, RowReport, answerWords, step}
@@ -90,7 +90,7 @@ first r (row key start ticks ∷ ps) = by (least (missing ticks)) refl (first (s
     by none e (no-gap f m) = no-gap (rw e f) (omega (arith, least-none (missing ticks) e))
     by none e (a-gap number q f m) = a-gap number q (rw e f) (λ z. m (omega arith))
     by (some i) e rest =
-        a-gap (numberAt key start i) r (rw e) (λ z.
+        a-gap (positionNumber key start i) r (rw e) (λ z.
         let gone : size (missing ticks) ≡ 0 = omega arith in
         let o : _≡_ {A = Option ℕ} none (some i) = sym (size-none (missing ticks) gone) ∙ e in
         let bad : _≡_ {A = ℕ} 0 1 = cc in

@@ -9,7 +9,7 @@ use mathlib.Core.Path.{_≡_, refl, sym, ap, _∙_}
 use lib.ListN.{drop}
 use lib.Seq.{drop-cons, drop-length}
 use Rattle.refusals.specs.declared.Refusal.{Refusal}
-use Rattle.ledger_model.specs.Positions.{rowLength, Positions, numberAt, size, missing, least}
+use Rattle.ledger_model.specs.Positions.{rowLength, Positions, positionNumber, size, missing, least}
 use Rattle.ledger_model.specs.Book.{Place, free, row}
 use Rattle.ledger_model.specs.Book as Book
 use Rattle.ledger_model.specs.Counts.{firstGapFrom}
@@ -17,7 +17,7 @@ use Rattle.ledger_model.specs.Tally.{ticked}
 use Rattle.ledger_sheet.specs.Sheet.{rowCount, rowAt, isUsed, keyAt, firstNumberAt}
 use Rattle.ledger_sheet.specs.Words.{reportAnswerWords}
 use Rattle.ledger_sheet.specs.declared.ReportAnswer.the-variants as Report
-use Rattle.ledger_rows.specs.Ticks.{ticksOf}
+use Rattle.ledger_rows.specs.Ticks.{ticksIn}
 use Rattle.octets.specs.Lists.{table}
 use Rattle.ledger_counts.specs.inner.Counts.{lowestWords, reportWords}
 use Rattle.ledger_counts.proofs.Reports.{row-count, end-within}
@@ -33,7 +33,7 @@ use Rattle.ledger_season.specs.declared.Counted.{Counted}
 
 module _ (s : List ℕ) (r : ℕ) where
   abbrev ticks : Positions
-  ticks = ticksOf s (rowAt r)
+  ticks = ticksIn s (rowAt r)
 
   abbrev lowestMissing : Option ℕ
   lowestMissing = least (missing ticks)
@@ -61,7 +61,7 @@ module _ (s : List ℕ) (r : ℕ) where
     pub missing-is : missed ≡ size (missing ticks)
     pub at : ℕ
     pub some-is : lowestMissing ≡ some at
-    pub lowest-is : lowest ≡ numberAt (keyAt s (rowAt r)) (firstNumberAt s (rowAt r)) at
+    pub lowest-is : lowest ≡ positionNumber (keyAt s (rowAt r)) (firstNumberAt s (rowAt r)) at
 
   pub whole-says : (t : ℕ) → reportAnswerWords (Report.Whole t) ≡ reportWords s (rowAt r) → Whole t
   unfolding reportWords
@@ -129,11 +129,11 @@ module _ (s : List ℕ) (r : ℕ) where
   pub gaps-few : (t m l : ℕ) → Gaps t m l → (t ≤ rowLength) × (m ≤ rowLength)
   gaps-few t m l w = (omega (arith, w .ticked-is, few), omega (arith, w .missing-is, few))
 
-  place-few : (size (Book.ticksOf (placeIn s r)) ≤ rowLength) × (size (missing (Book.ticksOf (placeIn s r))) ≤ rowLength)
+  place-few : (size (Book.ticksIn (placeIn s r)) ≤ rowLength) × (size (missing (Book.ticksIn (placeIn s r))) ≤ rowLength)
   unfolding size missing
   place-few = by (isUsed s r) refl
     where
-      by : (b : Bool) → isUsed s r ≡ b → (size (Book.ticksOf (placeIn s r)) ≤ rowLength) × (size (missing (Book.ticksOf (placeIn s r))) ≤ rowLength)
+      by : (b : Bool) → isUsed s r ≡ b → (size (Book.ticksIn (placeIn s r)) ≤ rowLength) × (size (missing (Book.ticksIn (placeIn s r))) ≤ rowLength)
       by true u = rw (place-used u) (omega (arith, few), omega (arith, few))
       by false u = rw (place-free u) (omega arith, omega arith)
 
@@ -166,8 +166,8 @@ pub counted-more : (s : List ℕ) (r : ℕ) (sum after : Counted) → r < rowCou
 unfolding ticked missed
 counted-more s r sum after l h a =
     let p = next-place s r l in
-    let t : sum .ticked + (size (Book.ticksOf (placeIn s r)) + ticked (drop (r + 1) (places s))) ≡ ticked (places s) = rw p at (h .ticked-left) in
-    let m : sum .missing + (size (missing (Book.ticksOf (placeIn s r))) + missed (drop (r + 1) (places s))) ≡ missed (places s) = rw p at (h .missing-left) in
+    let t : sum .ticked + (size (Book.ticksIn (placeIn s r)) + ticked (drop (r + 1) (places s))) ≡ ticked (places s) = rw p at (h .ticked-left) in
+    let m : sum .missing + (size (missing (Book.ticksIn (placeIn s r))) + missed (drop (r + 1) (places s))) ≡ missed (places s) = rw p at (h .missing-left) in
     record {
       ticked-few = omega (arith, h .ticked-few, a .ticked-more, place-few s r .0);
       missing-few = omega (arith, h .missing-few, a .missing-more, place-few s r .1);

@@ -65,11 +65,11 @@ pub const USED_AT: usize = 4;
 
 pub const ROW_COUNT_AT: usize = 8;
 
-pub const ROWS_START_AT: usize = 12;
+pub const ROWS_OFFSET_AT: usize = 12;
 
 pub const DESK_COUNT_AT: usize = 16;
 
-pub const DESKS_START_AT: usize = 20;
+pub const DESKS_OFFSET_AT: usize = 20;
 
 // Where row i stands; behind the last row, where the rows end.
 pub fn row_at(i: usize) -> usize

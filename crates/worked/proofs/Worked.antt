@@ -15,7 +15,7 @@ use Rattle.sfdu_headers.specs.inner.Fault.{fault}
 use Rattle.sfdu_headers.specs.Headers.{readHeaders}
 use Rattle.keys.specs.Key.{validKey, telemetryKeyCall}
 use Rattle.keys.specs.Numbers.{modulus}
-use Rattle.ledger_model.specs.Positions.{position, noTicks, same, size, anyTicked, missing, least, numberAt as numberAtPosition}
+use Rattle.ledger_model.specs.Positions.{position, noTicks, same, size, anyTicked, missing, least, positionNumber}
 use Rattle.ledger_model.specs.Book.{fresh, hasKey, placeWith, allUsed, lowestFree}
 use Rattle.ledger_model.specs.Step.{RowReport, Call, Ask, refusals, asked, effect, afterRefusal, step, run}
 use Rattle.ledger_model.proofs.WellFormed.{run-well-formed}
@@ -50,7 +50,7 @@ module _ (calls : List Call) where
 pub worked : Agree table
 unfolding judge modulus numberAt bytesOf part put all sameAt hasKind kindOf labelLength recordLength blockType blockLength lengthInRange accepts
     readOne dataPart labelBytes block primaryBlock headBytes recordBytes signedByte recordNumber isLeap yearLength isYear isDay isRsrBand isBand
-    inRange judgedBytes fault readHeaders validKey telemetryKeyCall position noTicks same size anyTicked missing least numberAtPosition hasKey
+    inRange judgedBytes fault readHeaders validKey telemetryKeyCall position noTicks same size anyTicked missing least positionNumber hasKey
     placeWith allUsed lowestFree refusals effect afterRefusal step run rowBytes headerBytes bitsValue tickBytes placeBytes countUsed laid layout asked
 worked = (
   refl,

@@ -4,7 +4,7 @@ use Prim.Native.Nat.{_+_, _*_, _≤_, _-_}
 use mathlib.Core.Path.{_≡_, sym}
 use native.Mathlib.Omega.{arith}
 use Rattle.ledger_model.specs.Positions.{rowLength, size}
-use Rattle.ledger_rows.specs.Ticks.{tickedAt, ticksOf}
+use Rattle.ledger_rows.specs.Ticks.{tickedAt, ticksIn}
 use Rattle.octets.specs.Lists.{table}
 use Rattle.ledger_counts.specs.inner.Words.{wordBits, blockWords, blockCount}
 use Rattle.ledger_counts.proofs.Missing.{size-none}
@@ -85,7 +85,7 @@ loop-again c =
     (omega arith, omega (arith, c .block-ones .ensures), rw next (omega (arith, c .block-ones .ensures)))
 
 returns : tie.Need-returns Inv-loop μ-loop
-unfolding ticksOf
+unfolding ticksIn
 returns c = let e : wordBits * (blockWords * c .before .loop .b) ≡ rowLength = omega arith in rw (← e) (c .before .loop .inv .2)
 
 pub ticked-count-spec : {M : Type 1} → statement M

@@ -17,7 +17,7 @@ abbrev pub Meets : Call → List ℕ → Answer → List ℕ → Type 0
 Meets c s a t = (a ≢ refused 0) × ((answerWords a, t) ≡ onSheet (call c) s)
 
 -- `log` is the calls with what they answered, from a fresh sheet to the sheet `last`.
-pub record Demand3 (log : List Entry) (last : List ℕ) : Type 0 where
+pub record MetCalls (log : List Entry) (last : List ℕ) : Type 0 where
   -- All answers are the model's, and the sheet left is its book laid out, byte for byte; the serial history, run from a fresh sheet, has
   -- the answers of the log and the log's places, with no desk open; a save is stale exactly when it must be, and never without a cause.
   pub claim : Claim Meets layout log last

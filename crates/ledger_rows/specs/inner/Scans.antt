@@ -20,8 +20,8 @@ isRowOf s key i = isUsed s i && eqb (keyAt s (rowAt i)) key
 unfoldable pub rowWith : List ℕ → ℕ → ℕ
 rowWith s key = lowest rowCount (isRowOf s key)
 
-abbrev pub hasKey : List ℕ → ℕ → Bool
-hasKey s key = ltb (rowWith s key) rowCount
+abbrev pub sheetHasKey : List ℕ → ℕ → Bool
+sheetHasKey s key = ltb (rowWith s key) rowCount
 
 -- Where enrol puts a stream: the lowest free row, or 32 where there is none.
 unfoldable pub freeRow : List ℕ → ℕ

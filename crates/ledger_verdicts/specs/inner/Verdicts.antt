@@ -9,7 +9,7 @@ use Rattle.refusals.specs.Judge.{Rule, _when_}
 use Rattle.keys.specs.Key.{validKey}
 use Rattle.keys.specs.Numbers.{isNumber}
 use Rattle.ledger_sheet.specs.Sheet.{rowCount, deskCount, isRow, isClosed, right}
-use Rattle.ledger_rows.specs.inner.Scans.{hasKey, freeRow, noneHasOpen}
+use Rattle.ledger_rows.specs.inner.Scans.{sheetHasKey, freeRow, noneHasOpen}
 use Rattle.ledger_verdicts.specs.declared.Verdict.{Verdict}
 use Rattle.ledger_verdicts.specs.declared.Verdict.the-variants as Case
 
@@ -35,12 +35,12 @@ enrolRules key first s =
     notSheet (right s)
     ∷ badKey key
     ∷ (32 when not (isNumber key first))
-    ∷ (23 when hasKey s key)
+    ∷ (23 when sheetHasKey s key)
     ∷ (24 when eqb (freeRow s) rowCount)
     ∷ []
 
 abbrev pub findRules : (key : ℕ) → List ℕ → List (Rule ℕ)
-findRules key s = notSheet (right s) ∷ badKey key ∷ (25 when not (hasKey s key)) ∷ []
+findRules key s = notSheet (right s) ∷ badKey key ∷ (25 when not (sheetHasKey s key)) ∷ []
 
 -- Calls by a desk: what all begin with; open; and tick, untick, save and drop, for which the desk must have a row open.
 abbrev pub deskNumberRules : (fine : Bool) (desk : ℕ) → List (Rule ℕ)
