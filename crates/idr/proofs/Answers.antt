@@ -16,8 +16,8 @@ use Rattle.idr.specs.declared.Read.{Read}
 use Rattle.idr.specs.declared.Read.the-variants.{Tagged, Untagged, Refused}
 use Rattle.idr.specs.declared.Outcome.{Outcome}
 use Rattle.idr.specs.declared.Outcome.the-variants as outcomes
-use Rattle.idr.specs.Rules.{outcomeNumber}
-use Rattle.idr.specs.Read.{originWords, timeWords, recorderWords, reductionWords, statusWords, countWords, wordsOf}
+use Rattle.idr.specs.Rules.{outcomeNumber, DifferentOutcomes}
+use Rattle.idr.specs.Read.{originWords, timeWords, recorderWords, reductionWords, statusWords, countWords, wordsOf, DifferentReads}
 
 -- Word k, and n words from word k on.
 word : (k : ℕ) {a b : List ℕ} → a ≡ b → getD a k 0 ≡ getD b k 0
@@ -78,7 +78,7 @@ same-count (Samples n) Unknown e = let z : _≡_ {A = ℕ} 0 1 = cc in absurd (o
 same-count Unknown (Samples m) e = let z : _≡_ {A = ℕ} 0 1 = cc in absurd (omega arith)
 same-count Unknown Unknown e = refl
 
-pub same-read : (a b : Read) → wordsOf a ≡ wordsOf b → a ≡ b
+pub same-read : DifferentReads
 same-read (Tagged o t p r q n) (Tagged o′ t′ p′ r′ q′ n′) e =
     let origin = same-origin o o′ (group 1 7 e) in
     let time = same-time t t′ (group 8 5 e) in
@@ -96,7 +96,7 @@ same-read (Refused r) (Tagged o t p x q n) e = absurd (number-positive r (word 0
 same-read (Refused r) Untagged e = absurd (number-positive r (word 0 e))
 same-read (Refused r) (Refused s) e = ap Refused (number-injective r s (word 0 e))
 
-pub same-outcome : (a b : Outcome) → outcomeNumber a ≡ outcomeNumber b → a ≡ b
+pub same-outcome : DifferentOutcomes
 same-outcome outcomes.Accepted outcomes.Accepted e = refl
 same-outcome outcomes.Accepted (outcomes.Refused s) e = absurd (number-positive s (sym e))
 same-outcome (outcomes.Refused r) outcomes.Accepted e = absurd (number-positive r e)

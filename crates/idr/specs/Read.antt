@@ -1,5 +1,6 @@
 -- Document 02, Req 04: the reader's calls on a lent record s. Assumes nothing.
 -- The manual, docs/INTERFACE.md: "Medium band tapes".
+use mathlib.Core.Path.{_≡_}
 use Prim.Native.Nat.{ℕ}
 use mathlib.Core.Bool.{Bool, not, cond, _&&_}
 use mathlib.Core.List.{List, [], _∷_, _++_}
@@ -50,6 +51,10 @@ wordsOf (Tagged origin time recorder reduction status count) =
     0 ∷ originWords origin ++ timeWords time ++ recorderWords recorder ++ reductionWords reduction ++ statusWords status ++ countWords count
 wordsOf Untagged = 0 ∷ []
 wordsOf (Refused r) = numberOf r ∷ []
+
+-- Different answers have different words.
+abbrev pub DifferentReads : Type 0
+DifferentReads = (a b : Read) → wordsOf a ≡ wordsOf b → a ≡ b
 
 -- ---- the calls
 

@@ -1,5 +1,6 @@
 -- Document 02, Req 04: refusals 51 to 54 of header words w, in order. Assumes nothing.
 -- The manual, docs/INTERFACE.md: "Medium band tapes".
+use mathlib.Core.Path.{_≡_}
 use Prim.Native.Nat.{ℕ}
 use mathlib.Core.Bool.{Bool, not, _&&_}
 use mathlib.Core.List.{List, [], _∷_}
@@ -16,6 +17,10 @@ use Rattle.idr.specs.Fields.{tagged, digit, digitCount, day, hour, minut
 abbrev pub outcomeNumber : Outcome → ℕ
 outcomeNumber Accepted = 0
 outcomeNumber (Refused r) = numberOf r
+
+-- Different answers have different numbers.
+abbrev pub DifferentOutcomes : Type 0
+DifferentOutcomes = (a b : Outcome) → outcomeNumber a ≡ outcomeNumber b → a ≡ b
 
 unfoldable pub areDigits : List ℕ → Bool
 areDigits w = all digitCount (λ k. leb (digit w k) 9)

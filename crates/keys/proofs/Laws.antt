@@ -12,7 +12,7 @@ use Rattle.refusals.proofs.Laws.{number-injective}
 use Rattle.keys.specs.Key.{rsrStart, rsrEnd, validKey, telemetryKey, rsrKey, made, telemetryKeyCall, rsrKeyCall}
 use Rattle.keys.specs.declared.KeyAnswer.{KeyAnswer}
 use Rattle.keys.specs.declared.KeyAnswer.the-variants.{Key, Refused}
-use Rattle.keys.specs.Words.{wordsOf}
+use Rattle.keys.specs.Words.{wordsOf, DifferentKeys}
 use Rattle.keys.specs.Stream.{Stream, telemetry, rsr, keyCall}
 
 -- ---- the widths
@@ -207,7 +207,7 @@ valid-named key e = at (ltb key rsrStart) refl
 -- ---- answers
 
 -- Different answers have different words.
-pub words-injective : (x y : KeyAnswer) → wordsOf x ≡ wordsOf y → x ≡ y
+pub words-injective : DifferentKeys
 words-injective (Key k) (Key l) e = cc
 words-injective (Key k) (Refused r) e = cc
 words-injective (Refused r) (Key k) e = cc

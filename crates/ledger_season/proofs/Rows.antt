@@ -129,11 +129,11 @@ module _ (s : List ℕ) (r : ℕ) where
   pub gaps-few : (t m l : ℕ) → Gaps t m l → (t ≤ rowLength) × (m ≤ rowLength)
   gaps-few t m l w = (omega (arith, w .ticked-is, few), omega (arith, w .missing-is, few))
 
-  place-few : (size (Book.ticksIn (placeIn s r)) ≤ rowLength) × (size (missing (Book.ticksIn (placeIn s r))) ≤ rowLength)
+  place-few : (size (Book.ticksOf (placeIn s r)) ≤ rowLength) × (size (missing (Book.ticksOf (placeIn s r))) ≤ rowLength)
   unfolding size missing
   place-few = by (isUsed s r) refl
     where
-      by : (b : Bool) → isUsed s r ≡ b → (size (Book.ticksIn (placeIn s r)) ≤ rowLength) × (size (missing (Book.ticksIn (placeIn s r))) ≤ rowLength)
+      by : (b : Bool) → isUsed s r ≡ b → (size (Book.ticksOf (placeIn s r)) ≤ rowLength) × (size (missing (Book.ticksOf (placeIn s r))) ≤ rowLength)
       by true u = rw (place-used u) (omega (arith, few), omega (arith, few))
       by false u = rw (place-free u) (omega arith, omega arith)
 
@@ -166,8 +166,8 @@ pub counted-more : (s : List ℕ) (r : ℕ) (sum after : Counted) → r < rowCou
 unfolding ticked missed
 counted-more s r sum after l h a =
     let p = next-place s r l in
-    let t : sum .ticked + (size (Book.ticksIn (placeIn s r)) + ticked (drop (r + 1) (places s))) ≡ ticked (places s) = rw p at (h .ticked-left) in
-    let m : sum .missing + (size (missing (Book.ticksIn (placeIn s r))) + missed (drop (r + 1) (places s))) ≡ missed (places s) = rw p at (h .missing-left) in
+    let t : sum .ticked + (size (Book.ticksOf (placeIn s r)) + ticked (drop (r + 1) (places s))) ≡ ticked (places s) = rw p at (h .ticked-left) in
+    let m : sum .missing + (size (missing (Book.ticksOf (placeIn s r))) + missed (drop (r + 1) (places s))) ≡ missed (places s) = rw p at (h .missing-left) in
     record {
       ticked-few = omega (arith, h .ticked-few, a .ticked-more, place-few s r .0);
       missing-few = omega (arith, h .missing-few, a .missing-more, place-few s r .1);

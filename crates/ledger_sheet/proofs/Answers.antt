@@ -10,20 +10,21 @@ use Rattle.ledger_sheet.specs.declared.Answer.the-variants as A
 use Rattle.ledger_sheet.specs.declared.RowAnswer.the-variants as R
 use Rattle.ledger_sheet.specs.declared.ReportAnswer.the-variants as Report
 use Rattle.ledger_sheet.specs.declared.GapAnswer.the-variants as G
+use Rattle.ledger_sheet.specs.Words.{DifferentAnswers, DifferentRowAnswers, DifferentReports, DifferentGaps}
 
-pub answer-injective : (x y : Answer) → answerWords x ≡ answerWords y → x ≡ y
+pub answer-injective : DifferentAnswers
 answer-injective A.Done A.Done e = refl
 answer-injective A.Done (A.Refused r) e = absurd (number-positive r (cc))
 answer-injective (A.Refused r) A.Done e = absurd (number-positive r (cc))
 answer-injective (A.Refused r) (A.Refused s) e = ap A.Refused (number-injective r s (cc))
 
-pub row-injective : (x y : RowAnswer) → rowWords x ≡ rowWords y → x ≡ y
+pub row-injective : DifferentRowAnswers
 row-injective (R.Row a) (R.Row b) e = cc
 row-injective (R.Row a) (R.Refused r) e = cc
 row-injective (R.Refused r) (R.Row a) e = cc
 row-injective (R.Refused r) (R.Refused s) e = ap R.Refused (number-injective r s (cc))
 
-pub report-injective : (x y : ReportAnswer) → reportAnswerWords x ≡ reportAnswerWords y → x ≡ y
+pub report-injective : DifferentReports
 report-injective (Report.Whole a) (Report.Whole b) e = cc
 report-injective (Report.Whole a) (Report.Gaps b c d) e = cc
 report-injective (Report.Whole a) (Report.Refused r) e = cc
@@ -34,7 +35,7 @@ report-injective (Report.Refused r) (Report.Whole a) e = cc
 report-injective (Report.Refused r) (Report.Gaps a b c) e = cc
 report-injective (Report.Refused r) (Report.Refused s) e = ap Report.Refused (number-injective r s (cc))
 
-pub gap-injective : (x y : GapAnswer) → gapWords x ≡ gapWords y → x ≡ y
+pub gap-injective : DifferentGaps
 gap-injective G.Nothing G.Nothing e = refl
 gap-injective G.Nothing (G.Gap a b) e = cc
 gap-injective G.Nothing (G.Refused r) e = absurd (number-positive r (cc))

@@ -9,7 +9,7 @@ use Rattle.sfdu.specs.declared.Primary.{Primary}
 use Rattle.sfdu.specs.declared.Read.{Read}
 use Rattle.sfdu.specs.declared.Read.the-variants.{Record, Refused}
 use Rattle.sfdu.specs.Nesting.{kindNumber}
-use Rattle.sfdu.specs.Read.{wordsOf, faultWords, primaryWords}
+use Rattle.sfdu.specs.Read.{wordsOf, faultWords, primaryWords, DifferentReads}
 use Rattle.sfdu.proofs.Accepted.{same-kind}
 
 pub same-primary : (p q : Primary) → primaryWords p ≡ primaryWords q → p ≡ q
@@ -27,7 +27,7 @@ same-fault f g e =
     let refusal : f .refusal ≡ g .refusal = number-injective _ _ n in
     λ i. record { refusal = refusal i; at = at i }
 
-pub same-read : (a b : Read) → wordsOf a ≡ wordsOf b → a ≡ b
+pub same-read : DifferentReads
 same-read (Record k n p) (Record l m q) e =
     let kinds : kindNumber k ≡ kindNumber l = cc in
     let words : primaryWords p ≡ primaryWords q = cc in

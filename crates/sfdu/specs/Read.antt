@@ -1,6 +1,7 @@
 -- Document 01, "Calls on records" and "Refusal numbers" 1 to 11, with document 02, Req 05: the first record of a lent slice s. Assumes
 -- nothing.
 -- The manual, docs/INTERFACE.md: "Calls on records".
+use mathlib.Core.Path.{_≡_}
 use Prim.Native.Nat.{ℕ, _+_, _-_}
 use mathlib.Core.Bool.{Bool, not, cond, _&&_, _||_}
 use mathlib.Core.List.{List, [], _∷_, _++_}
@@ -59,6 +60,10 @@ faultWords f = numberOf (f .refusal) ∷ f .at ∷ []
 abbrev pub wordsOf : Read → List ℕ
 wordsOf (Record kind n p) = 0 ∷ kindNumber kind ∷ n ∷ primaryWords p
 wordsOf (Refused f) = faultWords f
+
+-- Different answers have different words.
+abbrev pub DifferentReads : Type 0
+DifferentReads = (a b : Read) → wordsOf a ≡ wordsOf b → a ≡ b
 
 -- ---- the parts of a slice that its label speaks of
 

@@ -5,9 +5,9 @@ use Rattle.refusals.specs.Table.{numberOf}
 use Rattle.sfdu.proofs.Words.{same-fault}
 use Rattle.sfdu_gain.specs.declared.GainAnswer.{GainAnswer}
 use Rattle.sfdu_gain.specs.declared.GainAnswer.the-variants.{Multiplier, Nothing, Header, Refused}
-use Rattle.sfdu_gain.specs.Gain.{wordsOf}
+use Rattle.sfdu_gain.specs.Gain.{wordsOf, DifferentGains}
 
-pub same-gain : (a b : GainAnswer) → wordsOf a ≡ wordsOf b → a ≡ b
+pub same-gain : DifferentGains
 same-gain (Multiplier n) (Multiplier m) e = cc
 same-gain (Multiplier n) Nothing e = cc
 same-gain (Multiplier n) (Header f) e = absurd (number-positive (f .refusal) (cc))

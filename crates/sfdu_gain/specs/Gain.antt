@@ -1,6 +1,7 @@
 -- Document 02, Req 14, the gain multiplier: four bytes that the old edition of the RSR record reserves, with twelve more, at the end of the
 -- secondary block. Assumes nothing.
 -- The manual, docs/INTERFACE.md: "The gain multiplier".
+use mathlib.Core.Path.{_≡_}
 use Prim.Native.Nat.{ℕ}
 use mathlib.Core.Bool.{not, cond}
 use mathlib.Core.List.{List, [], _∷_, _++_, map}
@@ -24,6 +25,10 @@ wordsOf (Multiplier n) = number 0 ∷ number n ∷ []
 wordsOf NoGain = number 0 ∷ none ∷ []
 wordsOf (Header f) = map number (faultWords f)
 wordsOf (Refused r) = map number (only (numberOf r))
+
+-- Different answers have different words.
+abbrev pub DifferentGains : Type 0
+DifferentGains = (a b : GainAnswer) → wordsOf a ≡ wordsOf b → a ≡ b
 
 -- Document 004, section 1.2: of the 16 reserved bytes at the secondary block's end 12 are left. Section 3.5: the multiplier is bytes 208 to 211,
 -- the first of the 16.

@@ -18,7 +18,7 @@ use Rattle.sfdu_headers.specs.declared.ReceivedTime.{ReceivedTime}
 use Rattle.sfdu_headers.specs.declared.Headers.{Headers}
 use Rattle.sfdu_headers.specs.declared.Headers.the-variants.{Telemetry, Rsr, Refused, WrongKind}
 use Rattle.sfdu_headers.specs.Words.{Word, number}
-use Rattle.sfdu_headers.specs.Headers.{bandWord, telemetryFieldWords, sourceWords, signalWords, timeWords, receivedWords, wordsOf}
+use Rattle.sfdu_headers.specs.Headers.{bandWord, telemetryFieldWords, sourceWords, signalWords, timeWords, receivedWords, wordsOf, DifferentHeaders}
 
 same-band : (a b : Band) → bandWord a ≡ bandWord b → a ≡ b
 same-band (Letter x) (Letter y) e = cc
@@ -105,7 +105,7 @@ same-primary-words p q e =
     let d : p .format ≡ q .format = cc in
     same-primary p q (rw (a, b, c, d))
 
-pub same-headers : (a b : Headers) → wordsOf a ≡ wordsOf b → a ≡ b
+pub same-headers : DifferentHeaders
 same-headers (Telemetry n p f key r) (Telemetry m q g l o) e =
     let size : n ≡ m = same-number n m (ap (part 2 1) e) in
     let primary = same-primary-words p q (ap (part 3 4) e) in

@@ -1,5 +1,6 @@
 -- Document 01, "Calls on records": read headers. Assumes nothing.
 -- The manual, docs/INTERFACE.md: "Calls on records".
+use mathlib.Core.Path.{_≡_}
 use Prim.Native.Nat.{ℕ}
 use mathlib.Core.Bool.{not, cond}
 use mathlib.Core.List.{List, [], _∷_, _++_, map}
@@ -112,6 +113,10 @@ wordsOf (RsrHeaders size primary from signal time key day-count) =
     accepted Rsr size (primaryWords primary) (sourceWords from ++ signalWords signal ++ timeWords time) key (number day-count ∷ [])
 wordsOf (Refused f) = map number (faultWords f)
 wordsOf WrongKind = wrongKind
+
+-- Different answers have different words.
+abbrev pub DifferentHeaders : Type 0
+DifferentHeaders = (a b : Headers) → wordsOf a ≡ wordsOf b → a ≡ b
 
 -- ---- the fields and the key of a record
 

@@ -3,9 +3,9 @@ use mathlib.Core.Path.{_≡_, refl, ap}
 use Rattle.sfdu.proofs.Words.{same-fault}
 use Rattle.sfdu_rsr.specs.declared.Rsr.{Rsr}
 use Rattle.sfdu_rsr.specs.declared.Rsr.the-variants.{Record, Refused, WrongKind}
-use Rattle.sfdu_rsr.specs.Record.{wordsOf}
+use Rattle.sfdu_rsr.specs.Record.{wordsOf, DifferentRsr}
 
-pub same-rsr : (a b : Rsr) → wordsOf a ≡ wordsOf b → a ≡ b
+pub same-rsr : DifferentRsr
 same-rsr (Record n m d) (Record o p q) e = cc
 same-rsr (Record n m d) (Refused f) e = cc
 same-rsr (Record n m d) WrongKind e = cc

@@ -48,3 +48,7 @@ abbrev pub wordsOf : Rsr → List ℕ
 wordsOf (Record size mission day-count) = 0 ∷ size ∷ mission ∷ day-count ∷ []
 wordsOf (Refused f) = faultWords f
 wordsOf WrongKind = only (numberOf WrongKindRefusal)
+
+-- Different answers have different words.
+abbrev pub DifferentRsr : Type 0
+DifferentRsr = (a b : Rsr) → wordsOf a ≡ wordsOf b → a ≡ b

@@ -4,9 +4,9 @@ use Rattle.refusals.proofs.Laws.{number-injective, number-positive}
 use Rattle.sfdu.proofs.Words.{same-fault}
 use Rattle.sfdu_samples.specs.declared.Answer.{Answer}
 use Rattle.sfdu_samples.specs.declared.Answer.the-variants.{Count, Header, Refused}
-use Rattle.sfdu_samples.specs.Calls.{wordsOf}
+use Rattle.sfdu_samples.specs.Calls.{wordsOf, DifferentAnswers}
 
-pub same-answer : (a b : Answer) → wordsOf a ≡ wordsOf b → a ≡ b
+pub same-answer : DifferentAnswers
 same-answer (Count n) (Count m) e = cc
 same-answer (Count n) (Header f) e = absurd (number-positive (f .refusal) (cc))
 same-answer (Count n) (Refused r) e = cc

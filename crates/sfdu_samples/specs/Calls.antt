@@ -1,5 +1,6 @@
 -- Document 02, Req 08: what the calls refuse, what they answer, and what the lent list holds after them. Assumes nothing.
 -- The manual, docs/INTERFACE.md: "Samples".
+use mathlib.Core.Path.{_≡_}
 use Prim.Native.Nat.{ℕ, _%_}
 use mathlib.Core.Bool.{not}
 use mathlib.Core.List.{List, [], _∷_, _++_}
@@ -21,6 +22,10 @@ abbrev pub wordsOf : Answer → List ℕ
 wordsOf (Count n) = 0 ∷ n ∷ []
 wordsOf (Header f) = faultWords f
 wordsOf (Refused r) = only (numberOf r)
+
+-- Different answers have different words.
+abbrev pub DifferentAnswers : Type 0
+DifferentAnswers = (a b : Answer) → wordsOf a ≡ wordsOf b → a ≡ b
 
 -- A list with xs at its start; the rest stays.
 abbrev pub fills : {A : Type 0} → List A → List A → List A

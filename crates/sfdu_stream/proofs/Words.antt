@@ -13,12 +13,12 @@ use Rattle.sfdu_stream.specs.declared.Step.the-variants.{Found, Done, Re
 use Rattle.sfdu_stream.specs.declared.Stop.{Stop}
 use Rattle.sfdu_stream.specs.declared.Stop.the-variants.{End, Refused as StopRefused}
 use Rattle.sfdu_stream.specs.declared.Walked.{Walked}
-use Rattle.sfdu_stream.specs.Walk.{stepWords, stopWords, wordsOf}
+use Rattle.sfdu_stream.specs.Walk.{stepWords, stopWords, wordsOf, DifferentSteps, DifferentWalks}
 
 same-cursor : (c d : Cursor) → c .at ≡ d .at → c ≡ d
 same-cursor c d e = λ j. record { at = e j }
 
-pub same-step : (a b : Step) → stepWords a ≡ stepWords b → a ≡ b
+pub same-step : DifferentSteps
 same-step (Found k n p c) (Found l m q d) e =
     let kinds : kindNumber k ≡ kindNumber l = cc in
     let words : primaryWords p ≡ primaryWords q = cc in
@@ -48,7 +48,7 @@ same-stop End (StopRefused f) e = absurd (number-positive (f .refusal) (cc))
 same-stop (StopRefused f) End e = absurd (number-positive (f .refusal) (cc))
 same-stop (StopRefused f) (StopRefused g) e = ap StopRefused (same-fault f g e)
 
-pub same-walked : (a b : Walked) → wordsOf a ≡ wordsOf b → a ≡ b
+pub same-walked : DifferentWalks
 same-walked a b e =
     let count : a .count ≡ b .count = cc in
     let place : a .place ≡ b .place = cc in

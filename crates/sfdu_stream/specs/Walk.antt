@@ -1,5 +1,6 @@
 -- Document 01, "Calls on records": what the answers say, a place in a stream s, and the step there. Assumes nothing.
 -- The manual, docs/INTERFACE.md: "Streams".
+use mathlib.Core.Path.{_≡_}
 use Prim.Native.Nat.{ℕ, _+_}
 use mathlib.Core.Bool.{Bool, cond}
 use mathlib.Core.List.{List, [], _∷_}
@@ -23,6 +24,10 @@ stepWords (Found kind n p next) = next .at ∷ 0 ∷ kindNumber kind ∷ n ∷ p
 stepWords (Done c) = c .at ∷ []
 stepWords (Refused f c) = c .at ∷ faultWords f
 
+-- Different answers have different words.
+abbrev pub DifferentSteps : Type 0
+DifferentSteps = (a b : Step) → stepWords a ≡ stepWords b → a ≡ b
+
 -- The stop number, 0 at the end and else the refusal, and the number that goes with it, 0 where none does.
 abbrev pub atEnd : List ℕ
 atEnd = 0 ∷ 0 ∷ []
@@ -34,6 +39,10 @@ stopWords (StopRefused f) = faultWords f
 -- A walk or a list: the count, the stop place and why it stops there.
 abbrev pub wordsOf : Walked → List ℕ
 wordsOf w = w .count ∷ w .place ∷ stopWords (w .stop)
+
+-- Different answers have different words.
+abbrev pub DifferentWalks : Type 0
+DifferentWalks = (a b : Walked) → wordsOf a ≡ wordsOf b → a ≡ b
 
 -- ---- what stands at a place of a stream, by rules for a record; s is the stream from there on
 

@@ -6,9 +6,9 @@ use Rattle.refusals.specs.Table.{numberOf}
 use Rattle.refusals.proofs.Laws.{number-injective}
 use Rattle.sfdu_write.specs.declared.Write.{Write}
 use Rattle.sfdu_write.specs.declared.Write.the-variants.{Written, Refused}
-use Rattle.sfdu_write.specs.Write.{wordsOf}
+use Rattle.sfdu_write.specs.Write.{wordsOf, DifferentWrites}
 
-pub same-write : (a b : Write) → wordsOf a ≡ wordsOf b → a ≡ b
+pub same-write : DifferentWrites
 same-write (Written n) (Written m) e = cc
 same-write (Written n) (Refused r) e = let z : _≡_ {A = ℕ} 0 1 = cc in absurd (omega arith)
 same-write (Refused r) (Written m) e = let z : _≡_ {A = ℕ} 0 1 = cc in absurd (omega arith)

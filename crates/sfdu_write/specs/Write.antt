@@ -1,5 +1,6 @@
 -- Document 01, "Calls on records": write one, and refusals 14 and 13. Assumes nothing.
 -- The manual, docs/INTERFACE.md: "Calls on records".
+use mathlib.Core.Path.{_≡_}
 use Prim.Native.Nat.{ℕ, _+_, _-_}
 use mathlib.Core.Bool.{Bool, not, cond, _&&_, _||_}
 use mathlib.Core.List.{List, [], _∷_, _++_}
@@ -37,6 +38,10 @@ use Rattle.sfdu.specs.Read.{primaryWords}
 abbrev pub wordsOf : Write → List ℕ
 wordsOf (Written n) = 0 ∷ n ∷ []
 wordsOf (Refused r) = numberOf r ∷ []
+
+-- Different answers have different words.
+abbrev pub DifferentWrites : Type 0
+DifferentWrites = (a b : Write) → wordsOf a ≡ wordsOf b → a ≡ b
 
 -- ---- the bytes of a record
 
