@@ -73,21 +73,20 @@ pub struct Dated {
     pub count: u32,
 }
 
-// Which bytes a judged field may hold.
+// Which bytes a judged field may hold. (Public for the prover's sake.)
 pub enum Allowed {
     Between(u8, u8),
     Bands,
 }
 
-// A judged field of one byte: its offset from the record's start, and what it may hold.
+// A judged field of one byte: its offset from the record's start, and what it may hold. (Public for the prover's sake.)
 pub struct Judged {
     pub at: usize,
     pub allowed: Allowed,
 }
 
-// What reading the headers of a record finds: its length, its primary value, its fields, its stream key, and the
-// received time or the day count; or a
-// refusal, with the offset or the count that goes with it; or that it is of the other kind.
+// What reading the headers of a record finds: its length, its primary value, its fields, its stream key, and the received time or the
+// day count; or a refusal, with the offset or the count that goes with it; or that it is of the other kind.
 pub enum Headers {
     Telemetry {
         size: usize,
