@@ -60,10 +60,6 @@ use Rattle.refusals.specs.declared.Refusal.the-variants.{
 }
 use Rattle.refusals.specs.Table.{numberOf}
 
--- How many refusals there are.
-abbrev pub refusalCount : ℕ
-refusalCount = 50
-
 -- The table back from the numbers: entry n is the refusal with number n; where no refusal has the number, the first.
 back : List Refusal
 back =

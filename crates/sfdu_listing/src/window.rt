@@ -59,11 +59,14 @@ fn stop(s: &[u8], place: u64, last: bool, refusal: Refusal, at: usize) -> Found
     requires { ⌜ (length (now s) ≤ bufferSize) × (place + length (now s) < 2 ^ 64) × (numberOf refusal ∷ at ∷ [] ≡ readOne (now s)) ⌝ }
     ensures { λ r. ⌜ wordsOf r ≡ foundIn place (now (s .entry)) last ⌝ }
 {
-    match refusal {
-        Refusal::TooShort => stop_short(s, last, at),
-        Refusal::Truncated => stop_cut(s, last, at),
-        _ => Found::Stop(refusals::number(refusal), place + at as u64),
+    let number = refusals::number(refusal);
+    if number == refusals::number(Refusal::TooShort) {
+        return stop_short(s, last, at);
     }
+    if number == refusals::number(Refusal::Truncated) {
+        return stop_cut(s, last, at);
+    }
+    Found::Stop(number, place + at as u64)
 }
 
 // Less than a label: the end of the stream, where it is nothing.
