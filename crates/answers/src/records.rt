@@ -6,13 +6,7 @@ use refusals::Refusal;
 use sfdu::Fault;
 use sfdu::Kind;
 use sfdu::Primary;
-use sfdu_headers::Band;
-use sfdu_headers::Headers;
-use sfdu_headers::ReceivedTime;
-use sfdu_headers::RsrSignal;
-use sfdu_headers::RsrSource;
-use sfdu_headers::RsrTime;
-use sfdu_headers::TelemetryFields;
+use sfdu::nesting;
 ghost use mathlib.Core.Path.{_≡_};
 ghost use mathlib.Core.List.{[], _∷_, _++_, map};
 ghost use Rattle.sfdu.specs.declared.Kind.the-variants.{Telemetry, Rsr};
@@ -24,18 +18,18 @@ ghost use Rattle.sfdu_headers.specs.Headers.{accepted, wordsOf, bandWord, telem
 ghost use Rattle.answers.specs.Numbers.{numbersOf, plain, valueOf};
 ghost use Rattle.answers.specs.inner.Numbers.{Numbers};
 
-pub fn headers(found: Headers) -> [u64; NUMBERS]
+pub fn headers(found: sfdu_headers::Headers) -> [u64; NUMBERS]
     ensures { λ r. ⌜ Numbers r (wordsOf found) ⌝ }
 {
     match found {
-        Headers::Telemetry {
+        sfdu_headers::Headers::Telemetry {
             size,
             primary,
             fields,
             key,
             received,
         } => telemetry(size, primary, fields, key, received),
-        Headers::Rsr {
+        sfdu_headers::Headers::Rsr {
             size,
             primary,
             source,
@@ -44,8 +38,8 @@ pub fn headers(found: Headers) -> [u64; NUMBERS]
             key,
             day_count,
         } => rsr(size, primary, source, signal, time, key, day_count),
-        Headers::Refused(fault) => wrong(fault),
-        Headers::WrongKind => wrong(Fault {
+        sfdu_headers::Headers::Refused(fault) => wrong(fault),
+        sfdu_headers::Headers::WrongKind => wrong(Fault {
             refusal: Refusal::WrongKind,
             at: 0,
         }),
@@ -63,12 +57,12 @@ fn wrong(fault: Fault) -> [u64; NUMBERS]
     numbers
 }
 
-fn band(band: Band) -> u64
+fn band(band: sfdu_headers::Band) -> u64
     ensures { λ r. ⌜ r ≡ valueOf (bandWord band) ⌝ }
 {
     match band {
-        Band::Letter(letter) => letter as u64,
-        Band::Unused => NONE,
+        sfdu_headers::Band::Letter(letter) => letter as u64,
+        sfdu_headers::Band::Unused => NONE,
     }
 }
 
@@ -82,7 +76,7 @@ fn two(z: i8) -> u64
     z as u64
 }
 
-fn expected(signal: RsrSignal) -> u64
+fn expected(signal: sfdu_headers::RsrSignal) -> u64
     ensures { λ r. ⌜ r ≡ valueOf (signed (signal .expected)) ⌝ }
 {
     two(signal.expected)
@@ -93,7 +87,7 @@ pub fn record(kind: Kind, size: usize, primary: Primary) -> [u64; NUMBERS]
     ensures { λ r. ⌜ r ≡ numbersOf (number 0 ∷ number (kindNumber kind) ∷ number size ∷ map number (primaryWords primary)) ⌝ }
 {
     let mut numbers = [0u64; NUMBERS];
-    numbers[places::KIND] = sfdu::kind_number(kind) as u64;
+    numbers[places::KIND] = nesting::kind_number(kind) as u64;
     numbers[places::SIZE] = size as u64;
     numbers[places::MAJOR] = primary.major as u64;
     numbers[places::MINOR] = primary.minor as u64;
@@ -105,9 +99,9 @@ pub fn record(kind: Kind, size: usize, primary: Primary) -> [u64; NUMBERS]
 fn telemetry(
     size: usize,
     primary: Primary,
-    fields: TelemetryFields,
+    fields: sfdu_headers::TelemetryFields,
     key: u64,
-    received: ReceivedTime,
+    received: sfdu_headers::ReceivedTime,
 ) -> [u64; NUMBERS]
     ensures { λ r. ⌜ Numbers r (accepted Telemetry size (primaryWords primary) (telemetryFieldWords fields) key (receivedWords received)) ⌝ }
 {
@@ -120,7 +114,7 @@ fn telemetry(
     numbers
 }
 
-fn with_fields(begun: [u64; NUMBERS], fields: TelemetryFields) -> [u64; NUMBERS]
+fn with_fields(begun: [u64; NUMBERS], fields: sfdu_headers::TelemetryFields) -> [u64; NUMBERS]
     ensures { λ r. ⌜ r ≡ sets begun 7 (map valueOf (telemetryFieldWords fields)) ⌝ }
 {
     let uplink = fields.uplink;
@@ -139,9 +133,9 @@ fn with_fields(begun: [u64; NUMBERS], fields: TelemetryFields) -> [u64; NUMBERS]
 fn rsr(
     size: usize,
     primary: Primary,
-    source: RsrSource,
-    signal: RsrSignal,
-    time: RsrTime,
+    source: sfdu_headers::RsrSource,
+    signal: sfdu_headers::RsrSignal,
+    time: sfdu_headers::RsrTime,
     key: u64,
     day_count: u32,
 ) -> [u64; NUMBERS]
@@ -159,7 +153,7 @@ fn rsr(
     numbers
 }
 
-fn with_source(begun: [u64; NUMBERS], source: RsrSource) -> [u64; NUMBERS]
+fn with_source(begun: [u64; NUMBERS], source: sfdu_headers::RsrSource) -> [u64; NUMBERS]
     ensures { λ r. ⌜ r ≡ sets begun 7 (map valueOf (sourceWords source)) ⌝ }
 {
     let mut numbers = begun;
@@ -174,7 +168,7 @@ fn with_source(begun: [u64; NUMBERS], source: RsrSource) -> [u64; NUMBERS]
     numbers
 }
 
-fn with_signal(begun: [u64; NUMBERS], signal: RsrSignal) -> [u64; NUMBERS]
+fn with_signal(begun: [u64; NUMBERS], signal: sfdu_headers::RsrSignal) -> [u64; NUMBERS]
     ensures { λ r. ⌜ r ≡ sets begun 15 (map valueOf (signalWords signal)) ⌝ }
 {
     let mut numbers = begun;

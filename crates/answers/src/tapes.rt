@@ -1,13 +1,6 @@
 // The numbers of what reading a medium band record finds: more than an exported answer has.
 use crate::NONE;
 use crate::places;
-use idr::Count;
-use idr::Origin;
-use idr::Read;
-use idr::Recorder;
-use idr::Reduction;
-use idr::Status;
-use idr::Time;
 ghost use mathlib.Core.Path.{_≡_};
 ghost use mathlib.Core.List.{[], _∷_};
 ghost use lib.Seq.{sets};
@@ -86,11 +79,11 @@ pub const COUNTER: usize = 32;
 
 pub const COUNT: usize = 33;
 
-pub fn record(found: Read) -> [u64; FIELDS]
+pub fn record(found: idr::Read) -> [u64; FIELDS]
     ensures { λ r. ⌜ r ≡ numbersIn tapeCount (withNone tapeCount (wordsOf found)) ⌝ }
 {
     match found {
-        Read::Tagged {
+        idr::Read::Tagged {
             origin,
             time,
             recorder,
@@ -102,8 +95,8 @@ pub fn record(found: Read) -> [u64; FIELDS]
             let reduced = with_reduction(with_recorder(timed, recorder), reduction);
             with_count(with_status(reduced, status), count)
         }
-        Read::Untagged => untagged(),
-        Read::Refused(why) => {
+        idr::Read::Untagged => untagged(),
+        idr::Read::Refused(why) => {
             let mut numbers = [0u64; FIELDS];
             numbers[places::REFUSAL] = refusals::number(why) as u64;
             numbers
@@ -120,7 +113,7 @@ fn untagged() -> [u64; FIELDS]
     numbers
 }
 
-fn with_origin(begun: [u64; FIELDS], origin: Origin) -> [u64; FIELDS]
+fn with_origin(begun: [u64; FIELDS], origin: idr::Origin) -> [u64; FIELDS]
     ensures { λ r. ⌜ r ≡ sets begun 1 (originWords origin) ⌝ }
 {
     let mut numbers = begun;
@@ -134,7 +127,7 @@ fn with_origin(begun: [u64; FIELDS], origin: Origin) -> [u64; FIELDS]
     numbers
 }
 
-fn with_time(begun: [u64; FIELDS], time: Time) -> [u64; FIELDS]
+fn with_time(begun: [u64; FIELDS], time: idr::Time) -> [u64; FIELDS]
     ensures { λ r. ⌜ r ≡ sets begun 8 (timeWords time) ⌝ }
 {
     let mut numbers = begun;
@@ -146,7 +139,7 @@ fn with_time(begun: [u64; FIELDS], time: Time) -> [u64; FIELDS]
     numbers
 }
 
-fn with_recorder(begun: [u64; FIELDS], recorder: Recorder) -> [u64; FIELDS]
+fn with_recorder(begun: [u64; FIELDS], recorder: idr::Recorder) -> [u64; FIELDS]
     ensures { λ r. ⌜ r ≡ sets begun 13 (recorderWords recorder) ⌝ }
 {
     let mut numbers = begun;
@@ -159,7 +152,7 @@ fn with_recorder(begun: [u64; FIELDS], recorder: Recorder) -> [u64; FIELDS]
     numbers
 }
 
-fn with_reduction(begun: [u64; FIELDS], reduction: Reduction) -> [u64; FIELDS]
+fn with_reduction(begun: [u64; FIELDS], reduction: idr::Reduction) -> [u64; FIELDS]
     ensures { λ r. ⌜ r ≡ sets begun 19 (reductionWords reduction) ⌝ }
 {
     let mut numbers = begun;
@@ -174,7 +167,7 @@ fn with_reduction(begun: [u64; FIELDS], reduction: Reduction) -> [u64; FIELDS]
     numbers
 }
 
-fn with_status(begun: [u64; FIELDS], status: Status) -> [u64; FIELDS]
+fn with_status(begun: [u64; FIELDS], status: idr::Status) -> [u64; FIELDS]
     ensures { λ r. ⌜ r ≡ sets begun 27 (statusWords status) ⌝ }
 {
     let mut numbers = begun;
@@ -187,7 +180,7 @@ fn with_status(begun: [u64; FIELDS], status: Status) -> [u64; FIELDS]
     numbers
 }
 
-fn with_count(begun: [u64; FIELDS], count: Count) -> [u64; FIELDS]
+fn with_count(begun: [u64; FIELDS], count: idr::Count) -> [u64; FIELDS]
     ensures { λ r. ⌜ r ≡ sets begun 33 (countNumber count ∷ []) ⌝ }
 {
     let mut numbers = begun;
@@ -195,11 +188,11 @@ fn with_count(begun: [u64; FIELDS], count: Count) -> [u64; FIELDS]
     numbers
 }
 
-fn count_number(count: Count) -> u64
+fn count_number(count: idr::Count) -> u64
     ensures { λ r. ⌜ r ≡ countNumber count ⌝ }
 {
     match count {
-        Count::Samples(n) => n as u64,
-        Count::Unknown => NONE,
+        idr::Count::Samples(n) => n as u64,
+        idr::Count::Unknown => NONE,
     }
 }

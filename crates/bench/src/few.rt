@@ -1,5 +1,4 @@
 // Calls whose answers are a few numbers: these, one on the other.
-use answers::FEW;
 use answers::agreements;
 use answers::ledgers;
 use answers::receivers;
@@ -14,7 +13,7 @@ ghost use Rattle.ledger_season.specs.Season.{season, countsWords};
 ghost use Rattle.answers.specs.Numbers.{numbersOf, plain};
 ghost use Rattle.bench.specs.inner.Digest.{fewOnto, countsOnto, seasonOnto};
 
-fn onto(numbers: [u64; FEW]) -> u64
+fn onto(numbers: [u64; answers::FEW]) -> u64
     ensures { λ r. ⌜ r ≡ fewOnto numbers ⌝ }
 {
     numbers[0] ^ (numbers[1] ^ (numbers[2] ^ numbers[3]))

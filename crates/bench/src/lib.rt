@@ -5,10 +5,9 @@ pub mod replays;
 pub mod samples;
 pub mod tapes;
 
+use ledger_sheet as sheet;
 use ledger_sheet::Answer;
-use ledger_sheet::ROWS;
 use ledger_sheet::ReportAnswer;
-use ledger_sheet::SHEET;
 ghost use mathlib.Core.Path.{_≡_};
 ghost use mathlib.Core.List.{[], _∷_};
 ghost use Prim.Native.Nat.{_+_, _*_, _^_};
@@ -103,10 +102,10 @@ pub extern "C" fn bench_count(s: &[u8], row: u32) -> u64
     ensures { λ r. ⌜ r ≡ counted (now (s .entry)) row ⌝ }
 {
     let row = row as usize;
-    if s.len() != SHEET {
+    if s.len() != sheet::SHEET {
         return NOTHING;
     }
-    if row >= ROWS {
+    if row >= sheet::ROWS {
         return NOTHING;
     }
     reported(ledger_counts::row_report(s, row))

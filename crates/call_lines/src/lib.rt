@@ -2,10 +2,9 @@
 pub mod crc;
 pub mod line;
 mod lists;
+pub mod ops;
 mod records;
 mod tapes;
-
-use line::told;
 
 // What a call is and takes, and the lengths of the two runs of bytes that come with it.
 pub struct Frame {
@@ -19,6 +18,14 @@ pub struct Frame {
     pub b: usize,
 }
 
+// The number of an accepted call.
+pub const ACCEPTED: u64 = 0;
+
+// What bytes hold that are lent to be written, and the most that write one and pack are lent.
+pub const FILL: u8 = 165;
+
+pub const MOST_SLICE: usize = 70000;
+
 // How many numbers the answers have where they are accepted.
 const KEY: usize = 2;
 
@@ -28,29 +35,29 @@ const DATE: usize = 3;
 pub fn on_bytes(f: Frame, a: &[u8], b: &[u8], out: &mut [u8], at: usize) -> usize {
     let op = f.op;
     match op {
-        1 => records::read_one(a, out, at),
-        2 => records::part(sfdu::secondary_part(a), out, at),
-        3 => records::part(sfdu::data_part(a), out, at),
-        4 => records::read_headers(a, f.x, out, at),
-        5 => records::write_one(f, a, b, out, at),
-        6 => told(
+        ops::READ_ONE => records::read_one(a, out, at),
+        ops::SECONDARY_PART => records::part(sfdu::secondary_part(a), out, at),
+        ops::DATA_PART => records::part(sfdu::data_part(a), out, at),
+        ops::READ_HEADERS => records::read_headers(a, f.x, out, at),
+        ops::WRITE_ONE => records::write_one(f, a, b, out, at),
+        ops::TELEMETRY_KEY => line::told(
             out,
             at,
             answers::key(keys::telemetry_key(f.x, f.y, f.z, f.w)),
             KEY,
         ),
-        7 => told(
+        ops::RSR_KEY => line::told(
             out,
             at,
             answers::key(keys::rsr_key(f.x, f.y, f.z, f.w)),
             KEY,
         ),
-        8 => records::stopped(out, at, sfdu_stream::walk(a)),
-        9 => lists::list_numbers(f, a, out, at),
-        11 => records::step(a, f.key, out, at),
-        12 => told(out, at, answers::date(dates::date_of(f.x)), DATE),
-        16 => tapes::read(a, out, at),
-        17 => tapes::write(f, a, b, out, at),
+        ops::WALK => records::stopped(out, at, sfdu_stream::walk(a)),
+        ops::LIST_NUMBERS => lists::list_numbers(f, a, out, at),
+        ops::STEP => records::step(a, f.key, out, at),
+        ops::DATE_OF => line::told(out, at, answers::date(dates::date_of(f.x)), DATE),
+        ops::READ_TAPE => tapes::read(a, out, at),
+        ops::WRITE_TAPE => tapes::write(f, a, b, out, at),
         _ => at,
     }
 }

@@ -1,8 +1,7 @@
 // The words of a line, laid out as text in a lent slice. Each function lays its words out from index `at` on, a space behind each, and
 // answers where they end. The slice has room for the longest line; a word that finds none is left out.
-use answers::FEW;
-use answers::NONE;
 use answers::places;
+use refusals::Refusal;
 
 const SPACE: u8 = b' ';
 
@@ -11,8 +10,10 @@ const MOST_DIGITS: usize = 20;
 // The highest number of 64 bits that is not below zero in two's complement.
 const MOST_POSITIVE: u64 = 9223372036854775807;
 
-// The highest refusal that goes with another number, which stands behind it.
-const LAST_PLACED: u64 = 12;
+// How many numbers a refusal has: its own, and with some another behind it.
+const REFUSED: usize = 1;
+
+const PLACED: usize = 2;
 
 pub fn letters(out: &mut [u8], at: usize, text: &[u8]) -> usize {
     if out.len() <= at {
@@ -40,7 +41,7 @@ pub fn signed(out: &mut [u8], at: usize, n: u64) -> usize {
         return number(out, at, n);
     }
     let sign = before(letters(out, at, b"-"));
-    number(out, sign, NONE - n + 1)
+    number(out, sign, answers::NONE - n + 1)
 }
 
 pub fn before(at: usize) -> usize {
@@ -52,7 +53,7 @@ pub fn before(at: usize) -> usize {
 
 // A number, or none.
 pub fn maybe(out: &mut [u8], at: usize, n: u64) -> usize {
-    if n == NONE {
+    if n == answers::NONE {
         return letters(out, at, b"none");
     }
     number(out, at, n)
@@ -70,19 +71,19 @@ pub fn numbers(out: &mut [u8], at: usize, list: &[u64], from: usize, to: usize) 
     end
 }
 
-// How many numbers of an answer are told, by the first: so many where it is accepted.
+// How many numbers of an answer are told, by the first: so many where it is accepted. Those up to a field's refusal go with another number.
 pub fn told_count(first: u64, accepted: usize) -> usize {
-    if first == 0 {
+    if first == crate::ACCEPTED {
         return accepted;
     }
-    if first <= LAST_PLACED {
-        return 2;
+    if first <= refusals::number(Refusal::FieldRange) as u64 {
+        return PLACED;
     }
-    1
+    REFUSED
 }
 
 // The first numbers of an answer: so many where it is accepted.
-pub fn told(out: &mut [u8], at: usize, answer: [u64; FEW], accepted: usize) -> usize {
+pub fn told(out: &mut [u8], at: usize, answer: [u64; answers::FEW], accepted: usize) -> usize {
     let n = told_count(answer[places::REFUSAL], accepted);
     numbers(out, at, &answer, 0, n)
 }
@@ -91,15 +92,15 @@ pub fn told(out: &mut [u8], at: usize, answer: [u64; FEW], accepted: usize) -> u
 pub fn told_or(
     out: &mut [u8],
     at: usize,
-    answer: [u64; FEW],
+    answer: [u64; answers::FEW],
     accepted: usize,
     i: usize,
     word: &[u8],
 ) -> usize {
-    if FEW <= i {
+    if answers::FEW <= i {
         return at;
     }
-    if answer[i] == NONE {
+    if answer[i] == answers::NONE {
         let end = numbers(out, at, &answer, 0, i);
         return letters(out, end, word);
     }

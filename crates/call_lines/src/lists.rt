@@ -1,8 +1,7 @@
 // The line of the call that lists the numbers of a stream.
 use crate::Frame;
-use crate::line::number;
-use crate::line::numbers;
-use crate::records::stopped;
+use crate::line;
+use crate::records;
 
 // The most numbers of a list, and what the lists hold before.
 const MOST_LIST: usize = 64;
@@ -31,7 +30,7 @@ pub fn list_numbers(f: Frame, s: &[u8], out: &mut [u8], at: usize) -> usize {
         &mut kinds[..z],
         &mut record_numbers[..w],
     );
-    let begun = stopped(out, at, walked);
+    let begun = records::stopped(out, at, walked);
     let placed = long_numbers(out, begun, &places, x);
     let measured = long_numbers(out, placed, &lengths, y);
     let sorted = short_numbers(out, measured, &kinds, z);
@@ -41,7 +40,7 @@ pub fn list_numbers(f: Frame, s: &[u8], out: &mut [u8], at: usize) -> usize {
 // The first n numbers of a list.
 fn long_numbers(out: &mut [u8], at: usize, list: &[u64; MOST_LIST], n: usize) -> usize {
     let s: &[u64] = list;
-    numbers(out, at, s, 0, n)
+    line::numbers(out, at, s, 0, n)
 }
 
 fn short_numbers(out: &mut [u8], at: usize, list: &[u32; MOST_LIST], n: usize) -> usize {
@@ -55,7 +54,7 @@ fn narrow(out: &mut [u8], at: usize, list: &[u32], n: usize) -> usize {
         if list.len() <= i {
             return end;
         }
-        end = number(out, end, wide(list[i]));
+        end = line::number(out, end, wide(list[i]));
     }
     end
 }

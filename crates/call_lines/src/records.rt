@@ -1,21 +1,16 @@
 // The lines of the calls on records and streams.
+use crate::ACCEPTED;
+use crate::FILL;
 use crate::Frame;
-use crate::crc::crc;
-use crate::line::letters;
-use crate::line::maybe;
-use crate::line::number;
-use crate::line::numbers;
-use crate::line::signed;
-use crate::line::told;
-use crate::line::told_count;
-use answers::NUMBERS;
+use crate::MOST_SLICE;
+use crate::crc;
+use crate::line;
 use answers::places;
-use answers::records::headers;
-use answers::records::record;
-use answers::wrong;
+use answers::records;
 use sfdu::Kind;
 use sfdu::Primary;
 use sfdu::Read;
+use sfdu::nesting;
 use sfdu_stream::Cursor;
 use sfdu_stream::Step;
 use sfdu_stream::Stop;
@@ -29,17 +24,6 @@ const TELEMETRY: usize = 19;
 
 const RSR: usize = 30;
 
-// The kind that is no telemetry, by its number.
-const RSR_KIND: u64 = 2;
-
-// The number of an accepted call.
-const ACCEPTED: u64 = 0;
-
-// The most bytes that write one is lent, and what they hold before.
-const MOST_SLICE: usize = 70000;
-
-const SLICE_FILL: u8 = 165;
-
 const BYTE_VALUES: u32 = 256;
 
 pub fn read_one(s: &[u8], out: &mut [u8], at: usize) -> usize {
@@ -50,44 +34,44 @@ pub fn read_one(s: &[u8], out: &mut [u8], at: usize) -> usize {
             size,
             primary,
         } => one(out, at, kind, size, primary),
-        Read::Refused(fault) => told(out, at, wrong(fault), 0),
+        Read::Refused(fault) => line::told(out, at, answers::wrong(fault), 0),
     }
 }
 
 fn one(out: &mut [u8], at: usize, kind: Kind, size: usize, primary: Primary) -> usize {
-    let answer = record(kind, size, primary);
-    numbers(out, at, &answer, 0, RECORD)
+    let answer = records::record(kind, size, primary);
+    line::numbers(out, at, &answer, 0, RECORD)
 }
 
 pub fn part(part: &[u8], out: &mut [u8], at: usize) -> usize {
-    let end = number(out, at, part.len() as u64);
-    number(out, end, crc(part) as u64)
+    let end = line::number(out, at, part.len() as u64);
+    line::number(out, end, crc::crc(part) as u64)
 }
 
 pub fn read_headers(s: &[u8], wanted: u32, out: &mut [u8], at: usize) -> usize {
-    let answer = headers(sfdu_headers::read_headers(s, wanted));
+    let answer = records::headers(sfdu_headers::read_headers(s, wanted));
     if answer[places::REFUSAL] != ACCEPTED {
-        let n = told_count(answer[places::REFUSAL], 0);
-        return numbers(out, at, &answer, 0, n);
+        let n = line::told_count(answer[places::REFUSAL], 0);
+        return line::numbers(out, at, &answer, 0, n);
     }
-    if answer[places::KIND] == RSR_KIND {
+    if answer[places::KIND] == nesting::RSR_NUMBER as u64 {
         return rsr(out, at, answer);
     }
     telemetry(out, at, answer)
 }
 
 // The uplink band can be a none.
-fn telemetry(out: &mut [u8], at: usize, answer: [u64; NUMBERS]) -> usize {
-    let begun = numbers(out, at, &answer, 0, places::TELEMETRY_UPLINK);
-    let banded = maybe(out, begun, answer[places::TELEMETRY_UPLINK]);
-    numbers(out, banded, &answer, places::TELEMETRY_MODE, TELEMETRY)
+fn telemetry(out: &mut [u8], at: usize, answer: [u64; answers::NUMBERS]) -> usize {
+    let begun = line::numbers(out, at, &answer, 0, places::TELEMETRY_UPLINK);
+    let banded = line::maybe(out, begun, answer[places::TELEMETRY_UPLINK]);
+    line::numbers(out, banded, &answer, places::TELEMETRY_MODE, TELEMETRY)
 }
 
 // Px/No can be below zero.
-fn rsr(out: &mut [u8], at: usize, answer: [u64; NUMBERS]) -> usize {
-    let begun = numbers(out, at, &answer, 0, places::RSR_EXPECTED);
-    let expected = signed(out, begun, answer[places::RSR_EXPECTED]);
-    numbers(out, expected, &answer, places::RSR_BANDWIDTH, RSR)
+fn rsr(out: &mut [u8], at: usize, answer: [u64; answers::NUMBERS]) -> usize {
+    let begun = line::numbers(out, at, &answer, 0, places::RSR_EXPECTED);
+    let expected = line::signed(out, begun, answer[places::RSR_EXPECTED]);
+    line::numbers(out, expected, &answer, places::RSR_BANDWIDTH, RSR)
 }
 
 // All of the bytes that are lent go into the crc.
@@ -96,20 +80,20 @@ pub fn write_one(f: Frame, a: &[u8], b: &[u8], out: &mut [u8], at: usize) -> usi
     if MOST_SLICE < z {
         return at;
     }
-    let mut room = [SLICE_FILL; MOST_SLICE];
+    let mut room = [FILL; MOST_SLICE];
     let lent = &mut room[..z];
     let answer = sfdu_write::write_one(f.x, primary_of(f.y), a, b, lent);
     let end = written(out, at, answer);
-    number(out, end, crc(lent) as u64)
+    line::number(out, end, crc::crc(lent) as u64)
 }
 
 fn written(out: &mut [u8], at: usize, answer: Write) -> usize {
     match answer {
         Write::Written(n) => {
-            let end = number(out, at, ACCEPTED);
-            number(out, end, n as u64)
+            let end = line::number(out, at, ACCEPTED);
+            line::number(out, end, n as u64)
         }
-        Write::Refused(why) => number(out, at, refusals::number(why) as u64),
+        Write::Refused(why) => line::number(out, at, refusals::number(why) as u64),
     }
 }
 
@@ -132,10 +116,10 @@ fn low_byte(n: u32) -> u8 {
 
 pub fn stopped(out: &mut [u8], at: usize, walked: Walked) -> usize {
     let stop = walked.stop;
-    let counted = number(out, at, walked.count as u64);
-    let placed = number(out, counted, walked.place as u64);
-    let stopped = number(out, placed, stop_number(stop) as u64);
-    number(out, stopped, beside(stop) as u64)
+    let counted = line::number(out, at, walked.count as u64);
+    let placed = line::number(out, counted, walked.place as u64);
+    let stopped = line::number(out, placed, stop_number(stop) as u64);
+    line::number(out, stopped, beside(stop) as u64)
 }
 
 fn stop_number(stop: Stop) -> u32 {
@@ -167,15 +151,15 @@ pub fn step(s: &[u8], place: u64, out: &mut [u8], at: usize) -> usize {
             next,
         } => {
             let end = one(out, at, kind, size, primary);
-            number(out, end, next.at as u64)
+            line::number(out, end, next.at as u64)
         }
         Step::Done(cursor) => {
-            let end = letters(out, at, b"done");
-            number(out, end, cursor.at as u64)
+            let end = line::letters(out, at, b"done");
+            line::number(out, end, cursor.at as u64)
         }
         Step::Refused(fault, cursor) => {
-            let end = told(out, at, wrong(fault), 0);
-            number(out, end, cursor.at as u64)
+            let end = line::told(out, at, answers::wrong(fault), 0);
+            line::number(out, end, cursor.at as u64)
         }
     }
 }

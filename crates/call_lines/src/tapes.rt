@@ -1,48 +1,38 @@
 // The lines of the calls on medium band records.
 ghost use Prim.Native.Nat.{_*_, _≤_};
 ghost use lib.ListN.{length};
+use crate::ACCEPTED;
+use crate::FILL;
 use crate::Frame;
-use crate::crc::crc;
-use crate::line::maybe;
-use crate::line::number;
-use crate::line::numbers;
-use answers::NONE;
-use answers::tapes::COUNT;
-use answers::tapes::FIELDS;
-use answers::tapes::FIRST;
-use answers::tapes::record;
-use idr::HEADER;
+use crate::crc;
+use crate::line;
+use answers::tapes;
 use idr::Outcome;
-use idr::WORD;
+use octets::numbers;
 
-// The number of an accepted call.
-const ACCEPTED: u64 = 0;
-
-// The most header words that a frame has room for; the most bytes that the writer is lent, and what they hold before.
+// The most header words that a frame has room for; the most bytes that the writer is lent.
 const MOST_HEADER: usize = 65536;
 
 const MOST_SLICE: usize = 8192;
 
-const SLICE_FILL: u8 = 165;
-
 // The words, the fields where there are any, and the crc of the samples.
 pub fn read(s: &[u8], out: &mut [u8], at: usize) -> usize {
-    let mut words = [0u16; HEADER];
+    let mut words = [0u16; idr::HEADER];
     let judged = idr::read_words(s, &mut words);
     match judged {
         Outcome::Accepted => {
             let begun = all_words(out, at, &words);
-            let end = fields(out, begun, record(idr::read_record(s)));
-            number(out, end, crc(idr::samples(s)) as u64)
+            let end = fields(out, begun, tapes::record(idr::read_record(s)));
+            line::number(out, end, crc::crc(idr::samples(s)) as u64)
         }
-        Outcome::Refused(why) => number(out, at, refusals::number(why) as u64),
+        Outcome::Refused(why) => line::number(out, at, refusals::number(why) as u64),
     }
 }
 
 fn all_words(out: &mut [u8], at: usize, words: &[u16]) -> usize {
-    let mut end = number(out, at, ACCEPTED);
+    let mut end = line::number(out, at, ACCEPTED);
     for i in 0..words.len() {
-        end = number(out, end, wide(words[i]));
+        end = line::number(out, end, wide(words[i]));
     }
     end
 }
@@ -52,12 +42,12 @@ fn wide(n: u16) -> u64 {
 }
 
 // Where there is no valid time tag, each field is a none, and none is told.
-fn fields(out: &mut [u8], at: usize, answer: [u64; FIELDS]) -> usize {
-    if answer[FIRST] == NONE {
+fn fields(out: &mut [u8], at: usize, answer: [u64; tapes::FIELDS]) -> usize {
+    if answer[tapes::FIRST] == answers::NONE {
         return at;
     }
-    let end = numbers(out, at, &answer, FIRST, COUNT);
-    maybe(out, end, answer[COUNT])
+    let end = line::numbers(out, at, &answer, tapes::FIRST, tapes::COUNT);
+    line::maybe(out, end, answer[tapes::COUNT])
 }
 
 // No words where the first run is no whole number of header words, or there is to be too much of either.
@@ -66,8 +56,8 @@ pub fn write(f: Frame, a: &[u8], b: &[u8], out: &mut [u8], at: usize) -> usize {
     if MOST_SLICE < z {
         return at;
     }
-    let n = a.len() / WORD;
-    if n * WORD != a.len() {
+    let n = a.len() / idr::WORD;
+    if n * idr::WORD != a.len() {
         return at;
     }
     if MOST_HEADER < n {
@@ -83,7 +73,7 @@ fn fill(a: &[u8], words: &mut [u16])
     requires { ⌜ length (now words) * 2 ≤ length (now a) ⌝ }
 {
     for i in 0..words.len() {
-        words[i] = octets::read_u16(a, i * WORD);
+        words[i] = numbers::read_u16(a, i * idr::WORD);
     }
 }
 
@@ -91,11 +81,11 @@ fn fill(a: &[u8], words: &mut [u16])
 fn write_into(words: &[u16], samples: &[u8], z: usize, out: &mut [u8], at: usize) -> usize
     requires { ⌜ z ≤ 8192 ⌝ }
 {
-    let mut room = [SLICE_FILL; MOST_SLICE];
+    let mut room = [FILL; MOST_SLICE];
     let lent = &mut room[..z];
     let answer = idr_write::write_record(words, samples, lent);
-    let end = number(out, at, written(answer));
-    number(out, end, crc(lent) as u64)
+    let end = line::number(out, at, written(answer));
+    line::number(out, end, crc::crc(lent) as u64)
 }
 
 fn written(answer: Outcome) -> u64 {

@@ -4,28 +4,15 @@ ghost use lib.ListN.{length};
 use answers::places;
 use answers::receivers;
 use call_lines::Frame;
-use call_lines::crc::crc;
-use call_lines::line::number;
-use call_lines::line::told;
-use call_lines::line::told_or;
-use octets::read_u32;
-use octets::write_be;
-use sfdu_samples::from_bits;
-use sfdu_samples::to_bits;
+use call_lines::crc;
+use call_lines::line;
+use call_lines::ops;
+use octets::numbers;
 
-// The ops of this crate.
-pub const FIRST: u32 = 13;
-
-pub const LAST: u32 = 15;
-
-// The most numbers that unpack is lent, and what they hold before; the same of the bytes for pack.
+// The most numbers that unpack is lent, and what they hold before.
 const MOST_NUMBERS: usize = 131072;
 
 const NUMBER_FILL: i32 = 7;
-
-const MOST_SLICE: usize = 70000;
-
-const SLICE_FILL: u8 = 165;
 
 // A number in a run: four bytes, two's complement. A run has room for so many.
 const NUMBER: usize = 4;
@@ -40,16 +27,16 @@ const GAIN: usize = 2;
 pub fn line(f: Frame, a: &[u8], out: &mut [u8], at: usize) -> usize {
     let op = f.op;
     match op {
-        13 => unpack(f, a, out, at),
-        14 => pack(f, a, out, at),
-        15 => gain(a, f.x, out, at),
+        ops::UNPACK => unpack(f, a, out, at),
+        ops::PACK => pack(f, a, out, at),
+        ops::GAIN => gain(a, f.x, out, at),
         _ => at,
     }
 }
 
 fn gain(a: &[u8], edition: u32, out: &mut [u8], at: usize) -> usize {
     let answer = receivers::gain(sfdu_gain::gain(a, edition));
-    told_or(out, at, answer, GAIN, places::GAIN, b"none")
+    line::told_or(out, at, answer, GAIN, places::GAIN, b"none")
 }
 
 fn unpack(f: Frame, a: &[u8], out: &mut [u8], at: usize) -> usize {
@@ -72,8 +59,8 @@ fn unpack_into(
     }
     let lent = &mut numbers[..z];
     let answer = receivers::samples(sfdu_samples::unpack(a, lent));
-    let end = told(out, at, answer, COUNTED);
-    number(out, end, crc_of(lent, bytes) as u64)
+    let end = line::told(out, at, answer, COUNTED);
+    line::number(out, end, crc_of(lent, bytes) as u64)
 }
 
 // The crc of numbers laid out as bytes, for which there is room.
@@ -82,7 +69,7 @@ fn crc_of(numbers: &[i32], bytes: &mut [u8]) -> u32 {
         return 0;
     }
     lay_out(numbers, bytes);
-    crc(&bytes[..numbers.len() * NUMBER])
+    crc::crc(&bytes[..numbers.len() * NUMBER])
 }
 
 fn lay_out(numbers: &[i32], bytes: &mut [u8])
@@ -90,13 +77,13 @@ fn lay_out(numbers: &[i32], bytes: &mut [u8])
 {
     for i in 0..numbers.len() {
         let n = numbers[i];
-        write_be(bytes, i * NUMBER, NUMBER, to_bits(n) as u64);
+        octets::write_be(bytes, i * NUMBER, NUMBER, sfdu_samples::to_bits(n) as u64);
     }
 }
 
 fn pack(f: Frame, a: &[u8], out: &mut [u8], at: usize) -> usize {
     let mut numbers = [0i32; MOST_PACKED];
-    let mut slice = [SLICE_FILL; MOST_SLICE];
+    let mut slice = [call_lines::FILL; call_lines::MOST_SLICE];
     pack_from(f, a, &mut numbers, &mut slice, out, at)
 }
 
@@ -122,11 +109,11 @@ fn pack_from(
     pack_into(f, samples, slice, out, at)
 }
 
-fn fill(a: &[u8], numbers: &mut [i32])
-    requires { ⌜ length (now numbers) * 4 ≤ length (now a) ⌝ }
+fn fill(a: &[u8], samples: &mut [i32])
+    requires { ⌜ length (now samples) * 4 ≤ length (now a) ⌝ }
 {
-    for i in 0..numbers.len() {
-        numbers[i] = from_bits(read_u32(a, i * NUMBER));
+    for i in 0..samples.len() {
+        samples[i] = sfdu_samples::from_bits(numbers::read_u32(a, i * NUMBER));
     }
 }
 
@@ -137,6 +124,6 @@ fn pack_into(f: Frame, numbers: &[i32], slice: &mut [u8], out: &mut [u8], at: us
     }
     let lent = &mut slice[..z];
     let answer = receivers::samples(sfdu_samples::pack(f.x, f.y, numbers, lent));
-    let end = told(out, at, answer, COUNTED);
-    number(out, end, crc(lent) as u64)
+    let end = line::told(out, at, answer, COUNTED);
+    line::number(out, end, crc::crc(lent) as u64)
 }

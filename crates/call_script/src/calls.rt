@@ -2,18 +2,7 @@
 use crate::seasons;
 use crate::sheets;
 use call_lines::Frame;
-
-// The first op on the sheet. After it the sheet is as long as the frame's first run.
-pub const NEW_SHEET: u32 = 19;
-
-// The op that converts an old sheet. After it the sheet is as long as the frame says.
-pub const CONVERT: u32 = 31;
-
-// The op that reports on a season.
-const SEASON: u32 = 33;
-
-// The op that plays a trace again over the sheet.
-const REPLAY: u32 = 32;
+use call_lines::ops;
 
 pub fn call(
     f: Frame,
@@ -24,27 +13,28 @@ pub fn call(
     out: &mut [u8],
     at: usize,
 ) -> usize {
-    if f.op < NEW_SHEET {
+    if f.op < ops::NEW_SHEET {
         return on_bytes(f, a, b, out, at);
     }
-    if f.op == NEW_SHEET {
+    if f.op == ops::NEW_SHEET {
         return sheets::new_sheet(a, sheet, out, at);
     }
-    if f.op == CONVERT {
+    if f.op == ops::CONVERT {
         return sheets::converted(a, sheet, f.z as usize, out, at);
     }
-    if f.op == SEASON {
+    if f.op == ops::SEASON {
         return seasons::season(a, out, at);
     }
-    if f.op == REPLAY {
+    if f.op == ops::REPLAY {
         return sheets::replayed(a, sheet, n, out, at);
     }
     sheets::on_sheet(f, sheet, n, out, at)
 }
 
 fn on_bytes(f: Frame, a: &[u8], b: &[u8], out: &mut [u8], at: usize) -> usize {
-    if (call_samples::FIRST <= f.op) & (f.op <= call_samples::LAST) {
-        return call_samples::line(f, a, out, at);
+    let op = f.op;
+    match op {
+        ops::UNPACK | ops::PACK | ops::GAIN => call_samples::line(f, a, out, at),
+        _ => call_lines::on_bytes(f, a, b, out, at),
     }
-    call_lines::on_bytes(f, a, b, out, at)
 }

@@ -1,8 +1,6 @@
 // A frame of the script on standard input.
 use call_lines::Frame;
-use libc::STDIN_FILENO;
-use octets::read_be;
-use octets::read_u32;
+use octets::numbers;
 
 const HEADER: usize = 40;
 
@@ -43,7 +41,7 @@ pub enum Next {
 // Reads a frame, its two runs to the start of `runs`, one behind the other.
 pub fn read(runs: &mut [u8]) -> Next {
     let mut header = [0u8; HEADER];
-    let got = io::read_full(STDIN_FILENO, &mut header);
+    let got = io::read_full(libc::STDIN_FILENO, &mut header);
     if got == 0 {
         return Next::End;
     }
@@ -56,14 +54,14 @@ pub fn read(runs: &mut [u8]) -> Next {
 fn read_header(header: &[u8; HEADER]) -> Frame {
     let s: &[u8] = header;
     Frame {
-        op: read_u32(s, OP_AT),
-        x: read_u32(s, X_AT),
-        y: read_u32(s, Y_AT),
-        z: read_u32(s, Z_AT),
-        w: read_u32(s, W_AT),
-        key: read_be(s, KEY_AT, KEY),
-        a: read_u32(s, LENGTH_A_AT) as usize,
-        b: read_u32(s, LENGTH_B_AT) as usize,
+        op: numbers::read_u32(s, OP_AT),
+        x: numbers::read_u32(s, X_AT),
+        y: numbers::read_u32(s, Y_AT),
+        z: numbers::read_u32(s, Z_AT),
+        w: numbers::read_u32(s, W_AT),
+        key: numbers::read_be(s, KEY_AT, KEY),
+        a: numbers::read_u32(s, LENGTH_A_AT) as usize,
+        b: numbers::read_u32(s, LENGTH_B_AT) as usize,
     }
 }
 
@@ -81,7 +79,7 @@ fn read_runs(runs: &mut [u8], f: Frame) -> Next {
     if runs.len() < n {
         return Next::Bad;
     }
-    if io::read_full(STDIN_FILENO, &mut runs[..n]) < n {
+    if io::read_full(libc::STDIN_FILENO, &mut runs[..n]) < n {
         return Next::Bad;
     }
     Next::Frame(f)

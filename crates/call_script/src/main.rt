@@ -8,13 +8,9 @@ mod seasons;
 mod sheets;
 
 use call_lines::Frame;
-use call_lines::line::before;
-use call_lines::line::letters;
-use frame::MOST_RUNS;
+use call_lines::line;
+use call_lines::ops;
 use frame::Next;
-use frame::behind;
-use frame::first;
-use libc::STDOUT_FILENO;
 
 // The most bytes of the sheet, of the settings and of the text.
 const MOST_SHEET: usize = 8192;
@@ -46,7 +42,7 @@ struct State {
 }
 
 fn main() {
-    let mut runs = [0u8; MOST_RUNS];
+    let mut runs = [0u8; frame::MOST_RUNS];
     let mut sheet = [0u8; MOST_SHEET];
     let mut settings = [0u8; MOST_SETTINGS];
     let mut text = [0u8; MOST_TEXT];
@@ -85,7 +81,7 @@ fn end_line(out: &mut [u8], at: usize, end: usize) {
     if end <= at {
         return;
     }
-    let last = before(end);
+    let last = line::before(end);
     if last < out.len() {
         out[last] = LINE_END;
     }
@@ -131,7 +127,7 @@ fn bad_frame(out: &mut [u8], s: State) -> State {
     let kept = s.kept;
     State {
         kept,
-        text: letters(out, s.text, b"bad frame"),
+        text: line::letters(out, s.text, b"bad frame"),
         on: false,
     }
 }
@@ -144,8 +140,8 @@ fn answer(
     out: &mut [u8],
     s: State,
 ) -> State {
-    let a = first(runs, f.a);
-    let b = first(behind(runs, f.a), f.b);
+    let a = frame::first(runs, f.a);
+    let b = frame::first(frame::behind(runs, f.a), f.b);
     let kept = s.kept;
     let end = line_of(f, a, b, sheet, settings, kept, out, s.text);
     if end == s.text {
@@ -168,7 +164,7 @@ fn line_of(
     out: &mut [u8],
     at: usize,
 ) -> usize {
-    if f.op < missions::NEW_SETTINGS {
+    if f.op < ops::NEW_SETTINGS {
         return calls::call(f, a, b, sheet, kept.sheet, out, at);
     }
     missions::call(f, a, settings, kept.settings, out, at)
@@ -178,15 +174,15 @@ fn line_of(
 fn kept_after(f: Frame, kept: Lengths) -> Lengths {
     let op = f.op;
     match op {
-        calls::NEW_SHEET => Lengths {
+        ops::NEW_SHEET => Lengths {
             sheet: f.a,
             settings: kept.settings,
         },
-        calls::CONVERT => Lengths {
+        ops::CONVERT => Lengths {
             sheet: f.z as usize,
             settings: kept.settings,
         },
-        missions::NEW_SETTINGS => Lengths {
+        ops::NEW_SETTINGS => Lengths {
             sheet: kept.sheet,
             settings: f.a,
         },
@@ -196,7 +192,7 @@ fn kept_after(f: Frame, kept: Lengths) -> Lengths {
 
 // Writes the text that is laid out. A run whose text cannot be written ends.
 fn flush(out: &[u8], s: State) -> State {
-    let is_written = io::write_all(STDOUT_FILENO, first(out, s.text));
+    let is_written = io::write_all(libc::STDOUT_FILENO, frame::first(out, s.text));
     let kept = s.kept;
     State {
         kept,

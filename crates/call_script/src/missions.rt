@@ -1,20 +1,10 @@
 // The lines of the calls on mission settings.
-use crate::sheets::new_sheet;
-use answers::FEW;
+use crate::sheets;
 use answers::agreements;
 use call_lines::Frame;
-use call_lines::crc::crc;
-use call_lines::line::number;
-use call_lines::line::told;
-
-// The first op on the settings. After it they are as long as the frame's first run.
-pub const NEW_SETTINGS: u32 = 39;
-
-const MAKE_EMPTY: u32 = 40;
-
-const ADD: u32 = 41;
-
-const ASK: u32 = 42;
+use call_lines::crc;
+use call_lines::line;
+use call_lines::ops;
 
 const MOST_MISSION: u32 = 255;
 
@@ -24,8 +14,8 @@ const DONE: usize = 1;
 const SETTING: usize = 4;
 
 pub fn call(f: Frame, a: &[u8], room: &mut [u8], n: usize, out: &mut [u8], at: usize) -> usize {
-    if f.op == NEW_SETTINGS {
-        return new_sheet(a, room, out, at);
+    if f.op == ops::NEW_SETTINGS {
+        return sheets::new_sheet(a, room, out, at);
     }
     if !is_call(f) {
         return at;
@@ -34,10 +24,10 @@ pub fn call(f: Frame, a: &[u8], room: &mut [u8], n: usize, out: &mut [u8], at: u
 }
 
 fn is_call(f: Frame) -> bool {
-    if f.op == MAKE_EMPTY {
+    if f.op == ops::MAKE_EMPTY {
         return true;
     }
-    ((f.op == ADD) | (f.op == ASK)) & (f.x <= MOST_MISSION)
+    ((f.op == ops::ADD) | (f.op == ops::ASK)) & (f.x <= MOST_MISSION)
 }
 
 // A call on the settings, which are the first n bytes of their room. The crc of all of them after the call ends its line.
@@ -46,23 +36,23 @@ fn on_settings(f: Frame, room: &mut [u8], n: usize, out: &mut [u8], at: usize) -
         return at;
     }
     let s = &mut room[..n];
-    let end = told(out, at, made(f, s), told_count(f));
-    number(out, end, crc(s) as u64)
+    let end = line::told(out, at, made(f, s), told_count(f));
+    line::number(out, end, crc::crc(s) as u64)
 }
 
 fn told_count(f: Frame) -> usize {
-    if f.op == ASK {
+    if f.op == ops::ASK {
         return SETTING;
     }
     DONE
 }
 
-fn made(f: Frame, s: &mut [u8]) -> [u64; FEW] {
-    if f.op == MAKE_EMPTY {
+fn made(f: Frame, s: &mut [u8]) -> [u64; answers::FEW] {
+    if f.op == ops::MAKE_EMPTY {
         return agreements::answer(settings::make_empty(s));
     }
     let mission = low_byte(f.x);
-    if f.op == ADD {
+    if f.op == ops::ADD {
         return agreements::answer(settings::add(s, mission, f.y, f.z, f.w));
     }
     agreements::asked(settings::ask(s, mission, f.y))

@@ -1,11 +1,7 @@
 // The line of the season's report.
-use answers::NONE;
 use answers::places;
-use answers::seasons::in_all;
-use call_lines::line::letters;
-use call_lines::line::number;
-use call_lines::line::numbers;
-use ledger_season::MOST_SHEETS;
+use answers::seasons;
+use call_lines::line;
 use ledger_season::SeasonReport;
 use ledger_season::SheetCounts;
 
@@ -18,28 +14,28 @@ pub fn season(a: &[u8], out: &mut [u8], at: usize) -> usize {
     let answer = report.answer;
     let total = report.total;
     let gap = report.gap;
-    let whole = in_all(answer, report.count, total, gap);
+    let whole = seasons::in_all(answer, report.count, total, gap);
     if whole[places::REFUSAL] != 0 {
-        return number(out, at, whole[places::REFUSAL]);
+        return line::number(out, at, whole[places::REFUSAL]);
     }
-    let begun = numbers(out, at, &whole, 0, places::SEASON_TICKED);
+    let begun = line::numbers(out, at, &whole, 0, places::SEASON_TICKED);
     let listed = each(out, begun, report);
-    let counted = numbers(
+    let counted = line::numbers(
         out,
         listed,
         &whole,
         places::SEASON_TICKED,
         places::SEASON_GAP_SHEET,
     );
-    if whole[places::SEASON_GAP_SHEET] == NONE {
-        return letters(out, counted, b"none");
+    if whole[places::SEASON_GAP_SHEET] == answers::NONE {
+        return line::letters(out, counted, b"none");
     }
-    numbers(out, counted, &whole, places::SEASON_GAP_SHEET, IN_ALL)
+    line::numbers(out, counted, &whole, places::SEASON_GAP_SHEET, IN_ALL)
 }
 
 fn each(out: &mut [u8], at: usize, report: SeasonReport) -> usize {
     let mut end = at;
-    for i in 0..MOST_SHEETS {
+    for i in 0..ledger_season::MOST_SHEETS {
         if report.count <= i as u32 {
             return end;
         }
@@ -49,7 +45,7 @@ fn each(out: &mut [u8], at: usize, report: SeasonReport) -> usize {
 }
 
 fn counts(out: &mut [u8], at: usize, c: SheetCounts) -> usize {
-    let ticked = number(out, at, c.ticked as u64);
-    let missing = number(out, ticked, c.missing as u64);
-    number(out, missing, c.per_million as u64)
+    let ticked = line::number(out, at, c.ticked as u64);
+    let missing = line::number(out, ticked, c.missing as u64);
+    line::number(out, missing, c.per_million as u64)
 }

@@ -1,17 +1,12 @@
 // The lines of the calls on the ledger sheet.
-use answers::FEW;
 use answers::ledgers;
 use answers::nights;
 use answers::places;
 use call_lines::Frame;
-use call_lines::crc::crc;
-use call_lines::line::number;
-use call_lines::line::told;
-use call_lines::line::told_or;
+use call_lines::crc;
+use call_lines::line;
+use call_lines::ops;
 use ledger_sheet::Answer;
-
-// The number of an accepted call.
-const ACCEPTED: u64 = 0;
 
 // How many numbers the answers have where they are accepted.
 const DONE: usize = 1;
@@ -24,17 +19,14 @@ const GAP: usize = 3;
 
 const REPLAYED: usize = 4;
 
-// What a slice that is lent to be written holds before.
-const BEFORE: u8 = 165;
-
 // The sheet becomes the bytes of a.
 pub fn new_sheet(a: &[u8], room: &mut [u8], out: &mut [u8], at: usize) -> usize {
     if room.len() < a.len() {
         return at;
     }
     bytes::copy(a, room);
-    let end = number(out, at, ACCEPTED);
-    number(out, end, crc(a) as u64)
+    let end = line::number(out, at, call_lines::ACCEPTED);
+    line::number(out, end, crc::crc(a) as u64)
 }
 
 // The old sheet a converted into n bytes, which become the sheet.
@@ -44,18 +36,18 @@ pub fn converted(a: &[u8], room: &mut [u8], n: usize, out: &mut [u8], at: usize)
     }
     let s = &mut room[..n];
     fill(s);
-    let end = told(
+    let end = line::told(
         out,
         at,
         ledgers::answer(ledger_convert::convert(a, s)),
         DONE,
     );
-    number(out, end, crc(s) as u64)
+    line::number(out, end, crc::crc(s) as u64)
 }
 
 fn fill(s: &mut [u8]) {
     for i in 0..s.len() {
-        s[i] = BEFORE;
+        s[i] = call_lines::FILL;
     }
 }
 
@@ -66,8 +58,8 @@ pub fn replayed(t: &[u8], room: &mut [u8], n: usize, out: &mut [u8], at: usize) 
     }
     let s = &mut room[..n];
     let answer = nights::replayed(ledger_replay::replay(t, s));
-    let end = told_or(out, at, answer, REPLAYED, places::ENTRY, b"same");
-    number(out, end, crc(s) as u64)
+    let end = line::told_or(out, at, answer, REPLAYED, places::ENTRY, b"same");
+    line::number(out, end, crc::crc(s) as u64)
 }
 
 // A call on the sheet, which is the first n bytes of its room. The crc of the whole sheet after the call ends its line.
@@ -80,14 +72,15 @@ pub fn on_sheet(f: Frame, room: &mut [u8], n: usize, out: &mut [u8], at: usize) 
     if end == at {
         return at;
     }
-    number(out, end, crc(s) as u64)
+    line::number(out, end, crc::crc(s) as u64)
 }
 
 fn call(f: Frame, s: &mut [u8], out: &mut [u8], at: usize) -> usize {
     let op = f.op;
     match op {
-        20 | 23..=27 | 30 => told(out, at, ledgers::answer(change(f, s)), DONE),
-        21 => told(out, at, ledgers::row(ledger::enrol(s, f.key, f.x)), ROW),
+        ops::FRESH | ops::OPEN | ops::TICK | ops::UNTICK | ops::SAVE | ops::DROP | ops::STRIKE =>
+            line::told(out, at, ledgers::answer(change(f, s)), DONE),
+        ops::ENROL => line::told(out, at, ledgers::row(ledger::enrol(s, f.key, f.x)), ROW),
         _ => ask(f, s, out, at),
     }
 }
@@ -96,12 +89,12 @@ fn call(f: Frame, s: &mut [u8], out: &mut [u8], at: usize) -> usize {
 fn change(f: Frame, s: &mut [u8]) -> Answer {
     let op = f.op;
     match op {
-        20 => ledger::fresh(s),
-        23 => ledger::open(s, f.x, f.y),
-        24 => ledger::tick(s, f.x, f.y),
-        25 => ledger::untick(s, f.x, f.y),
-        26 => ledger::save(s, f.x),
-        30 => ledger::strike(s, f.x),
+        ops::FRESH => ledger::fresh(s),
+        ops::OPEN => ledger::open(s, f.x, f.y),
+        ops::TICK => ledger::tick(s, f.x, f.y),
+        ops::UNTICK => ledger::untick(s, f.x, f.y),
+        ops::SAVE => ledger::save(s, f.x),
+        ops::STRIKE => ledger::strike(s, f.x),
         _ => ledger::drop(s, f.x),
     }
 }
@@ -110,17 +103,17 @@ fn change(f: Frame, s: &mut [u8]) -> Answer {
 fn ask(f: Frame, s: &[u8], out: &mut [u8], at: usize) -> usize {
     let op = f.op;
     match op {
-        22 => told(out, at, ledgers::row(ledger::find(s, f.key)), ROW),
-        28 => report(ledgers::report(ledger::row_report(s, f.x)), out, at),
-        29 => gap(ledgers::gap(ledger::first_gap(s)), out, at),
+        ops::FIND => line::told(out, at, ledgers::row(ledger::find(s, f.key)), ROW),
+        ops::ROW_REPORT => report(ledgers::report(ledger::row_report(s, f.x)), out, at),
+        ops::FIRST_GAP => gap(ledgers::gap(ledger::first_gap(s)), out, at),
         _ => at,
     }
 }
 
-fn report(answer: [u64; FEW], out: &mut [u8], at: usize) -> usize {
-    told_or(out, at, answer, REPORT, places::LOWEST, b"none")
+fn report(answer: [u64; answers::FEW], out: &mut [u8], at: usize) -> usize {
+    line::told_or(out, at, answer, REPORT, places::LOWEST, b"none")
 }
 
-fn gap(answer: [u64; FEW], out: &mut [u8], at: usize) -> usize {
-    told_or(out, at, answer, GAP, places::GAP_NUMBER, b"none")
+fn gap(answer: [u64; answers::FEW], out: &mut [u8], at: usize) -> usize {
+    line::told_or(out, at, answer, GAP, places::GAP_NUMBER, b"none")
 }

@@ -1,7 +1,5 @@
 // Mission agreements: the settings sheet.
-use crate::write::unwritten;
-use crate::write::write_few;
-use answers::ANSWER;
+use crate::write;
 use answers::agreements;
 ghost use mathlib.Core.Path.{_≡_};
 ghost use Rattle.settings.specs.Model.{add, ask};
@@ -14,11 +12,11 @@ ghost use Rattle.host.specs.Exported.{exported, exportedOn};
 pub extern "C" fn hernganow_settings_make_empty(settings: &mut [u8], answer: &mut [u8]) -> u32
     ensures { λ r. ⌜ (r, now (answer .exit), now (settings .exit)) ≡ exportedOn emptyOn (now (answer .entry)) (now (settings .entry)) ⌝ }
 {
-    if answer.len() != ANSWER {
-        return unwritten();
+    if answer.len() != answers::ANSWER {
+        return write::unwritten();
     }
     let found = settings::make_empty(settings);
-    write_few(answer, agreements::answer(found))
+    write::write_few(answer, agreements::answer(found))
 }
 
 // Adds a setting.
@@ -34,11 +32,11 @@ pub extern "C" fn hernganow_settings_add(
     ensures { λ r. ⌜ (r, now (answer .exit), now (settings .exit))
         ≡ exportedOn (onSheet (add mission edition day frame)) (now (answer .entry)) (now (settings .entry)) ⌝ }
 {
-    if answer.len() != ANSWER {
-        return unwritten();
+    if answer.len() != answers::ANSWER {
+        return write::unwritten();
     }
     let found = settings::add(settings, mission, edition, day, frame);
-    write_few(answer, agreements::answer(found))
+    write::write_few(answer, agreements::answer(found))
 }
 
 // The setting of a mission on a day.
@@ -51,9 +49,9 @@ pub extern "C" fn hernganow_settings_ask(
 ) -> u32
     ensures { λ r. ⌜ (r, now (answer .exit)) ≡ exported (plain (onSheet (ask mission day) (now (settings .entry)) .0)) (now (answer .entry)) ⌝ }
 {
-    if answer.len() != ANSWER {
-        return unwritten();
+    if answer.len() != answers::ANSWER {
+        return write::unwritten();
     }
     let found = settings::ask(settings, mission, day);
-    write_few(answer, agreements::asked(found))
+    write::write_few(answer, agreements::asked(found))
 }

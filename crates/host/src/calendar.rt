@@ -1,7 +1,5 @@
 // Dates.
-use crate::write::unwritten;
-use crate::write::write_few;
-use answers::ANSWER;
+use crate::write;
 ghost use mathlib.Core.Path.{_≡_};
 ghost use Rattle.dates.specs.Calendar.{dateOf};
 ghost use Rattle.answers.specs.Numbers.{plain};
@@ -12,9 +10,9 @@ ghost use Rattle.host.specs.Exported.{exported};
 pub extern "C" fn hernganow_date(count: u32, answer: &mut [u8]) -> u32
     ensures { λ r. ⌜ (r, now (answer .exit)) ≡ exported (plain (dateOf count)) (now (answer .entry)) ⌝ }
 {
-    if answer.len() != ANSWER {
-        return unwritten();
+    if answer.len() != answers::ANSWER {
+        return write::unwritten();
     }
     let found = dates::date_of(count);
-    write_few(answer, answers::date(found))
+    write::write_few(answer, answers::date(found))
 }

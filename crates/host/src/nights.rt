@@ -1,7 +1,5 @@
 // A night's calls in a trace, played again.
-use crate::write::unwritten;
-use crate::write::write_few;
-use answers::ANSWER;
+use crate::write;
 use answers::nights;
 ghost use mathlib.Core.Path.{_≡_};
 ghost use Rattle.ledger_replay.specs.Replay.{replayOn};
@@ -14,9 +12,9 @@ pub extern "C" fn hernganow_replay(trace: &[u8], sheet: &mut [u8], answer: &mut 
     ensures { λ r. ⌜ (r, now (answer .exit), now (sheet .exit))
         ≡ exportedAs (withNone 4) (replayOn (now (trace .entry))) (now (answer .entry)) (now (sheet .entry)) ⌝ }
 {
-    if answer.len() != ANSWER {
-        return unwritten();
+    if answer.len() != answers::ANSWER {
+        return write::unwritten();
     }
     let found = ledger_replay::replay(trace, sheet);
-    write_few(answer, nights::replayed(found))
+    write::write_few(answer, nights::replayed(found))
 }

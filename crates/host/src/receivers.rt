@@ -1,7 +1,5 @@
 // RSR records: the gain multiplier, samples.
-use crate::write::unwritten;
-use crate::write::write_few;
-use answers::ANSWER;
+use crate::write;
 use answers::receivers;
 ghost use mathlib.Core.Path.{_≡_};
 ghost use Rattle.sfdu_gain.specs.Gain.{gaining, agreedGain};
@@ -13,11 +11,11 @@ ghost use Rattle.host.specs.Exported.{exported, exportedOn};
 pub extern "C" fn hernganow_gain(record: &[u8], edition: u32, answer: &mut [u8]) -> u32
     ensures { λ r. ⌜ (r, now (answer .exit)) ≡ exported (gaining edition (now («record» .entry))) (now (answer .entry)) ⌝ }
 {
-    if answer.len() != ANSWER {
-        return unwritten();
+    if answer.len() != answers::ANSWER {
+        return write::unwritten();
     }
     let found = sfdu_gain::gain(record, edition);
-    write_few(answer, receivers::gain(found))
+    write::write_few(answer, receivers::gain(found))
 }
 
 // With the edition that the mission's agreement has on the record's day.
@@ -25,11 +23,11 @@ pub extern "C" fn hernganow_gain(record: &[u8], edition: u32, answer: &mut [u8])
 pub extern "C" fn hernganow_agreed_gain(settings: &[u8], record: &[u8], answer: &mut [u8]) -> u32
     ensures { λ r. ⌜ (r, now (answer .exit)) ≡ exported (agreedGain (now (settings .entry)) (now («record» .entry))) (now (answer .entry)) ⌝ }
 {
-    if answer.len() != ANSWER {
-        return unwritten();
+    if answer.len() != answers::ANSWER {
+        return write::unwritten();
     }
     let found = sfdu_gain::agreed_gain(settings, record);
-    write_few(answer, receivers::gain(found))
+    write::write_few(answer, receivers::gain(found))
 }
 
 // The samples of a record, I and Q in turn, at the start of the list.
@@ -37,11 +35,11 @@ pub extern "C" fn hernganow_agreed_gain(settings: &[u8], record: &[u8], answer: 
 pub extern "C" fn hernganow_unpack(record: &[u8], list: &mut [i32], answer: &mut [u8]) -> u32
     ensures { λ r. ⌜ (r, now (answer .exit), now (list .exit)) ≡ exportedOn (unpacking (now («record» .entry))) (now (answer .entry)) (now (list .entry)) ⌝ }
 {
-    if answer.len() != ANSWER {
-        return unwritten();
+    if answer.len() != answers::ANSWER {
+        return write::unwritten();
     }
     let found = sfdu_samples::unpack(record, list);
-    write_few(answer, receivers::samples(found))
+    write::write_few(answer, receivers::samples(found))
 }
 
 // The data part of samples, at the start of the slice.
@@ -56,9 +54,9 @@ pub extern "C" fn hernganow_pack(
     ensures { λ r. ⌜ (r, now (answer .exit), now (out .exit))
         ≡ exportedOn (packing size rate (now (samples .entry))) (now (answer .entry)) (now (out .entry)) ⌝ }
 {
-    if answer.len() != ANSWER {
-        return unwritten();
+    if answer.len() != answers::ANSWER {
+        return write::unwritten();
     }
     let found = sfdu_samples::pack(size, rate, samples, out);
-    write_few(answer, receivers::samples(found))
+    write::write_few(answer, receivers::samples(found))
 }

@@ -1,7 +1,5 @@
 // Records.
-use crate::write::unwritten;
-use crate::write::write;
-use answers::ANSWER;
+use crate::write;
 ghost use mathlib.Core.Path.{_≡_};
 ghost use Rattle.sfdu_headers.specs.Headers.{readHeaders};
 ghost use Rattle.host.specs.Exported.{exported};
@@ -11,9 +9,9 @@ ghost use Rattle.host.specs.Exported.{exported};
 pub extern "C" fn hernganow_read_headers(record: &[u8], wanted: u32, answer: &mut [u8]) -> u32
     ensures { λ r. ⌜ (r, now (answer .exit)) ≡ exported (readHeaders wanted (now («record» .entry))) (now (answer .entry)) ⌝ }
 {
-    if answer.len() != ANSWER {
-        return unwritten();
+    if answer.len() != answers::ANSWER {
+        return write::unwritten();
     }
     let found = sfdu_headers::read_headers(record, wanted);
-    write(answer, answers::records::headers(found))
+    write::write(answer, answers::records::headers(found))
 }

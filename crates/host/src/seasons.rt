@@ -1,8 +1,6 @@
 // The season.
-use crate::write::unwritten;
-use crate::write::write;
-use answers::ANSWER;
-use answers::seasons::in_all;
+use crate::write;
+use answers::seasons;
 ghost use mathlib.Core.Path.{_≡_};
 ghost use Rattle.ledger_season.specs.Season.{season};
 ghost use Rattle.answers.specs.Numbers.{withNone};
@@ -15,12 +13,12 @@ ghost use Rattle.host.specs.Seasons.{inAllOf};
 pub extern "C" fn hernganow_season(sheets: &[u8], answer: &mut [u8]) -> u32
     ensures { λ r. ⌜ (r, now (answer .exit)) ≡ exported (withNone inAllCount (inAllOf (season (now (sheets .entry))))) (now (answer .entry)) ⌝ }
 {
-    if answer.len() != ANSWER {
-        return unwritten();
+    if answer.len() != answers::ANSWER {
+        return write::unwritten();
     }
     let found = ledger_season::season(sheets);
     let verdict = found.answer;
     let total = found.total;
     let gap = found.gap;
-    write(answer, in_all(verdict, found.count, total, gap))
+    write::write(answer, seasons::in_all(verdict, found.count, total, gap))
 }

@@ -1,7 +1,5 @@
 // The ledger sheet.
-use crate::write::unwritten;
-use crate::write::write_few;
-use answers::ANSWER;
+use crate::write;
 use answers::ledgers;
 ghost use mathlib.Core.Path.{_≡_};
 ghost use Rattle.ledger_model.specs.Step.{Enrol, Ask, Find, RowReport, FirstGap, Open, Tick, Untick, Save, Drop, Strike};
@@ -15,11 +13,11 @@ ghost use Rattle.host.specs.Exported.{exported, exportedOn};
 pub extern "C" fn hernganow_fresh(sheet: &mut [u8], answer: &mut [u8]) -> u32
     ensures { λ r. ⌜ (r, now (answer .exit), now (sheet .exit)) ≡ exportedOn freshOn (now (answer .entry)) (now (sheet .entry)) ⌝ }
 {
-    if answer.len() != ANSWER {
-        return unwritten();
+    if answer.len() != answers::ANSWER {
+        return write::unwritten();
     }
     let found = ledger::fresh(sheet);
-    write_few(answer, ledgers::answer(found))
+    write::write_few(answer, ledgers::answer(found))
 }
 
 // Enrols a stream.
@@ -27,11 +25,11 @@ pub extern "C" fn hernganow_fresh(sheet: &mut [u8], answer: &mut [u8]) -> u32
 pub extern "C" fn hernganow_enrol(sheet: &mut [u8], key: u64, first: u32, answer: &mut [u8]) -> u32
     ensures { λ r. ⌜ (r, now (answer .exit), now (sheet .exit)) ≡ exportedOn (onSheet (call (Enrol key first))) (now (answer .entry)) (now (sheet .entry)) ⌝ }
 {
-    if answer.len() != ANSWER {
-        return unwritten();
+    if answer.len() != answers::ANSWER {
+        return write::unwritten();
     }
     let found = ledger::enrol(sheet, key, first);
-    write_few(answer, ledgers::row(found))
+    write::write_few(answer, ledgers::row(found))
 }
 
 // Finds a stream.
@@ -39,11 +37,11 @@ pub extern "C" fn hernganow_enrol(sheet: &mut [u8], key: u64, first: u32, answer
 pub extern "C" fn hernganow_find(sheet: &[u8], key: u64, answer: &mut [u8]) -> u32
     ensures { λ r. ⌜ (r, now (answer .exit)) ≡ exported (plain (onSheet (call (Ask (Find key))) (now (sheet .entry)) .0)) (now (answer .entry)) ⌝ }
 {
-    if answer.len() != ANSWER {
-        return unwritten();
+    if answer.len() != answers::ANSWER {
+        return write::unwritten();
     }
     let found = ledger::find(sheet, key);
-    write_few(answer, ledgers::row(found))
+    write::write_few(answer, ledgers::row(found))
 }
 
 // Opens a row at a desk.
@@ -51,11 +49,11 @@ pub extern "C" fn hernganow_find(sheet: &[u8], key: u64, answer: &mut [u8]) -> u
 pub extern "C" fn hernganow_open(sheet: &mut [u8], desk: u32, row: u32, answer: &mut [u8]) -> u32
     ensures { λ r. ⌜ (r, now (answer .exit), now (sheet .exit)) ≡ exportedOn (onSheet (call (Open desk row))) (now (answer .entry)) (now (sheet .entry)) ⌝ }
 {
-    if answer.len() != ANSWER {
-        return unwritten();
+    if answer.len() != answers::ANSWER {
+        return write::unwritten();
     }
     let found = ledger::open(sheet, desk, row);
-    write_few(answer, ledgers::answer(found))
+    write::write_few(answer, ledgers::answer(found))
 }
 
 // Ticks a number.
@@ -63,11 +61,11 @@ pub extern "C" fn hernganow_open(sheet: &mut [u8], desk: u32, row: u32, answer: 
 pub extern "C" fn hernganow_tick(sheet: &mut [u8], desk: u32, number: u32, answer: &mut [u8]) -> u32
     ensures { λ r. ⌜ (r, now (answer .exit), now (sheet .exit)) ≡ exportedOn (onSheet (call (Tick desk number))) (now (answer .entry)) (now (sheet .entry)) ⌝ }
 {
-    if answer.len() != ANSWER {
-        return unwritten();
+    if answer.len() != answers::ANSWER {
+        return write::unwritten();
     }
     let found = ledger::tick(sheet, desk, number);
-    write_few(answer, ledgers::answer(found))
+    write::write_few(answer, ledgers::answer(found))
 }
 
 // Unticks a number.
@@ -81,11 +79,11 @@ pub extern "C" fn hernganow_untick(
     ensures { λ r. ⌜ (r, now (answer .exit), now (sheet .exit))
         ≡ exportedOn (onSheet (call (Untick desk number))) (now (answer .entry)) (now (sheet .entry)) ⌝ }
 {
-    if answer.len() != ANSWER {
-        return unwritten();
+    if answer.len() != answers::ANSWER {
+        return write::unwritten();
     }
     let found = ledger::untick(sheet, desk, number);
-    write_few(answer, ledgers::answer(found))
+    write::write_few(answer, ledgers::answer(found))
 }
 
 // Saves what a desk has worked on.
@@ -93,11 +91,11 @@ pub extern "C" fn hernganow_untick(
 pub extern "C" fn hernganow_save(sheet: &mut [u8], desk: u32, answer: &mut [u8]) -> u32
     ensures { λ r. ⌜ (r, now (answer .exit), now (sheet .exit)) ≡ exportedOn (onSheet (call (Save desk))) (now (answer .entry)) (now (sheet .entry)) ⌝ }
 {
-    if answer.len() != ANSWER {
-        return unwritten();
+    if answer.len() != answers::ANSWER {
+        return write::unwritten();
     }
     let found = ledger::save(sheet, desk);
-    write_few(answer, ledgers::answer(found))
+    write::write_few(answer, ledgers::answer(found))
 }
 
 // Drops what a desk has open.
@@ -105,11 +103,11 @@ pub extern "C" fn hernganow_save(sheet: &mut [u8], desk: u32, answer: &mut [u8])
 pub extern "C" fn hernganow_drop(sheet: &mut [u8], desk: u32, answer: &mut [u8]) -> u32
     ensures { λ r. ⌜ (r, now (answer .exit), now (sheet .exit)) ≡ exportedOn (onSheet (call (Drop desk))) (now (answer .entry)) (now (sheet .entry)) ⌝ }
 {
-    if answer.len() != ANSWER {
-        return unwritten();
+    if answer.len() != answers::ANSWER {
+        return write::unwritten();
     }
     let found = ledger::drop(sheet, desk);
-    write_few(answer, ledgers::answer(found))
+    write::write_few(answer, ledgers::answer(found))
 }
 
 // Strikes a row.
@@ -117,11 +115,11 @@ pub extern "C" fn hernganow_drop(sheet: &mut [u8], desk: u32, answer: &mut [u8])
 pub extern "C" fn hernganow_strike(sheet: &mut [u8], row: u32, answer: &mut [u8]) -> u32
     ensures { λ r. ⌜ (r, now (answer .exit), now (sheet .exit)) ≡ exportedOn (onSheet (call (Strike row))) (now (answer .entry)) (now (sheet .entry)) ⌝ }
 {
-    if answer.len() != ANSWER {
-        return unwritten();
+    if answer.len() != answers::ANSWER {
+        return write::unwritten();
     }
     let found = ledger::strike(sheet, row);
-    write_few(answer, ledgers::answer(found))
+    write::write_few(answer, ledgers::answer(found))
 }
 
 // Reports on a row: ticked, missing, and the lowest missing number or none.
@@ -129,11 +127,11 @@ pub extern "C" fn hernganow_strike(sheet: &mut [u8], row: u32, answer: &mut [u8]
 pub extern "C" fn hernganow_row_report(sheet: &[u8], row: u32, answer: &mut [u8]) -> u32
     ensures { λ r. ⌜ (r, now (answer .exit)) ≡ exported (withNone 4 (onSheet (call (Ask (RowReport row))) (now (sheet .entry)) .0)) (now (answer .entry)) ⌝ }
 {
-    if answer.len() != ANSWER {
-        return unwritten();
+    if answer.len() != answers::ANSWER {
+        return write::unwritten();
     }
     let found = ledger::row_report(sheet, row);
-    write_few(answer, ledgers::report(found))
+    write::write_few(answer, ledgers::report(found))
 }
 
 // Finds the first gap: the number and its row, or none.
@@ -141,11 +139,11 @@ pub extern "C" fn hernganow_row_report(sheet: &[u8], row: u32, answer: &mut [u8]
 pub extern "C" fn hernganow_first_gap(sheet: &[u8], answer: &mut [u8]) -> u32
     ensures { λ r. ⌜ (r, now (answer .exit)) ≡ exported (withNone 3 (onSheet (call (Ask FirstGap)) (now (sheet .entry)) .0)) (now (answer .entry)) ⌝ }
 {
-    if answer.len() != ANSWER {
-        return unwritten();
+    if answer.len() != answers::ANSWER {
+        return write::unwritten();
     }
     let found = ledger::first_gap(sheet);
-    write_few(answer, ledgers::gap(found))
+    write::write_few(answer, ledgers::gap(found))
 }
 
 // Makes the slice a new sheet of an old one.
@@ -153,9 +151,9 @@ pub extern "C" fn hernganow_first_gap(sheet: &[u8], answer: &mut [u8]) -> u32
 pub extern "C" fn hernganow_convert(old: &[u8], sheet: &mut [u8], answer: &mut [u8]) -> u32
     ensures { λ r. ⌜ (r, now (answer .exit), now (sheet .exit)) ≡ exportedOn (convertOn (now (old .entry))) (now (answer .entry)) (now (sheet .entry)) ⌝ }
 {
-    if answer.len() != ANSWER {
-        return unwritten();
+    if answer.len() != answers::ANSWER {
+        return write::unwritten();
     }
     let found = ledger_convert::convert(old, sheet);
-    write_few(answer, ledgers::answer(found))
+    write::write_few(answer, ledgers::answer(found))
 }

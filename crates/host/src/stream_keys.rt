@@ -1,7 +1,5 @@
 // Stream keys.
-use crate::write::unwritten;
-use crate::write::write_few;
-use answers::ANSWER;
+use crate::write;
 ghost use mathlib.Core.Path.{_≡_};
 ghost use Rattle.keys.specs.Key.{telemetryKeyCall, rsrKeyCall};
 ghost use Rattle.answers.specs.Numbers.{plain};
@@ -18,11 +16,11 @@ pub extern "C" fn hernganow_telemetry_key(
 ) -> u32
     ensures { λ r. ⌜ (r, now (answer .exit)) ≡ exported (plain (telemetryKeyCall spacecraft source equipment stream)) (now (answer .entry)) ⌝ }
 {
-    if answer.len() != ANSWER {
-        return unwritten();
+    if answer.len() != answers::ANSWER {
+        return write::unwritten();
     }
     let found = keys::telemetry_key(spacecraft, source, equipment, stream);
-    write_few(answer, answers::key(found))
+    write::write_few(answer, answers::key(found))
 }
 
 // The key of an RSR stream.
@@ -36,9 +34,9 @@ pub extern "C" fn hernganow_rsr_key(
 ) -> u32
     ensures { λ r. ⌜ (r, now (answer .exit)) ≡ exported (plain (rsrKeyCall spacecraft station receiver subchannel)) (now (answer .entry)) ⌝ }
 {
-    if answer.len() != ANSWER {
-        return unwritten();
+    if answer.len() != answers::ANSWER {
+        return write::unwritten();
     }
     let found = keys::rsr_key(spacecraft, station, receiver, subchannel);
-    write_few(answer, answers::key(found))
+    write::write_few(answer, answers::key(found))
 }

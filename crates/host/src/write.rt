@@ -1,10 +1,4 @@
 // An answer's numbers, written into the slice that is lent for them.
-use answers::ANSWER;
-use answers::FEW;
-use answers::NUMBER;
-use answers::NUMBERS;
-use octets::clear;
-use octets::write_be;
 use refusals::Refusal;
 ghost use mathlib.Core.Path.{_≡_};
 ghost use Prim.Native.Nat.{_-_, _*_, _<_, _≤_, _^_};
@@ -19,7 +13,7 @@ ghost use Rattle.host.specs.Exported.{answerSize, numberSize, answerByte
 ghost use Rattle.host.specs.inner.Written.{Written};
 
 // The bytes of a few numbers.
-const FEW_BYTES: usize = NUMBER * FEW;
+const FEW_BYTES: usize = answers::NUMBER * answers::FEW;
 
 // What a call returns that was lent an answer's slice of another length.
 pub fn unwritten() -> u32
@@ -29,7 +23,7 @@ pub fn unwritten() -> u32
 }
 
 // Writes all the numbers of an answer, and returns the first.
-pub fn write(answer: &mut [u8], numbers: [u64; NUMBERS]) -> u32
+pub fn write(answer: &mut [u8], numbers: [u64; answers::NUMBERS]) -> u32
     requires { ⌜ (length (now answer) ≡ answerSize) × (getD numbers 0 0 < 2 ^ 32) ⌝ }
     ensures { λ r. ⌜ Written r (now (answer .exit)) numbers ⌝ }
 {
@@ -38,12 +32,12 @@ pub fn write(answer: &mut [u8], numbers: [u64; NUMBERS]) -> u32
 }
 
 // Writes a few numbers of an answer and zeros behind them, and returns the first.
-pub fn write_few(answer: &mut [u8], numbers: [u64; FEW]) -> u32
+pub fn write_few(answer: &mut [u8], numbers: [u64; answers::FEW]) -> u32
     requires { ⌜ (length (now answer) ≡ answerSize) × (getD numbers 0 0 < 2 ^ 32) ⌝ }
     ensures { λ r. ⌜ Written r (now (answer .exit)) (numbers ++ replicate (numberCount - fewCount) 0) ⌝ }
 {
     write_numbers(answer, &numbers);
-    clear(answer, FEW_BYTES, ANSWER - FEW_BYTES);
+    octets::clear(answer, FEW_BYTES, answers::ANSWER - FEW_BYTES);
     numbers[0] as u32
 }
 
@@ -53,6 +47,6 @@ fn write_numbers(answer: &mut [u8], numbers: &[u64])
     ensures { λ _. ⌜ now (answer .exit) ≡ put (now (answer .entry)) 0 (answerBytes (now (numbers .entry))) ⌝ }
 {
     for i in 0..numbers.len() {
-        write_be(answer, NUMBER * i, NUMBER, numbers[i]);
+        octets::write_be(answer, answers::NUMBER * i, answers::NUMBER, numbers[i]);
     }
 }

@@ -6,15 +6,8 @@ ghost use Rattle.idr.specs.Words.{headerCount};
 ghost use Rattle.idr.specs.Fields.{tagged, counted, digit, digitCount, twoDigits, playbackRates, samplingRates, rateIn};
 ghost use Rattle.idr.specs.Fields.{decimationOf, blockStored, originOf, timeOf, recorderOf, reductionOf, statusOf, countOf};
 ghost use Rattle.idr.specs.Read.{originWords, timeWords, recorderWords, reductionWords, statusWords, countWords, wordsOf, givenOf};
-use crate::Count;
-use crate::Origin;
-use crate::Read;
-use crate::Recorder;
-use crate::Reduction;
-use crate::Status;
-use crate::Time;
-use crate::words::field;
-use crate::words::long;
+use crate as idr;
+use crate::words;
 
 // The time's digits: from word 6 on, four to a word.
 const TIME_WORD: usize = 6;
@@ -47,14 +40,14 @@ pub fn is_tagged(w: &[u16]) -> bool
     requires { ⌜ length (now w) ≡ headerCount ⌝ }
     ensures { λ r. ⌜ r ≡ tagged (now (w .entry)) ⌝ }
 {
-    field(w, 1, 1, 1) == 1
+    words::field(w, 1, 1, 1) == 1
 }
 
 fn is_counted(w: &[u16]) -> bool
     requires { ⌜ length (now w) ≡ headerCount ⌝ }
     ensures { λ r. ⌜ r ≡ counted (now (w .entry)) ⌝ }
 {
-    field(w, 1, 4, 4) == 1
+    words::field(w, 1, 4, 4) == 1
 }
 
 // Digit k of the time, from 0.
@@ -63,7 +56,7 @@ pub fn digit_at(w: &[u16], k: usize) -> u16
     ensures { λ r. ⌜ (r ≡ digit (now (w .entry)) k) × (r < 16) ⌝ }
 {
     let before = k % DIGITS * DIGIT_BITS;
-    field(w, TIME_WORD + k / DIGITS, before + 1, before + DIGIT_BITS)
+    words::field(w, TIME_WORD + k / DIGITS, before + 1, before + DIGIT_BITS)
 }
 
 fn two_digits(w: &[u16], k: usize) -> u16
@@ -73,16 +66,16 @@ fn two_digits(w: &[u16], k: usize) -> u16
     digit_at(w, k) * 10 + digit_at(w, k + 1)
 }
 
-pub fn time_of(w: &[u16]) -> Time
+pub fn time_of(w: &[u16]) -> idr::Time
     requires { ⌜ length (now w) ≡ headerCount ⌝ }
     ensures { λ r. ⌜ timeWords r ≡ timeOf (now (w .entry)) ⌝ }
 {
-    Time {
+    idr::Time {
         day: digit_at(w, 0) * 100 + two_digits(w, 1),
         hour: two_digits(w, 3),
         minute: two_digits(w, 5),
         second: two_digits(w, 7),
-        micros: field(w, 8, 5, 16) as u32 * MICROS_UPPER + field(w, 9, 1, 8) as u32,
+        micros: words::field(w, 8, 5, 16) as u32 * MICROS_UPPER + words::field(w, 9, 1, 8) as u32,
     }
 }
 
@@ -124,87 +117,87 @@ pub fn block_stored(w: &[u16]) -> u32
     requires { ⌜ length (now w) ≡ headerCount ⌝ }
     ensures { λ r. ⌜ (r ≡ blockStored (now (w .entry))) × (r < 16777216) ⌝ }
 {
-    long(field(w, 12, 9, 16), w[12])
+    words::long(words::field(w, 12, 9, 16), w[12])
 }
 
-fn origin_of(w: &[u16]) -> Origin
+fn origin_of(w: &[u16]) -> idr::Origin
     requires { ⌜ length (now w) ≡ headerCount ⌝ }
     ensures { λ r. ⌜ originWords r ≡ originOf (now (w .entry)) ⌝ }
 {
-    Origin {
-        first: field(w, 1, 2, 2),
-        source_error: field(w, 1, 3, 3),
-        tape: field(w, 1, 9, 16),
+    idr::Origin {
+        first: words::field(w, 1, 2, 2),
+        source_error: words::field(w, 1, 3, 3),
+        tape: words::field(w, 1, 9, 16),
         number: w[1],
-        spacecraft: field(w, 4, 1, 8),
-        station: field(w, 4, 9, 16),
+        spacecraft: words::field(w, 4, 1, 8),
+        station: words::field(w, 4, 9, 16),
         dra_tape: w[4],
     }
 }
 
-fn recorder_of(w: &[u16]) -> Recorder
+fn recorder_of(w: &[u16]) -> idr::Recorder
     requires { ⌜ length (now w) ≡ headerCount ⌝ }
     ensures { λ r. ⌜ recorderWords r ≡ recorderOf (now (w .entry)) ⌝ }
 {
-    Recorder {
-        input: field(w, 9, 9, 11),
-        pps_absent: field(w, 9, 12, 12),
-        clock_unsynced: field(w, 9, 13, 13),
-        recorder_b: field(w, 9, 14, 14),
-        micros_abnormal: field(w, 9, 15, 15),
-        track_synced: field(w, 9, 16, 16),
+    idr::Recorder {
+        input: words::field(w, 9, 9, 11),
+        pps_absent: words::field(w, 9, 12, 12),
+        clock_unsynced: words::field(w, 9, 13, 13),
+        recorder_b: words::field(w, 9, 14, 14),
+        micros_abnormal: words::field(w, 9, 15, 15),
+        track_synced: words::field(w, 9, 16, 16),
     }
 }
 
-fn reduction_of(w: &[u16]) -> Reduction
+fn reduction_of(w: &[u16]) -> idr::Reduction
     requires { ⌜ length (now w) ≡ headerCount ⌝ }
     ensures { λ r. ⌜ reductionWords r ≡ reductionOf (now (w .entry)) ⌝ }
 {
-    Reduction {
-        playback: playback_rate(field(w, 10, 12, 16)),
-        sampling: sampling_rate(field(w, 11, 12, 16)),
-        bypass: field(w, 12, 1, 1),
-        decimation: decimation(field(w, 12, 2, 4)),
-        pps_track: field(w, 12, 5, 5),
-        time_track: field(w, 12, 6, 6),
-        channel: field(w, 12, 7, 8) + 1,
+    idr::Reduction {
+        playback: playback_rate(words::field(w, 10, 12, 16)),
+        sampling: sampling_rate(words::field(w, 11, 12, 16)),
+        bypass: words::field(w, 12, 1, 1),
+        decimation: decimation(words::field(w, 12, 2, 4)),
+        pps_track: words::field(w, 12, 5, 5),
+        time_track: words::field(w, 12, 6, 6),
+        channel: words::field(w, 12, 7, 8) + 1,
         block: BLOCK_END - block_stored(w),
     }
 }
 
-fn status_of(w: &[u16]) -> Status
+fn status_of(w: &[u16]) -> idr::Status
     requires { ⌜ length (now w) ≡ headerCount ⌝ }
     ensures { λ r. ⌜ statusWords r ≡ statusOf (now (w .entry)) ⌝ }
 {
-    Status {
-        day: field(w, 23, 1, 9),
-        second: long(field(w, 23, 16, 16), w[23]),
-        overflow: field(w, 26, 9, 9),
-        pps_unsynced: field(w, 26, 10, 10),
-        bit_slip: field(w, 26, 11, 11),
-        counter: decimation(field(w, 26, 14, 16)),
+    idr::Status {
+        day: words::field(w, 23, 1, 9),
+        second: words::long(words::field(w, 23, 16, 16), w[23]),
+        overflow: words::field(w, 26, 9, 9),
+        pps_unsynced: words::field(w, 26, 10, 10),
+        bit_slip: words::field(w, 26, 11, 11),
+        counter: decimation(words::field(w, 26, 14, 16)),
     }
 }
 
-fn count_of(w: &[u16]) -> Count
+fn count_of(w: &[u16]) -> idr::Count
     requires { ⌜ length (now w) ≡ headerCount ⌝ }
     ensures { λ r. ⌜ countWords r ≡ countOf (now (w .entry)) ⌝ }
 {
     if is_counted(w) {
-        return Count::Samples(long(w[26], w[27]));
+        return idr::Count::Samples(words::long(w[26], w[27]));
     }
-    Count::Unknown
+    idr::Count::Unknown
 }
 
 // What is given of accepted header words.
-pub fn given(w: &[u16]) -> Read
+pub fn given(w: &[u16]) -> idr::Read
     requires { ⌜ length (now w) ≡ headerCount ⌝ }
     ensures { λ r. ⌜ wordsOf r ≡ givenOf (now (w .entry)) ⌝ }
 {
     if !is_tagged(w) {
-        return Read::Untagged;
+        return idr::Read::Untagged;
     }
-    Read::Tagged {
+    idr::Read::Tagged {
         origin: origin_of(w),
         time: time_of(w),
         recorder: recorder_of(w),

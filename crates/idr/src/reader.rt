@@ -8,25 +8,23 @@ ghost use Rattle.refusals.specs.Judge.{judge, verdict};
 ghost use Rattle.idr.specs.Words.{headerCount};
 ghost use Rattle.idr.specs.Rules.{outcomeNumber, wordRules};
 ghost use Rattle.idr.specs.Read.{wordsOf, readRules, givenOf, readRecord, samplesStart, samplesPart, readWords};
+use crate as idr;
 use crate::Outcome;
 use crate::Read;
-use crate::fields::given;
+use crate::fields;
 use crate::rules;
-use crate::words::HEADER;
-use crate::words::RECORD;
-use crate::words::SAMPLES_AT;
-use crate::words::fill;
+use crate::words;
 use refusals::Refusal;
 
 // The fields of a record.
 pub fn read_record(s: &[u8]) -> Read
     ensures { λ r. ⌜ wordsOf r ≡ readRecord (now (s .entry)) ⌝ }
 {
-    if s.len() != RECORD {
+    if s.len() != idr::RECORD {
         return Read::Refused(Refusal::TapeLengths);
     }
-    let mut w = [0u16; HEADER];
-    fill(s, &mut w);
+    let mut w = [0u16; idr::HEADER];
+    words::fill(s, &mut w);
     read_header(&w)
 }
 
@@ -37,7 +35,7 @@ fn read_header(w: &[u16]) -> Read
 {
     let judged = rules::judge_words(w);
     match judged {
-        Outcome::Accepted => given(w),
+        Outcome::Accepted => fields::given(w),
         Outcome::Refused(r) => Read::Refused(r),
     }
 }
@@ -46,11 +44,11 @@ fn read_header(w: &[u16]) -> Read
 fn judge_record(s: &[u8]) -> Outcome
     ensures { λ r. ⌜ outcomeNumber r ≡ verdict (readRules (now (s .entry))) ⌝ }
 {
-    if s.len() != RECORD {
+    if s.len() != idr::RECORD {
         return Outcome::Refused(Refusal::TapeLengths);
     }
-    let mut w = [0u16; HEADER];
-    fill(s, &mut w);
+    let mut w = [0u16; idr::HEADER];
+    words::fill(s, &mut w);
     rules::judge_words(&w)
 }
 
@@ -61,7 +59,7 @@ pub fn samples(s: &[u8]) -> &[u8]
 {
     let judged = judge_record(s);
     match judged {
-        Outcome::Accepted => &s[SAMPLES_AT..RECORD],
+        Outcome::Accepted => &s[idr::SAMPLES_AT..idr::RECORD],
         Outcome::Refused(_) => &s[0..0],
     }
 }
@@ -70,13 +68,13 @@ pub fn samples(s: &[u8]) -> &[u8]
 pub fn read_words(s: &[u8], list: &mut [u16]) -> Outcome
     ensures { λ r. ⌜ (outcomeNumber r ∷ [], now (list .exit)) ≡ readWords (now (s .entry)) (now (list .entry)) ⌝ }
 {
-    if list.len() != HEADER {
+    if list.len() != idr::HEADER {
         return Outcome::Refused(Refusal::TapeLengths);
     }
     let judged = judge_record(s);
     match judged {
         Outcome::Accepted => {
-            fill(s, list);
+            words::fill(s, list);
             return Outcome::Accepted;
         }
         Outcome::Refused(r) => Outcome::Refused(r),

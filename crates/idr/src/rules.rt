@@ -5,16 +5,11 @@ ghost use Rattle.refusals.specs.Judge.{verdict};
 ghost use Rattle.idr.specs.Words.{headerCount};
 ghost use Rattle.idr.specs.Rules.{outcomeNumber, areDigits, isClock, isTime, areRates, isBlock, wordRules};
 ghost use Rattle.idr.specs.inner.Lent.{lentRules};
+use crate as idr;
 use crate::Outcome;
 use crate::Time;
-use crate::fields::block_stored;
-use crate::fields::digit_at;
-use crate::fields::is_tagged;
-use crate::fields::playback_rate;
-use crate::fields::sampling_rate;
-use crate::fields::time_of;
-use crate::words::HEADER;
-use crate::words::field;
+use crate::fields;
+use crate::words;
 use refusals::Refusal;
 
 // The length word, word 3, and what it says.
@@ -41,7 +36,7 @@ const LEAST_BLOCK: u32 = 8388608;
 pub fn judge(w: &[u16]) -> Outcome
     ensures { λ r. ⌜ outcomeNumber r ≡ verdict (lentRules (now (w .entry))) ⌝ }
 {
-    if w.len() != HEADER {
+    if w.len() != idr::HEADER {
         return Outcome::Refused(Refusal::TapeLengths);
     }
     judge_words(w)
@@ -55,7 +50,7 @@ pub fn judge_words(w: &[u16]) -> Outcome
     if w[LENGTH_WORD] != RECORD_WORDS {
         return Outcome::Refused(Refusal::TapeLengthWord);
     }
-    if !is_tagged(w) {
+    if !fields::is_tagged(w) {
         return Outcome::Accepted;
     }
     if !is_time(w) {
@@ -74,7 +69,7 @@ fn is_time(w: &[u16]) -> bool
     requires { ⌜ length (now w) ≡ headerCount ⌝ }
     ensures { λ r. ⌜ r ≡ isTime (now (w .entry)) ⌝ }
 {
-    are_digits(w) & is_clock(time_of(w))
+    are_digits(w) & is_clock(fields::time_of(w))
 }
 
 fn are_digits(w: &[u16]) -> bool
@@ -82,7 +77,7 @@ fn are_digits(w: &[u16]) -> bool
     ensures { λ r. ⌜ r ≡ areDigits (now (w .entry)) ⌝ }
 {
     for k in 0..TIME_DIGITS {
-        if 9 < digit_at(w, k) {
+        if 9 < fields::digit_at(w, k) {
             return false;
         }
     }
@@ -105,12 +100,13 @@ fn are_rates(w: &[u16]) -> bool
     requires { ⌜ length (now w) ≡ headerCount ⌝ }
     ensures { λ r. ⌜ r ≡ areRates (now (w .entry)) ⌝ }
 {
-    (playback_rate(field(w, 10, 12, 16)) != 0) & (sampling_rate(field(w, 11, 12, 16)) != 0)
+    (fields::playback_rate(words::field(w, 10, 12, 16)) != 0)
+        & (fields::sampling_rate(words::field(w, 11, 12, 16)) != 0)
 }
 
 fn is_block(w: &[u16]) -> bool
     requires { ⌜ length (now w) ≡ headerCount ⌝ }
     ensures { λ r. ⌜ r ≡ isBlock (now (w .entry)) ⌝ }
 {
-    LEAST_BLOCK <= block_stored(w)
+    LEAST_BLOCK <= fields::block_stored(w)
 }

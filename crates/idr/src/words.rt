@@ -1,18 +1,10 @@
-// Words and bits of a record, and how long its parts are.
+// Words and bits of a record.
+use crate as idr;
+use octets::numbers;
 ghost use mathlib.Core.Path.{_≡_};
 ghost use Prim.Native.Nat.{_+_, _*_, _-_, _^_, _≤_, _<_};
 ghost use lib.ListN.{length};
 ghost use Rattle.idr.specs.Words.{wordBits, headerCount, samplesAt, bits, fieldOf, longOf, header};
-
-pub const WORD: usize = 2;
-
-pub const HEADER: usize = 28;
-
-pub const SAMPLES_AT: usize = HEADER * WORD;
-
-pub const SAMPLES: usize = 5000;
-
-pub const RECORD: usize = SAMPLES_AT + SAMPLES;
 
 const BITS: usize = 16;
 
@@ -47,7 +39,7 @@ pub fn fill(s: &[u8], w: &mut [u16])
     requires { ⌜ (samplesAt ≤ length (now s)) × (length (now w) ≡ headerCount) ⌝ }
     ensures { λ _. ⌜ now (w .exit) ≡ header (now (s .entry)) ⌝ }
 {
-    for i in 0..HEADER {
-        w[i] = octets::read_u16(s, i * WORD);
+    for i in 0..idr::HEADER {
+        w[i] = numbers::read_u16(s, i * idr::WORD);
     }
 }

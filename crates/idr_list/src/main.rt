@@ -9,19 +9,8 @@ ghost use Rattle.turns.specs.Turn.{textSize};
 ghost use Rattle.idr_list.specs.Turn.{Turns, Ends};
 ghost use Rattle.idr_list.specs.inner.Turn.{Going, Holds};
 use arguments::Asked;
-use arguments::first_option;
-use arguments::open_at;
-use idr::RECORD;
-use libc::STDERR_FILENO;
-use libc::STDIN_FILENO;
-use libc::STDOUT_FILENO;
 use text::State;
-use turns::ENOUGH;
-use turns::TURNS;
 use turns::Turn;
-use turns::flush;
-use turns::give_up;
-use turns::read_piece;
 
 // One turn: a piece is read; once the record is whole, or the tape has ended, it is listed, and the text is written where there is
 // enough of it.
@@ -30,7 +19,7 @@ fn take_turn(fd: i32, name: &[u8], w: &mut [u8], out: &mut [u8], s: State) -> Tu
     ensures { λ r. ⌜ Turns (now (w .entry)) (now (out .entry)) s (now (w .exit)) (now (out .exit)) r ⌝ }
 {
     let have = s.have;
-    let piece = read_piece(fd, w, have);
+    let piece = turns::read_piece(fd, w, have);
     if piece.failed {
         os::fail(name);
         return Turn {
@@ -39,7 +28,7 @@ fn take_turn(fd: i32, name: &[u8], w: &mut [u8], out: &mut [u8], s: State) -> Tu
         };
     }
     let held = have + piece.got;
-    if (piece.got != 0) & (held < RECORD) {
+    if (piece.got != 0) & (held < idr::RECORD) {
         return Turn {
             state: State {
                 place: s.place,
@@ -51,13 +40,13 @@ fn take_turn(fd: i32, name: &[u8], w: &mut [u8], out: &mut [u8], s: State) -> Tu
         };
     }
     let listed = list_held(w, held, out, s);
-    if listed.text <= ENOUGH {
+    if listed.text <= turns::ENOUGH {
         return Turn {
             state: listed,
             failed: false,
         };
     }
-    flush(out, listed)
+    turns::flush(out, listed)
 }
 
 // The line of what was read of a record.
@@ -67,7 +56,7 @@ fn list_held(w: &[u8], held: usize, out: &mut [u8], s: State) -> State
 {
     let listed = idr_listing::list_record(&w[..held], s.place, out, s.text);
     State {
-        place: s.place + RECORD as u64,
+        place: s.place + idr::RECORD as u64,
         have: 0,
         text: listed.end,
         done: listed.done,
@@ -86,7 +75,7 @@ fn list_tape(fd: i32, name: &[u8], w: &mut [u8], out: &mut [u8]) -> Turn
         text: end,
         done: false,
     };
-    let mut turns = TURNS;
+    let mut turns = turns::TURNS;
     while 0 < turns {
         let t = take_turn(fd, name, w, out, s);
         s = t.state;
@@ -95,7 +84,7 @@ fn list_tape(fd: i32, name: &[u8], w: &mut [u8], out: &mut [u8]) -> Turn
         }
         turns -= 1;
     }
-    give_up(name);
+    turns::give_up(name);
     Turn {
         state: s,
         failed: true,
@@ -103,26 +92,26 @@ fn list_tape(fd: i32, name: &[u8], w: &mut [u8], out: &mut [u8]) -> Turn
 }
 
 fn list(fd: i32, name: &[u8]) {
-    let mut record = [0u8; RECORD];
+    let mut record = [0u8; idr::RECORD];
     let w: &mut [u8] = &mut record;
     let mut text = io::large_buffer();
     let out: &mut [u8] = &mut text;
     let t = list_tape(fd, name, w, out);
-    flush(out, t.state);
+    turns::flush(out, t.state);
 }
 
 // Lists the file that argument i names, under a line with its name where there are several.
 fn list_argument(i: usize, several: bool) {
     let mut path = io::buffer();
-    let file = open_at(i, &mut path);
+    let file = arguments::open_at(i, &mut path);
     let fd = file.fd;
     if fd < 0 {
         return;
     }
     let n = file.size;
     if several {
-        io::write_all(STDOUT_FILENO, &path[..n]);
-        io::write_all(STDOUT_FILENO, b"\n");
+        io::write_all(libc::STDOUT_FILENO, &path[..n]);
+        io::write_all(libc::STDOUT_FILENO, b"\n");
     }
     list(fd, &path[..n]);
     libc::close(fd);
@@ -151,13 +140,13 @@ fn tell_usage(fd: i32) {
 fn main() {
     let count = os::arg_count();
     if count < 2 {
-        list(STDIN_FILENO, b"standard input");
+        list(libc::STDIN_FILENO, b"standard input");
         return;
     }
-    let wanted = first_option(count);
+    let wanted = arguments::first_option(count);
     match wanted {
         Asked::Files => list_arguments(count),
-        Asked::Help => tell_usage(STDOUT_FILENO),
-        Asked::Unknown => tell_usage(STDERR_FILENO),
+        Asked::Help => tell_usage(libc::STDOUT_FILENO),
+        Asked::Unknown => tell_usage(libc::STDERR_FILENO),
     }
 }

@@ -8,10 +8,6 @@ ghost use Rattle.idr_listing.specs.Text.{mostLine};
 ghost use Rattle.idr_listing.specs.inner.Room.{mostWhy, mostOrigin, mostTime, mostReduction};
 use idr::Reduction;
 use idr::Time;
-use text::LINE_END;
-use text::SPACE;
-use text::put_text;
-use text::put_word;
 
 // The refusals that a listing can end with, by their numbers; 0 is the end.
 const END: u32 = 0;
@@ -35,7 +31,7 @@ pub fn begin(out: &mut [u8]) -> usize
     requires { ⌜ length heading ≤ length (now out) ⌝ }
     ensures { λ r. ⌜ Puts (now (out .entry)) (now (out .exit)) 0 r heading ⌝ }
 {
-    put_text(
+    text::put_text(
         out,
         0,
         b"place tape record spacecraft station day time playback sampling decimation\n",
@@ -56,11 +52,11 @@ pub fn put_origin(
     ensures { λ r. ⌜ Puts (now (out .entry)) (now (out .exit)) at r (originText place tape number spacecraft station) ⌝ }
     ensures { λ r. ⌜ r ≤ at + mostOrigin ⌝ }
 {
-    let a = put_word(out, at, place, SPACE);
-    let b = put_word(out, a, tape as u64, SPACE);
-    let c = put_word(out, b, number as u64, SPACE);
-    let d = put_word(out, c, spacecraft as u64, SPACE);
-    put_word(out, d, station as u64, SPACE)
+    let a = text::put_word(out, at, place, text::SPACE);
+    let b = text::put_word(out, a, tape as u64, text::SPACE);
+    let c = text::put_word(out, b, number as u64, text::SPACE);
+    let d = text::put_word(out, c, spacecraft as u64, text::SPACE);
+    text::put_word(out, d, station as u64, text::SPACE)
 }
 
 // When it was recorded.
@@ -69,9 +65,9 @@ pub fn put_time(out: &mut [u8], at: usize, t: Time) -> usize
     ensures { λ r. ⌜ Puts (now (out .entry)) (now (out .exit)) at r (timeText (t .day) (t .hour) (t .minute) (t .second) (t .micros)) ⌝ }
     ensures { λ r. ⌜ r ≤ at + mostTime ⌝ }
 {
-    let a = put_word(out, at, t.day as u64, SPACE);
+    let a = text::put_word(out, at, t.day as u64, text::SPACE);
     let time = clock_of(t);
-    put_text(out, a, &time)
+    text::put_text(out, a, &time)
 }
 
 // How it was reduced.
@@ -80,9 +76,9 @@ pub fn put_reduction(out: &mut [u8], at: usize, d: Reduction) -> usize
     ensures { λ r. ⌜ Puts (now (out .entry)) (now (out .exit)) at r (reductionText (d .playback) (d .sampling) (d .decimation)) ⌝ }
     ensures { λ r. ⌜ r ≤ at + mostReduction ⌝ }
 {
-    let a = put_word(out, at, d.playback as u64, SPACE);
-    let b = put_word(out, a, d.sampling as u64, SPACE);
-    put_word(out, b, d.decimation as u64, LINE_END)
+    let a = text::put_word(out, at, d.playback as u64, text::SPACE);
+    let b = text::put_word(out, a, d.sampling as u64, text::SPACE);
+    text::put_word(out, b, d.decimation as u64, text::LINE_END)
 }
 
 fn clock_of(t: Time) -> [u8; 16]
@@ -108,7 +104,7 @@ fn clock_of(t: Time) -> [u8; 16]
         ZERO + (micros / 100 % 10) as u8,
         ZERO + (micros / 10 % 10) as u8,
         ZERO + (micros % 10) as u8,
-        SPACE,
+        text::SPACE,
     ]
 }
 
@@ -117,7 +113,7 @@ pub fn put_untagged(out: &mut [u8], at: usize) -> usize
     requires { ⌜ at + length untaggedText ≤ length (now out) ⌝ }
     ensures { λ r. ⌜ Puts (now (out .entry)) (now (out .exit)) at r untaggedText ⌝ }
 {
-    put_text(out, at, b"- - - - -\n")
+    text::put_text(out, at, b"- - - - -\n")
 }
 
 // The last line: the stop place, the stop number, and what it means.
@@ -126,8 +122,8 @@ pub fn put_last(out: &mut [u8], at: usize, place: u64, number: u32) -> usize
     ensures { λ r. ⌜ Puts (now (out .entry)) (now (out .exit)) at r (lastLine place number) ⌝ }
     ensures { λ r. ⌜ r ≤ at + mostLine ⌝ }
 {
-    let a = put_word(out, at, place, SPACE);
-    let b = put_word(out, a, number as u64, SPACE);
+    let a = text::put_word(out, at, place, text::SPACE);
+    let b = text::put_word(out, a, number as u64, text::SPACE);
     put_why(out, b, number)
 }
 
@@ -137,19 +133,19 @@ fn put_why(out: &mut [u8], at: usize, number: u32) -> usize
     ensures { λ r. ⌜ r ≤ at + mostWhy ⌝ }
 {
     if number == END {
-        return put_text(out, at, b"end of tape\n");
+        return text::put_text(out, at, b"end of tape\n");
     }
     if number == LENGTHS {
-        return put_text(out, at, b"not a whole record\n");
+        return text::put_text(out, at, b"not a whole record\n");
     }
     if number == LENGTH_WORD {
-        return put_text(out, at, b"length word not 2528\n");
+        return text::put_text(out, at, b"length word not 2528\n");
     }
     if number == TIME {
-        return put_text(out, at, b"not a time\n");
+        return text::put_text(out, at, b"not a time\n");
     }
     if number == RATE {
-        return put_text(out, at, b"rate not listed\n");
+        return text::put_text(out, at, b"rate not listed\n");
     }
-    put_text(out, at, b"block size zero or positive\n")
+    text::put_text(out, at, b"block size zero or positive\n")
 }

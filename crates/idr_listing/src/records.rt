@@ -13,12 +13,7 @@ ghost use Rattle.idr_listing.specs.inner.Room.{mostOrigin};
 ghost use Rattle.idr_listing.specs.Listing.{stopNumber};
 ghost use Rattle.idr_listing.specs.inner.Lists.{Lists};
 use crate::Listed;
-use crate::lines::put_last;
-use crate::lines::put_origin;
-use crate::lines::put_reduction;
-use crate::lines::put_time;
-use crate::lines::put_untagged;
-use idr::HEADER;
+use crate::lines;
 use idr::Read;
 use refusals::Refusal;
 
@@ -48,17 +43,17 @@ pub fn list_record(r: &[u8], place: u64, out: &mut [u8], at: usize) -> Listed
             count: _,
         } => {
             let a = put_source(out, at, place, r);
-            let b = put_time(out, a, time);
-            let end = put_reduction(out, b, reduction);
+            let b = lines::put_time(out, a, time);
+            let end = lines::put_reduction(out, b, reduction);
             return Listed { end, done: false };
         }
         Read::Untagged => {
             let a = put_source(out, at, place, r);
-            let end = put_untagged(out, a);
+            let end = lines::put_untagged(out, a);
             return Listed { end, done: false };
         }
         Read::Refused(why) => {
-            let end = put_last(out, at, place, stop_number(r, why));
+            let end = lines::put_last(out, at, place, stop_number(r, why));
             return Listed { end, done: true };
         }
     }
@@ -70,9 +65,9 @@ fn put_source(out: &mut [u8], at: usize, place: u64, r: &[u8]) -> usize
     ensures { λ e. ⌜ Puts (now (out .entry)) (now (out .exit)) at e (source place (header (now (r .entry)))) ⌝ }
     ensures { λ e. ⌜ e ≤ at + mostOrigin ⌝ }
 {
-    let mut w = [0u16; HEADER];
+    let mut w = [0u16; idr::HEADER];
     idr::read_words(r, &mut w);
-    put_origin(
+    lines::put_origin(
         out,
         at,
         place,

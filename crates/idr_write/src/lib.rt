@@ -7,25 +7,20 @@ ghost use Rattle.octets.specs.Octets.{put};
 ghost use Rattle.idr.specs.Words.{headerCount, samplesAt, samplesSize, recordSize};
 ghost use Rattle.idr.specs.Rules.{outcomeNumber};
 ghost use Rattle.idr_write.specs.Write.{wordBytes, writeRecord};
-use idr::HEADER;
 use idr::Outcome;
-use idr::RECORD;
-use idr::SAMPLES;
-use idr::SAMPLES_AT;
-use idr::WORD;
 use refusals::Refusal;
 
 // Writes the record that has these header words and samples; a refusal leaves `out` whole.
 pub fn write_record(words: &[u16], samples: &[u8], out: &mut [u8]) -> Outcome
     ensures { λ r. ⌜ (outcomeNumber r ∷ [], now (out .exit)) ≡ writeRecord (now (words .entry)) (now (samples .entry)) (now (out .entry)) ⌝ }
 {
-    if out.len() != RECORD {
+    if out.len() != idr::RECORD {
         return Outcome::Refused(Refusal::TapeLengths);
     }
-    if words.len() != HEADER {
+    if words.len() != idr::HEADER {
         return Outcome::Refused(Refusal::TapeLengths);
     }
-    if samples.len() != SAMPLES {
+    if samples.len() != idr::SAMPLES {
         return Outcome::Refused(Refusal::TapeLengths);
     }
     let judged = idr::judge(words);
@@ -43,15 +38,15 @@ fn write_whole(words: &[u16], samples: &[u8], out: &mut [u8])
     ensures { λ _. ⌜ now (out .exit) ≡ wordBytes (now (words .entry)) ++ now (samples .entry) ⌝ }
 {
     write_words(words, out);
-    octets::copy_in(samples, out, SAMPLES_AT);
+    octets::copy_in(samples, out, idr::SAMPLES_AT);
 }
 
 fn write_words(words: &[u16], out: &mut [u8])
     requires { ⌜ (length (now words) ≡ headerCount) × (samplesAt ≤ length (now out)) ⌝ }
     ensures { λ _. ⌜ now (out .exit) ≡ put (now (out .entry)) 0 (wordBytes (now (words .entry))) ⌝ }
 {
-    for i in 0..HEADER {
-        octets::write_be(out, i * WORD, WORD, wide(words[i]));
+    for i in 0..idr::HEADER {
+        octets::write_be(out, i * idr::WORD, idr::WORD, wide(words[i]));
     }
 }
 

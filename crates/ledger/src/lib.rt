@@ -3,17 +3,15 @@
 // What is not a right sheet is refused with 20 and left as it was.
 pub mod judged;
 
-use ledger_changes::desks::make_fresh;
-use ledger_rows::find_row;
+use ledger_changes::desks;
+use ledger_sheet as sheet;
 use ledger_sheet::Answer;
 use ledger_sheet::GapAnswer;
 use ledger_sheet::ReportAnswer;
 use ledger_sheet::RowAnswer;
-use ledger_sheet::SHEET;
-use ledger_sheet::right::is_sheet;
+use ledger_sheet::right;
+use ledger_verdicts as verdicts;
 use ledger_verdicts::Verdict;
-use ledger_verdicts::find_verdict;
-use ledger_verdicts::row_verdict;
 use refusals::Refusal;
 ghost use mathlib.Core.Path.{_≡_};
 ghost use mathlib.Core.Bool.{true, false};
@@ -25,10 +23,10 @@ ghost use Rattle.ledger_layout.specs.Layout.{call, onSheet, freshOn};
 pub fn fresh(s: &mut [u8]) -> Answer
     ensures { λ r. ⌜ (answerWords r, now (s .exit)) ≡ freshOn (now (s .entry)) ⌝ }
 {
-    if s.len() != SHEET {
+    if s.len() != sheet::SHEET {
         return Answer::Refused(Refusal::NotSheet);
     }
-    make_fresh(s);
+    desks::make_fresh(s);
     Answer::Done
 }
 
@@ -36,7 +34,7 @@ pub fn fresh(s: &mut [u8]) -> Answer
 pub fn enrol(s: &mut [u8], key: u64, first: u32) -> RowAnswer
     ensures { λ r. ⌜ (rowWords r, now (s .exit)) ≡ onSheet (call (Enrol key first)) (now (s .entry)) ⌝ }
 {
-    let fine = is_sheet(s);
+    let fine = right::is_sheet(s);
     judged::enrol(s, fine, key, first)
 }
 
@@ -44,18 +42,18 @@ pub fn enrol(s: &mut [u8], key: u64, first: u32) -> RowAnswer
 pub fn find(s: &[u8], key: u64) -> RowAnswer
     ensures { λ r. ⌜ (rowWords r, now (s .entry)) ≡ onSheet (call (Ask (Find key))) (now (s .entry)) ⌝ }
 {
-    let verdict = find_verdict(s, is_sheet(s), key);
+    let verdict = verdicts::find_verdict(s, right::is_sheet(s), key);
     if let Verdict::Refused(why) = verdict {
         return RowAnswer::Refused(why);
     }
-    RowAnswer::Row(find_row(s, key) as u32)
+    RowAnswer::Row(ledger_rows::find_row(s, key) as u32)
 }
 
 // Opens a row at a desk.
 pub fn open(s: &mut [u8], desk: u32, row: u32) -> Answer
     ensures { λ r. ⌜ (answerWords r, now (s .exit)) ≡ onSheet (call (Open desk row)) (now (s .entry)) ⌝ }
 {
-    let fine = is_sheet(s);
+    let fine = right::is_sheet(s);
     judged::open(s, fine, desk, row)
 }
 
@@ -77,7 +75,7 @@ pub fn untick(s: &mut [u8], desk: u32, number: u32) -> Answer
 fn mark(s: &mut [u8], desk: u32, number: u32, on: bool) -> Answer
     ensures { λ r. ⌜ (answerWords r, now (s .exit)) ≡ onSheet (call (Mark on desk number)) (now (s .entry)) ⌝ }
 {
-    let fine = is_sheet(s);
+    let fine = right::is_sheet(s);
     judged::mark(s, fine, desk, number, on)
 }
 
@@ -85,7 +83,7 @@ fn mark(s: &mut [u8], desk: u32, number: u32, on: bool) -> Answer
 pub fn drop(s: &mut [u8], desk: u32) -> Answer
     ensures { λ r. ⌜ (answerWords r, now (s .exit)) ≡ onSheet (call (Drop desk)) (now (s .entry)) ⌝ }
 {
-    let fine = is_sheet(s);
+    let fine = right::is_sheet(s);
     judged::drop(s, fine, desk)
 }
 
@@ -93,7 +91,7 @@ pub fn drop(s: &mut [u8], desk: u32) -> Answer
 pub fn save(s: &mut [u8], desk: u32) -> Answer
     ensures { λ r. ⌜ (answerWords r, now (s .exit)) ≡ onSheet (call (Save desk)) (now (s .entry)) ⌝ }
 {
-    let fine = is_sheet(s);
+    let fine = right::is_sheet(s);
     judged::save(s, fine, desk)
 }
 
@@ -101,7 +99,7 @@ pub fn save(s: &mut [u8], desk: u32) -> Answer
 pub fn strike(s: &mut [u8], row: u32) -> Answer
     ensures { λ r. ⌜ (answerWords r, now (s .exit)) ≡ onSheet (call (Strike row)) (now (s .entry)) ⌝ }
 {
-    let fine = is_sheet(s);
+    let fine = right::is_sheet(s);
     judged::strike(s, fine, row)
 }
 
@@ -109,7 +107,7 @@ pub fn strike(s: &mut [u8], row: u32) -> Answer
 pub fn row_report(s: &[u8], row: u32) -> ReportAnswer
     ensures { λ r. ⌜ (reportAnswerWords r, now (s .entry)) ≡ onSheet (call (Ask (RowReport row))) (now (s .entry)) ⌝ }
 {
-    let verdict = row_verdict(s, is_sheet(s), row);
+    let verdict = verdicts::row_verdict(s, right::is_sheet(s), row);
     if let Verdict::Refused(why) = verdict {
         return ReportAnswer::Refused(why);
     }
@@ -120,7 +118,7 @@ pub fn row_report(s: &[u8], row: u32) -> ReportAnswer
 pub fn first_gap(s: &[u8]) -> GapAnswer
     ensures { λ r. ⌜ (gapWords r, now (s .entry)) ≡ onSheet (call (Ask FirstGap)) (now (s .entry)) ⌝ }
 {
-    if !is_sheet(s) {
+    if !right::is_sheet(s) {
         return GapAnswer::Refused(Refusal::NotSheet);
     }
     ledger_counts::first_gap(s)

@@ -1,13 +1,6 @@
 // Desks, and the sheet as a whole: made fresh, opened, saved, cleared.
-use ledger_rows::desk_row;
 use ledger_sheet as sheet;
 use ledger_sheet::Answer;
-use ledger_sheet::desk_at;
-use ledger_sheet::row_at;
-use octets::clear;
-use octets::copy;
-use octets::is_same;
-use octets::write_be;
 use refusals::Refusal;
 ghost use mathlib.Core.Path.{_≡_};
 ghost use Prim.Native.Nat.{_+_, _≤_, _<_};
@@ -24,7 +17,7 @@ pub fn make_fresh(s: &mut [u8])
     ensures { λ _. ⌜ now (s .exit) ≡ freshSheet ⌝ }
 {
     write_header(s, 0);
-    clear(s, sheet::ROWS_AT, sheet::SHEET - sheet::ROWS_AT);
+    octets::clear(s, sheet::ROWS_AT, sheet::SHEET - sheet::ROWS_AT);
 }
 
 // Writes the header of a sheet with so many rows used.
@@ -32,17 +25,17 @@ fn write_header(s: &mut [u8], used: u64)
     requires { ⌜ rowsStart ≤ length (now s) ⌝ }
     ensures { λ _. ⌜ now (s .exit) ≡ put (now (s .entry)) 0 (headerBytes used) ⌝ }
 {
-    write_be(s, sheet::LENGTH_AT, sheet::NUMBER, sheet::SHEET as u64);
-    write_be(s, sheet::USED_AT, sheet::NUMBER, used);
-    write_be(s, sheet::ROW_COUNT_AT, sheet::NUMBER, sheet::ROWS as u64);
-    write_be(
+    octets::write_be(s, sheet::LENGTH_AT, sheet::NUMBER, sheet::SHEET as u64);
+    octets::write_be(s, sheet::USED_AT, sheet::NUMBER, used);
+    octets::write_be(s, sheet::ROW_COUNT_AT, sheet::NUMBER, sheet::ROWS as u64);
+    octets::write_be(
         s,
         sheet::ROWS_OFFSET_AT,
         sheet::NUMBER,
         sheet::ROWS_AT as u64,
     );
-    write_be(s, sheet::DESK_COUNT_AT, sheet::NUMBER, sheet::DESKS as u64);
-    write_be(
+    octets::write_be(s, sheet::DESK_COUNT_AT, sheet::NUMBER, sheet::DESKS as u64);
+    octets::write_be(
         s,
         sheet::DESKS_OFFSET_AT,
         sheet::NUMBER,
@@ -55,13 +48,13 @@ pub fn open_desk(s: &mut [u8], d: usize, row: usize)
     requires { ⌜ (length (now s) ≡ sheetSize) × (d < deskCount) × (row < rowCount) ⌝ }
     ensures { λ _. ⌜ now (s .exit) ≡ openAt d row (now (s .entry)) ⌝ }
 {
-    let a = desk_at(d);
-    let from = row_at(row);
+    let a = sheet::desk_at(d);
+    let from = sheet::row_at(row);
     s[a] = sheet::OPEN;
     s[a + sheet::DESK_ROW_AT] = row as u8;
-    clear(s, a + sheet::DESK_ZEROS_AT, sheet::DESK_ZEROS);
-    copy(s, from, a + sheet::OPENED_AT, sheet::ROW);
-    copy(s, from, a + sheet::WORKED_AT, sheet::ROW);
+    octets::clear(s, a + sheet::DESK_ZEROS_AT, sheet::DESK_ZEROS);
+    octets::copy(s, from, a + sheet::OPENED_AT, sheet::ROW);
+    octets::copy(s, from, a + sheet::WORKED_AT, sheet::ROW);
 }
 
 // Clears desk d.
@@ -69,7 +62,7 @@ pub fn clear_desk(s: &mut [u8], d: usize)
     requires { ⌜ (length (now s) ≡ sheetSize) × (d < deskCount) ⌝ }
     ensures { λ _. ⌜ now (s .exit) ≡ clearDesk d (now (s .entry)) ⌝ }
 {
-    clear(s, desk_at(d), sheet::DESK);
+    octets::clear(s, sheet::desk_at(d), sheet::DESK);
 }
 
 // Saves desk d: where its row is still as it was opened, the worked copy becomes the row; the desk is cleared.
@@ -91,8 +84,8 @@ fn is_current(s: &[u8], d: usize) -> bool
     requires { ⌜ (length (now s) ≡ sheetSize) × (d < deskCount) × (deskRow (now s) d < rowCount) ⌝ }
     ensures { λ r. ⌜ r ≡ isCurrent d (now (s .entry)) ⌝ }
 {
-    let row = row_at(desk_row(s, d));
-    is_same(s, row, s, desk_at(d) + sheet::OPENED_AT, sheet::ROW)
+    let row = sheet::row_at(ledger_rows::desk_row(s, d));
+    octets::is_same(s, row, s, sheet::desk_at(d) + sheet::OPENED_AT, sheet::ROW)
 }
 
 // The row that desk d has open becomes the worked copy.
@@ -100,6 +93,6 @@ fn store(s: &mut [u8], d: usize)
     requires { ⌜ (length (now s) ≡ sheetSize) × (d < deskCount) × (deskRow (now s) d < rowCount) ⌝ }
     ensures { λ _. ⌜ now (s .exit) ≡ stored d (now (s .entry)) ⌝ }
 {
-    let row = row_at(desk_row(s, d));
-    copy(s, desk_at(d) + sheet::WORKED_AT, row, sheet::ROW);
+    let row = sheet::row_at(ledger_rows::desk_row(s, d));
+    octets::copy(s, sheet::desk_at(d) + sheet::WORKED_AT, row, sheet::ROW);
 }

@@ -1,13 +1,7 @@
 // Rows: as values, by their key, enrolled and struck.
-use ledger_rows::free_row;
 use ledger_sheet as sheet;
 use ledger_sheet::Row;
-use ledger_sheet::right::first_at;
-use ledger_sheet::right::key_at;
-use ledger_sheet::right::rows_used;
-use ledger_sheet::row_at;
-use octets::clear;
-use octets::write_be;
+use ledger_sheet::right;
 ghost use mathlib.Core.Path.{_≡_};
 ghost use Prim.Native.Nat.{_+_, _≤_, _<_};
 ghost use lib.ListN.{length};
@@ -34,8 +28,8 @@ pub fn read_row(s: &[u8], a: usize) -> Row
     requires { ⌜ a + rowSize ≤ length (now s) ⌝ }
     ensures { λ r. ⌜ r ≡ rowValueAt (now (s .entry)) a ⌝ }
 {
-    let key = key_at(s, a);
-    let first = first_at(s, a);
+    let key = right::key_at(s, a);
+    let first = right::first_at(s, a);
     let ticks = read_ticks(s, a + sheet::TICKS_AT);
     Row { key, first, ticks }
 }
@@ -57,9 +51,9 @@ pub fn write_row(s: &mut [u8], a: usize, row: Row)
     ensures { λ _. ⌜ now (s .exit) ≡ put (now (s .entry)) a (rowBytes (row .key) (row .first) (row .ticks)) ⌝ }
 {
     let ticks = row.ticks;
-    write_be(s, a, sheet::USED_WORD, sheet::USED);
-    write_be(s, a + sheet::KEY_AT, sheet::KEY, row.key);
-    write_be(s, a + sheet::FIRST_AT, sheet::FIRST, row.first as u64);
+    octets::write_be(s, a, sheet::USED_WORD, sheet::USED);
+    octets::write_be(s, a + sheet::KEY_AT, sheet::KEY, row.key);
+    octets::write_be(s, a + sheet::FIRST_AT, sheet::FIRST, row.first as u64);
     write_ticks(s, a + sheet::TICKS_AT, &ticks);
 }
 
@@ -77,10 +71,10 @@ pub fn enrol_row(s: &mut [u8], key: u64, first: u32) -> u32
     requires { ⌜ (length (now s) ≡ sheetSize) × (freeRow (now s) < rowCount) ⌝ }
     ensures { λ r. ⌜ (r ≡ freeRow (now (s .entry))) × (now (s .exit) ≡ enrolAt (freeRow (now (s .entry))) key first (now (s .entry))) ⌝ }
 {
-    let row = free_row(s);
-    let used = rows_used(s) as u64;
-    write_row(s, row_at(row), blank_row(key, first));
-    write_be(s, sheet::USED_AT, sheet::NUMBER, used + 1);
+    let row = ledger_rows::free_row(s);
+    let used = right::rows_used(s) as u64;
+    write_row(s, sheet::row_at(row), blank_row(key, first));
+    octets::write_be(s, sheet::USED_AT, sheet::NUMBER, used + 1);
     row as u32
 }
 
@@ -89,7 +83,7 @@ pub fn strike_row(s: &mut [u8], row: usize)
     requires { ⌜ (length (now s) ≡ sheetSize) × (row < rowCount) × (0 < used (now s)) ⌝ }
     ensures { λ _. ⌜ now (s .exit) ≡ strikeAt row (now (s .entry)) ⌝ }
 {
-    let used = rows_used(s) as u64;
-    clear(s, row_at(row), sheet::ROW);
-    write_be(s, sheet::USED_AT, sheet::NUMBER, used - 1);
+    let used = right::rows_used(s) as u64;
+    octets::clear(s, sheet::row_at(row), sheet::ROW);
+    octets::write_be(s, sheet::USED_AT, sheet::NUMBER, used - 1);
 }

@@ -1,11 +1,7 @@
 // Ticks in a row or a desk's copy of one.
-use ledger_rows::is_ticked;
-use ledger_rows::tick_bit;
 use ledger_sheet as sheet;
 use ledger_sheet::Answer;
-use ledger_sheet::desk_at;
-use ledger_sheet::right::first_at;
-use ledger_sheet::right::key_at;
+use ledger_sheet::right;
 use refusals::Refusal;
 ghost use mathlib.Core.Path.{_≡_};
 ghost use Prim.Native.Nat.{_+_, _<_};
@@ -22,7 +18,7 @@ pub fn mark_desk(s: &mut [u8], d: usize, n: u32, on: bool) -> Answer
     requires { ⌜ (length (now s) ≡ sheetSize) × (d < deskCount) ⌝ }
     ensures { λ r. ⌜ (answerWords r, now (s .exit)) ≡ markDesk on d n (now (s .entry)) ⌝ }
 {
-    let a = desk_at(d) + sheet::WORKED_AT;
+    let a = sheet::desk_at(d) + sheet::WORKED_AT;
     let e = a + sheet::ROW;
     mark_row(&mut s[a..e], n, on)
 }
@@ -32,8 +28,8 @@ fn mark_row(row: &mut [u8], n: u32, on: bool) -> Answer
     requires { ⌜ length (now row) ≡ rowSize ⌝ }
     ensures { λ r. ⌜ (answerWords r, now (row .exit)) ≡ markRow on n (now (row .entry)) ⌝ }
 {
-    let key = key_at(row, 0);
-    let first = first_at(row, 0);
+    let key = right::key_at(row, 0);
+    let first = right::first_at(row, 0);
     mark_position(row, ledger_model::position(key, first, n) as usize, on)
 }
 
@@ -45,9 +41,9 @@ fn mark_position(row: &mut [u8], i: usize, on: bool) -> Answer
     if i >= POSITIONS {
         return Answer::Refused(Refusal::OutsideRow);
     }
-    let ticked = is_ticked(row, 0, i);
+    let ticked = ledger_rows::is_ticked(row, 0, i);
     let at = sheet::TICKS_AT + i / sheet::BYTE_BITS;
-    let bit = tick_bit(i % sheet::BYTE_BITS);
+    let bit = ledger_rows::tick_bit(i % sheet::BYTE_BITS);
     if on {
         if ticked {
             return Answer::Refused(Refusal::AlreadyTicked);

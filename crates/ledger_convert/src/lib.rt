@@ -1,17 +1,11 @@
 // Old sheets, of document 01's layout, made new ones (document 02, request 10).
 pub mod old;
 
-use ledger_changes::desks::make_fresh;
-use ledger_changes::rows::write_row;
+use ledger_changes::desks;
+use ledger_changes::rows;
 use ledger_sheet as sheet;
 use ledger_sheet::Answer;
 use ledger_sheet::Row;
-use ledger_sheet::desk_at;
-use ledger_sheet::row_at;
-use octets::clear;
-use octets::write_be;
-use old::is_old_sheet;
-use old::rows_used;
 use refusals::Refusal;
 ghost use mathlib.Core.Path.{_≡_};
 ghost use mathlib.Core.Bool.{true};
@@ -35,7 +29,7 @@ pub fn convert(old: &[u8], new: &mut [u8]) -> Answer
     if new.len() != sheet::SHEET {
         return Answer::Refused(Refusal::NotSheet);
     }
-    if !is_old_sheet(old) {
+    if !old::is_old_sheet(old) {
         return Answer::Refused(Refusal::NotSheet);
     }
     lay_out(old, new);
@@ -46,9 +40,9 @@ fn lay_out(old: &[u8], new: &mut [u8])
     requires { ⌜ (length (now new) ≡ sheetSize) × (Old.right (now old) ≡ true) ⌝ }
     ensures { λ _. ⌜ now (new .exit) ≡ layout (oldBookOf (now (old .entry))) ⌝ }
 {
-    let used = rows_used(old);
-    make_fresh(new);
-    write_be(new, sheet::USED_AT, sheet::NUMBER, used as u64);
+    let used = old::rows_used(old);
+    desks::make_fresh(new);
+    octets::write_be(new, sheet::USED_AT, sheet::NUMBER, used as u64);
     write_rows(old, new, used);
     write_desks(old, new);
 }
@@ -61,7 +55,7 @@ fn write_rows(old: &[u8], new: &mut [u8], used: usize)
 {
     for i in 0..used {
         let row = old::read_row(old, old::row_at(i));
-        write_row(new, row_at(i), row);
+        rows::write_row(new, sheet::row_at(i), row);
     }
 }
 
@@ -88,10 +82,10 @@ fn write_desk(new: &mut [u8], d: usize, row: u8, opened: Row, worked: Row)
     ensures { λ _. ⌜ now (new .exit) ≡ put (now (new .entry)) (deskAt d) (openDesk row (rowBytes (opened .key) (opened .first) (opened .ticks))
         (rowBytes (worked .key) (worked .first) (worked .ticks))) ⌝ }
 {
-    let a = desk_at(d);
+    let a = sheet::desk_at(d);
     new[a] = sheet::OPEN;
     new[a + sheet::DESK_ROW_AT] = row;
-    clear(new, a + sheet::DESK_ZEROS_AT, sheet::DESK_ZEROS);
-    write_row(new, a + sheet::OPENED_AT, opened);
-    write_row(new, a + sheet::WORKED_AT, worked);
+    octets::clear(new, a + sheet::DESK_ZEROS_AT, sheet::DESK_ZEROS);
+    rows::write_row(new, a + sheet::OPENED_AT, opened);
+    rows::write_row(new, a + sheet::WORKED_AT, worked);
 }

@@ -2,11 +2,8 @@
 use ledger_changes::rows;
 use ledger_sheet as sheet;
 use ledger_sheet::Row;
-use ledger_sheet::right::is_other;
-use octets::is_long_zero;
-use octets::is_same;
-use octets::is_zero;
-use octets::read_be;
+use ledger_sheet::right;
+use octets::numbers;
 ghost use mathlib.Core.Path.{_≡_};
 ghost use mathlib.Core.Bool.{not, _&&_};
 ghost use Prim.Native.Nat.{_+_, _-_, _≤_, _<_};
@@ -71,12 +68,13 @@ fn is_header(s: &[u8]) -> bool
     requires { ⌜ length (now s) ≡ sheetSize ⌝ }
     ensures { λ r. ⌜ r ≡ headerRight (now (s .entry)) ⌝ }
 {
-    let size = read_be(s, sheet::LENGTH_AT, sheet::NUMBER) == SHEET as u64;
-    let used = read_be(s, sheet::USED_AT, sheet::NUMBER) <= sheet::ROWS as u64;
-    let rows = read_be(s, sheet::ROW_COUNT_AT, sheet::NUMBER) == sheet::ROWS as u64;
-    let rows_start = read_be(s, sheet::ROWS_OFFSET_AT, sheet::NUMBER) == sheet::ROWS_AT as u64;
-    let desks = read_be(s, sheet::DESK_COUNT_AT, sheet::NUMBER) == sheet::DESKS as u64;
-    let desks_start = read_be(s, sheet::DESKS_OFFSET_AT, sheet::NUMBER) == DESKS_AT as u64;
+    let size = numbers::read_be(s, sheet::LENGTH_AT, sheet::NUMBER) == SHEET as u64;
+    let used = numbers::read_be(s, sheet::USED_AT, sheet::NUMBER) <= sheet::ROWS as u64;
+    let rows = numbers::read_be(s, sheet::ROW_COUNT_AT, sheet::NUMBER) == sheet::ROWS as u64;
+    let rows_start = numbers::read_be(s, sheet::ROWS_OFFSET_AT, sheet::NUMBER)
+        == sheet::ROWS_AT as u64;
+    let desks = numbers::read_be(s, sheet::DESK_COUNT_AT, sheet::NUMBER) == sheet::DESKS as u64;
+    let desks_start = numbers::read_be(s, sheet::DESKS_OFFSET_AT, sheet::NUMBER) == DESKS_AT as u64;
     size & used & rows & rows_start & desks & desks_start
 }
 
@@ -85,7 +83,7 @@ pub fn rows_used(s: &[u8]) -> usize
     requires { ⌜ length (now s) ≡ sheetSize ⌝ }
     ensures { λ r. ⌜ r ≡ used (now (s .entry)) ⌝ }
 {
-    read_be(s, sheet::USED_AT, sheet::NUMBER) as usize
+    numbers::read_be(s, sheet::USED_AT, sheet::NUMBER) as usize
 }
 
 // The key of the row or the copy at offset a.
@@ -93,7 +91,7 @@ fn key_at(s: &[u8], a: usize) -> u64
     requires { ⌜ a + rowSize ≤ length (now s) ⌝ }
     ensures { λ r. ⌜ r ≡ keyAt (now (s .entry)) a ⌝ }
 {
-    read_be(s, a, sheet::KEY)
+    numbers::read_be(s, a, sheet::KEY)
 }
 
 // The first number of the row or the copy at offset a.
@@ -101,7 +99,7 @@ fn first_at(s: &[u8], a: usize) -> u32
     requires { ⌜ a + rowSize ≤ length (now s) ⌝ }
     ensures { λ r. ⌜ r ≡ firstNumberAt (now (s .entry)) a ⌝ }
 {
-    read_be(s, a + FIRST_AT, sheet::FIRST) as u32
+    numbers::read_be(s, a + FIRST_AT, sheet::FIRST) as u32
 }
 
 // The row or the copy at offset a, as a value. A new row, from its key on, is laid out as an old one: so an old row is read as the new
@@ -128,7 +126,7 @@ fn are_rows(s: &[u8]) -> bool
         let key = key_at(s, row);
         valid &= keys::valid(key);
         numbers &= keys::is_number(key, first_at(s, row));
-        different &= is_other(&keys, i, key);
+        different &= right::is_other(&keys, i, key);
         keys[i] = key;
     }
     valid & different & numbers
@@ -145,12 +143,12 @@ fn is_rest(s: &[u8]) -> bool
     for d in 0..sheet::DESKS {
         let desk = desk_at(d);
         if s[desk] != sheet::CLOSED {
-            right &= is_long_zero(s, zeros, desk - zeros);
+            right &= octets::is_long_zero(s, zeros, desk - zeros);
             right &= is_open_desk(s, d);
             zeros = desk + DESK;
         }
     }
-    right & is_long_zero(s, zeros, SHEET - zeros)
+    right & octets::is_long_zero(s, zeros, SHEET - zeros)
 }
 
 // Whether a desk that is not closed is marked open, has its two zeros, names a used row, and both its copies carry that row's key
@@ -167,8 +165,8 @@ fn is_open_desk(s: &[u8], d: usize) -> bool
     }
     let from = row_at(row);
     let open = s[a] == sheet::OPEN;
-    let zeros = is_zero(s, a + sheet::DESK_ZEROS_AT, sheet::DESK_ZEROS);
-    let opened = is_same(s, from, s, a + sheet::OPENED_AT, CARRIED);
-    let worked = is_same(s, from, s, a + WORKED_AT, CARRIED);
+    let zeros = octets::is_zero(s, a + sheet::DESK_ZEROS_AT, sheet::DESK_ZEROS);
+    let opened = octets::is_same(s, from, s, a + sheet::OPENED_AT, CARRIED);
+    let worked = octets::is_same(s, from, s, a + WORKED_AT, CARRIED);
     open & zeros & opened & worked
 }

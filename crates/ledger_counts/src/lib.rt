@@ -1,16 +1,9 @@
 // Row report and first gap, on the bytes of a sheet.
-use ledger_rows::is_ticked;
-use ledger_sheet::BYTE_BITS;
+use ledger_sheet as sheet;
 use ledger_sheet::GapAnswer;
-use ledger_sheet::ROWS;
 use ledger_sheet::ReportAnswer;
-use ledger_sheet::TICKS;
-use ledger_sheet::TICKS_AT;
-use ledger_sheet::right::first_at;
-use ledger_sheet::right::is_used;
-use ledger_sheet::right::key_at;
-use ledger_sheet::row_at;
-use octets::read_le_u64;
+use ledger_sheet::right;
+use octets::numbers;
 ghost use mathlib.Core.Path.{_≡_};
 ghost use mathlib.Core.Bool.{true, not, cond};
 ghost use Prim.Native.Nat.{_+_, _≤_, _<_};
@@ -27,9 +20,9 @@ ghost use Rattle.ledger_counts.specs.inner.Words.{wordBits, wordCount, l
 // A word of ticks, in bytes and in positions, and how many of them a row has.
 const WORD: usize = 8;
 
-const WORD_BITS: usize = BYTE_BITS * WORD;
+const WORD_BITS: usize = sheet::BYTE_BITS * WORD;
 
-const WORDS: usize = TICKS / WORD;
+const WORDS: usize = sheet::TICKS / WORD;
 
 // Words that are counted together, and what a word is whose positions are all ticked.
 const BLOCK: usize = 4;
@@ -46,7 +39,7 @@ fn tick_word(s: &[u8], a: usize, k: usize) -> u64
     requires { ⌜ (a + rowSize ≤ length (now s)) × (k < wordCount) ⌝ }
     ensures { λ r. ⌜ IsWord (now (s .entry)) a k r ⌝ }
 {
-    read_le_u64(s, a + TICKS_AT + WORD * k)
+    numbers::read_le_u64(s, a + sheet::TICKS_AT + WORD * k)
 }
 
 // The ones of the words of a block. Full words, which most rows have most of, need not be counted, for which baseline x86-64
@@ -154,8 +147,8 @@ fn number_in(s: &[u8], a: usize, i: usize) -> u32
     requires { ⌜ (a + rowSize ≤ length (now s)) × (i < rowLength) ⌝ }
     ensures { λ r. ⌜ r ≡ numberAtPosition (now (s .entry)) a i ⌝ }
 {
-    let key = key_at(s, a);
-    let first = first_at(s, a);
+    let key = right::key_at(s, a);
+    let first = right::first_at(s, a);
     ledger_model::number_at(key, first, i as u32)
 }
 
@@ -185,7 +178,7 @@ pub fn row_report(s: &[u8], row: usize) -> ReportAnswer
     requires { ⌜ (length (now s) ≡ sheetSize) × (row < rowCount) ⌝ }
     ensures { λ r. ⌜ reportAnswerWords r ≡ reportWords (now (s .entry)) (rowAt row) ⌝ }
 {
-    let a = row_at(row);
+    let a = sheet::row_at(row);
     let start = ticks_start(s, a);
     if start >= POSITIONS {
         return counted_report(s, a);
@@ -206,10 +199,10 @@ fn row_end(s: &[u8], row: usize) -> usize
     requires { ⌜ (length (now s) ≡ sheetSize) × (row < rowCount) ⌝ }
     ensures { λ r. ⌜ r ≡ cond (isUsed (now (s .entry)) row) (pastHighest rowLength (tickedAt (now (s .entry)) (rowAt row))) 0 ⌝ }
 {
-    if !is_used(s, row) {
+    if !right::is_used(s, row) {
         return 0;
     }
-    ticks_end(s, row_at(row))
+    ticks_end(s, sheet::row_at(row))
 }
 
 // The first missing number and its row: rows in order, positions in order.
@@ -218,11 +211,11 @@ pub fn first_gap(s: &[u8]) -> GapAnswer
     ensures { λ r. ⌜ gapWords r ≡ gapFrom (now (s .entry)) 0 rowCount ⌝ }
 {
     let mut gap = GapAnswer::Nothing;
-    'rows: for row in 0..ROWS {
-        let a = row_at(row);
+    'rows: for row in 0..sheet::ROWS {
+        let a = sheet::row_at(row);
         let end = row_end(s, row);
         for i in 0..end {
-            if !is_ticked(s, a, i) {
+            if !ledger_rows::is_ticked(s, a, i) {
                 gap = GapAnswer::Gap {
                     number: number_in(s, a, i),
                     row: row as u32,

@@ -1,6 +1,4 @@
 // The model of the ledger is in specs/; its one twin in code is the arithmetic of positions.
-use keys::RSR_NUMBERS;
-use keys::RSR_START;
 ghost use mathlib.Core.Path.{_≡_};
 ghost use Rattle.ledger_model.specs.Positions as Positions;
 
@@ -12,11 +10,11 @@ pub fn position(key: u64, first: u32, n: u32) -> u32
     ensures { λ r. ⌜ r ≡ Positions.position key first n ⌝ }
 {
     let difference = std::num::wrapping_sub_u32(n, first);
-    if key < RSR_START {
+    if key < keys::RSR_START {
         return difference;
     }
-    if n < RSR_NUMBERS {
-        return difference % RSR_NUMBERS;
+    if n < keys::RSR_NUMBERS {
+        return difference % keys::RSR_NUMBERS;
     }
     ROW_LENGTH
 }
@@ -26,8 +24,8 @@ pub fn number_at(key: u64, first: u32, position: u32) -> u32
     ensures { λ r. ⌜ r ≡ Positions.positionNumber key first position ⌝ }
 {
     let number = std::num::wrapping_add_u32(first, position);
-    if key < RSR_START {
+    if key < keys::RSR_START {
         return number;
     }
-    number % RSR_NUMBERS
+    number % keys::RSR_NUMBERS
 }

@@ -5,7 +5,6 @@ use crate::Line;
 use crate::Told;
 use ledger_sheet::Answer;
 use ledger_sheet::RowAnswer;
-use refusals::number;
 ghost use mathlib.Core.Path.{_≡_};
 ghost use mathlib.Core.Bool.{true};
 ghost use Rattle.ledger_sheet.specs.Sheet.{right};
@@ -60,7 +59,7 @@ fn tell(a: Answer) -> Told
     match a {
         Answer::Done => Told { number: 0, row: 0 },
         Answer::Refused(why) => Told {
-            number: number(why),
+            number: refusals::number(why),
             row: 0,
         },
     }
@@ -72,7 +71,7 @@ fn tell_row(a: RowAnswer) -> Told
     match a {
         RowAnswer::Row(row) => Told { number: 0, row },
         RowAnswer::Refused(why) => Told {
-            number: number(why),
+            number: refusals::number(why),
             row: 0,
         },
     }

@@ -2,14 +2,8 @@
 mod calls;
 mod trace;
 
-use calls::is_written;
-use calls::make;
-use ledger::fresh;
-use ledger_sheet::SHEET;
+use ledger_sheet as sheet;
 use refusals::Refusal;
-use trace::entry_count;
-use trace::is_trace;
-use trace::read_line;
 ghost use mathlib.Core.Path.{_≡_};
 ghost use Prim.Native.Nat.{_≤_};
 ghost use lib.ListN.{length};
@@ -85,13 +79,13 @@ pub enum Replayed {
 pub fn replay(t: &[u8], s: &mut [u8]) -> Replayed
     ensures { λ r. ⌜ (replayedWords r, now (s .exit)) ≡ replayOn (now (t .entry)) (now (s .entry)) ⌝ }
 {
-    if s.len() != SHEET {
+    if s.len() != sheet::SHEET {
         return Replayed::Refused(Refusal::NotSheet);
     }
-    if !is_trace(t) {
+    if !trace::is_trace(t) {
         return Replayed::Refused(Refusal::NotTrace);
     }
-    fresh(s);
+    ledger::fresh(s);
     play(t, s)
 }
 
@@ -100,11 +94,11 @@ fn play(t: &[u8], s: &mut [u8]) -> Replayed
     requires { ⌜ IsLaid (now s) ⌝ }
     ensures { λ r. ⌜ (replayedWords r, now (s .exit)) ≡ replayFrom 0 (entriesOf (now (t .entry))) (now (s .entry)) ⌝ }
 {
-    let entries = entry_count(t);
+    let entries = trace::entry_count(t);
     for i in 0..entries {
-        let x = read_line(t, HEADER + ENTRY * i);
-        let told = make(s, x);
-        if !is_written(x, told) {
+        let x = trace::read_line(t, HEADER + ENTRY * i);
+        let told = calls::make(s, x);
+        if !calls::is_written(x, told) {
             return Replayed::Differs {
                 entry: i as u32,
                 number: told.number,

@@ -1,8 +1,7 @@
 // Whether a slice is a trace, and its entries.
 use crate as replay;
 use crate::Line;
-use octets::read_be;
-use octets::read_u32;
+use octets::numbers;
 ghost use mathlib.Core.Path.{_≡_};
 ghost use Prim.Native.Nat.{_+_, _≤_};
 ghost use lib.ListN.{length};
@@ -24,11 +23,11 @@ fn is_header(t: &[u8]) -> bool
     requires { ⌜ headerSize ≤ length (now t) ⌝ }
     ensures { λ r. ⌜ r ≡ headerRight (now (t .entry)) ⌝ }
 {
-    let entries = read_u32(t, replay::COUNT_AT);
-    let size = read_u32(t, replay::LENGTH_AT) as usize == t.len();
+    let entries = numbers::read_u32(t, replay::COUNT_AT);
+    let size = numbers::read_u32(t, replay::LENGTH_AT) as usize == t.len();
     let few = entries <= replay::MOST_ENTRIES;
     let filled = t.len() == replay::HEADER + replay::ENTRY * entries as usize;
-    let start = read_u32(t, replay::START_AT) as usize == replay::HEADER;
+    let start = numbers::read_u32(t, replay::START_AT) as usize == replay::HEADER;
     size & few & filled & start
 }
 
@@ -37,7 +36,7 @@ pub fn entry_count(t: &[u8]) -> usize
     requires { ⌜ headerSize ≤ length (now t) ⌝ }
     ensures { λ r. ⌜ r ≡ count (now (t .entry)) ⌝ }
 {
-    read_u32(t, replay::COUNT_AT) as usize
+    numbers::read_u32(t, replay::COUNT_AT) as usize
 }
 
 fn are_lines(t: &[u8]) -> bool
@@ -57,8 +56,8 @@ pub fn read_line(t: &[u8], a: usize) -> Line
     requires { ⌜ a + entrySize ≤ length (now t) ⌝ }
     ensures { λ r. ⌜ r ≡ lineAt (now (t .entry)) a ⌝ }
 {
-    let number = read_u32(t, a + replay::RECORD_AT);
-    let key = read_be(t, a + replay::KEY_AT, replay::KEY);
+    let number = numbers::read_u32(t, a + replay::RECORD_AT);
+    let key = numbers::read_be(t, a + replay::KEY_AT, replay::KEY);
     Line {
         call: t[a],
         desk: t[a + replay::DESK_AT],

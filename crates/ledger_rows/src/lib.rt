@@ -1,9 +1,6 @@
 // What is read of a sheet and changes nothing: the row with a key, a free row, a desk's row, a tick.
 use ledger_sheet as sheet;
-use ledger_sheet::desk_at;
-use ledger_sheet::right::is_used;
-use ledger_sheet::right::key_at;
-use ledger_sheet::row_at;
+use ledger_sheet::right;
 ghost use mathlib.Core.Path.{_≡_};
 ghost use Prim.Native.Nat.{_+_, _≤_, _<_, _^_};
 ghost use lib.ListN.{length};
@@ -30,10 +27,10 @@ fn is_row_of(s: &[u8], key: u64, i: usize) -> bool
     requires { ⌜ (length (now s) ≡ sheetSize) × (i < rowCount) ⌝ }
     ensures { λ r. ⌜ r ≡ isRowOf (now (s .entry)) key i ⌝ }
 {
-    if !is_used(s, i) {
+    if !right::is_used(s, i) {
         return false;
     }
-    key_at(s, row_at(i)) == key
+    right::key_at(s, sheet::row_at(i)) == key
 }
 
 // Whether a used row has the key.
@@ -50,7 +47,7 @@ pub fn free_row(s: &[u8]) -> usize
     ensures { λ r. ⌜ r ≡ freeRow (now (s .entry)) ⌝ }
 {
     for i in 0..sheet::ROWS {
-        if !is_used(s, i) {
+        if !right::is_used(s, i) {
             return i;
         }
     }
@@ -62,7 +59,7 @@ pub fn is_closed(s: &[u8], d: usize) -> bool
     requires { ⌜ (length (now s) ≡ sheetSize) × (d < deskCount) ⌝ }
     ensures { λ r. ⌜ r ≡ isClosed (now (s .entry)) d ⌝ }
 {
-    s[desk_at(d)] == sheet::CLOSED
+    s[sheet::desk_at(d)] == sheet::CLOSED
 }
 
 // Whether no desk has the row open.
@@ -82,7 +79,7 @@ pub fn desk_row(s: &[u8], d: usize) -> usize
     requires { ⌜ (length (now s) ≡ sheetSize) × (d < deskCount) ⌝ }
     ensures { λ r. ⌜ r ≡ deskRow (now (s .entry)) d ⌝ }
 {
-    s[desk_at(d) + sheet::DESK_ROW_AT] as usize
+    s[sheet::desk_at(d) + sheet::DESK_ROW_AT] as usize
 }
 
 // Whether position i of the row or the copy at offset a is ticked.

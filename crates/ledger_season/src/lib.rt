@@ -1,14 +1,9 @@
 // The season's gap report (document 02, request 13): up to 16 ledger sheets laid one after another in a lent slice; of each sheet and in all how
 // much is ticked, missing, and missing per million; and the first gap of all.
-use ledger_counts::row_report;
+use ledger_sheet as sheet;
 use ledger_sheet::Answer;
-use ledger_sheet::ROWS;
 use ledger_sheet::ReportAnswer;
-use ledger_sheet::SHEET;
-use ledger_sheet::right::is_sheet;
-use ledger_sheet::right::is_used;
-use ledger_sheet::right::key_at;
-use ledger_sheet::row_at;
+use ledger_sheet::right;
 use refusals::Refusal;
 ghost use mathlib.Core.Path.{_≡_};
 ghost use mathlib.Core.List.{List, _∷_, []};
@@ -27,7 +22,7 @@ ghost use Rattle.ledger_season.specs.inner.Gathered.{mostKeys, distinct,
 pub const MOST_SHEETS: usize = 16;
 
 // As many keys as stand in the sheets of a season.
-const MOST_KEYS: usize = MOST_SHEETS * ROWS;
+const MOST_KEYS: usize = MOST_SHEETS * sheet::ROWS;
 
 // A prime, many times the number of keys, by which keys that differ in a few of their fields seldom share a slot.
 const SLOTS: usize = 7699;
@@ -77,7 +72,7 @@ pub fn season(s: &[u8]) -> SeasonReport
     if let Answer::Refused(why) = verdict {
         return refused(why);
     }
-    count_season(s, s.len() / SHEET)
+    count_season(s, s.len() / sheet::SHEET)
 }
 
 // ---- what a season is refused for
@@ -85,8 +80,8 @@ pub fn season(s: &[u8]) -> SeasonReport
 fn season_verdict(s: &[u8]) -> Answer
     ensures { λ r. ⌜ answerWords r ≡ verdict (seasonRules (now (s .entry))) ∷ [] ⌝ }
 {
-    let sheets = s.len() / SHEET;
-    if (s.len() % SHEET != 0) | (sheets > MOST_SHEETS) {
+    let sheets = s.len() / sheet::SHEET;
+    if (s.len() % sheet::SHEET != 0) | (sheets > MOST_SHEETS) {
         return Answer::Refused(Refusal::SeasonLength);
     }
     if !are_sheets(s, sheets) {
@@ -104,9 +99,9 @@ fn are_sheets(s: &[u8], n: usize) -> bool
     ensures { λ r. ⌜ r ≡ rightTo (now (s .entry)) n ⌝ }
 {
     for k in 0..n {
-        let a = SHEET * k;
-        let e = a + SHEET;
-        if !is_sheet(&s[a..e]) {
+        let a = sheet::SHEET * k;
+        let e = a + sheet::SHEET;
+        if !right::is_sheet(&s[a..e]) {
             return false;
         }
     }
@@ -121,8 +116,8 @@ fn are_keys_new(s: &[u8], n: usize) -> bool
     let mut keys = [0u64; MOST_KEYS];
     let mut found = 0;
     for k in 0..n {
-        let a = SHEET * k;
-        let e = a + SHEET;
+        let a = sheet::SHEET * k;
+        let e = a + sheet::SHEET;
         found = read_keys(&s[a..e], &mut keys, found);
     }
     are_new(&keys, found)
@@ -134,9 +129,9 @@ fn read_keys(s: &[u8], keys: &mut [u64; MOST_KEYS], found: usize) -> usize
     ensures { λ r. ⌜ Keyed (now (keys .entry)) found (bookOf (now (s .entry)) .places) (now (keys .exit)) r ⌝ }
 {
     let mut count = found;
-    for i in 0..ROWS {
-        if is_used(s, i) {
-            keys[count] = key_at(s, row_at(i));
+    for i in 0..sheet::ROWS {
+        if right::is_used(s, i) {
+            keys[count] = right::key_at(s, sheet::row_at(i));
             count += 1;
         }
     }
@@ -209,8 +204,8 @@ fn count_season(s: &[u8], n: usize) -> SeasonReport
     let mut missing: u32 = 0;
     let mut gap = SeasonGap::Nothing;
     for k in 0..n {
-        let a = SHEET * k;
-        let e = a + SHEET;
+        let a = sheet::SHEET * k;
+        let e = a + sheet::SHEET;
         let counted = count_sheet(&s[a..e]);
         sheets[k] = with_rate(counted.ticked, counted.missing);
         ticked += counted.ticked;
@@ -238,7 +233,7 @@ fn count_sheet(s: &[u8]) -> Counted
         missing: 0,
         gap: RowGap::Nothing,
     };
-    for row in 0..ROWS {
+    for row in 0..sheet::ROWS {
         sum = add_row(s, row, sum);
     }
     sum
@@ -249,11 +244,11 @@ fn add_row(s: &[u8], row: usize, sum: Counted) -> Counted
     requires { ⌜ (length (now s) ≡ sheetSize) × (row < rowCount) × (sum .ticked ≤ rowLength * row) × (sum .missing ≤ rowLength * row) ⌝ }
     ensures { λ r. ⌜ Adds (placeIn (now (s .entry)) row) row sum r ⌝ }
 {
-    if !is_used(s, row) {
+    if !right::is_used(s, row) {
         return sum;
     }
     let gap = sum.gap;
-    let report = row_report(s, row);
+    let report = ledger_counts::row_report(s, row);
     match report {
         ReportAnswer::Whole { ticked } => Counted {
             ticked: sum.ticked + ticked,

@@ -1,12 +1,7 @@
 // Whether a slice is a right sheet. Every call judges the whole sheet, so bytes and keys are gathered with no early exit
 // and LLVM vectorizes the loops.
 use crate as sheet;
-use octets::is_long_zero;
-use octets::is_same;
-use octets::is_zero;
-use octets::read_be;
-use sheet::desk_at;
-use sheet::row_at;
+use octets::numbers;
 ghost use mathlib.Core.Path.{_≡_};
 ghost use mathlib.Core.Bool.{not, _&&_};
 ghost use Prim.Native.Nat.{_+_, _≤_, _<_};
@@ -51,11 +46,13 @@ fn is_header(s: &[u8]) -> bool
     requires { ⌜ length (now s) ≡ sheetSize ⌝ }
     ensures { λ r. ⌜ r ≡ headerRight (now (s .entry)) ⌝ }
 {
-    let size = read_be(s, sheet::LENGTH_AT, sheet::NUMBER) == sheet::SHEET as u64;
-    let rows = read_be(s, sheet::ROW_COUNT_AT, sheet::NUMBER) == sheet::ROWS as u64;
-    let rows_start = read_be(s, sheet::ROWS_OFFSET_AT, sheet::NUMBER) == sheet::ROWS_AT as u64;
-    let desks = read_be(s, sheet::DESK_COUNT_AT, sheet::NUMBER) == sheet::DESKS as u64;
-    let desks_start = read_be(s, sheet::DESKS_OFFSET_AT, sheet::NUMBER) == sheet::DESKS_AT as u64;
+    let size = numbers::read_be(s, sheet::LENGTH_AT, sheet::NUMBER) == sheet::SHEET as u64;
+    let rows = numbers::read_be(s, sheet::ROW_COUNT_AT, sheet::NUMBER) == sheet::ROWS as u64;
+    let rows_start = numbers::read_be(s, sheet::ROWS_OFFSET_AT, sheet::NUMBER)
+        == sheet::ROWS_AT as u64;
+    let desks = numbers::read_be(s, sheet::DESK_COUNT_AT, sheet::NUMBER) == sheet::DESKS as u64;
+    let desks_start = numbers::read_be(s, sheet::DESKS_OFFSET_AT, sheet::NUMBER)
+        == sheet::DESKS_AT as u64;
     size & rows & rows_start & desks & desks_start
 }
 
@@ -64,7 +61,7 @@ pub fn rows_used(s: &[u8]) -> usize
     requires { ⌜ length (now s) ≡ sheetSize ⌝ }
     ensures { λ r. ⌜ r ≡ used (now (s .entry)) ⌝ }
 {
-    read_be(s, sheet::USED_AT, sheet::NUMBER) as usize
+    numbers::read_be(s, sheet::USED_AT, sheet::NUMBER) as usize
 }
 
 // Whether the row at place i is used.
@@ -72,7 +69,7 @@ pub fn is_used(s: &[u8], i: usize) -> bool
     requires { ⌜ (length (now s) ≡ sheetSize) × (i < rowCount) ⌝ }
     ensures { λ r. ⌜ r ≡ isUsed (now (s .entry)) i ⌝ }
 {
-    read_be(s, row_at(i), sheet::USED_WORD) == sheet::USED
+    numbers::read_be(s, sheet::row_at(i), sheet::USED_WORD) == sheet::USED
 }
 
 // Whether there is a row with the number i.
@@ -91,7 +88,7 @@ pub fn key_at(s: &[u8], a: usize) -> u64
     requires { ⌜ a + rowSize ≤ length (now s) ⌝ }
     ensures { λ r. ⌜ r ≡ keyAt (now (s .entry)) a ⌝ }
 {
-    read_be(s, a + sheet::KEY_AT, sheet::KEY)
+    numbers::read_be(s, a + sheet::KEY_AT, sheet::KEY)
 }
 
 // The first number of the row or the copy at offset a.
@@ -99,7 +96,7 @@ pub fn first_at(s: &[u8], a: usize) -> u32
     requires { ⌜ a + rowSize ≤ length (now s) ⌝ }
     ensures { λ r. ⌜ r ≡ firstNumberAt (now (s .entry)) a ⌝ }
 {
-    read_be(s, a + sheet::FIRST_AT, sheet::FIRST) as u32
+    numbers::read_be(s, a + sheet::FIRST_AT, sheet::FIRST) as u32
 }
 
 // The rows, up to the last that the header counts: used ones with valid, different keys and first numbers of their streams, and free
@@ -118,7 +115,7 @@ fn are_rows(s: &[u8]) -> Judged
         if found == used {
             break;
         }
-        let row = row_at(i);
+        let row = sheet::row_at(i);
         if is_used(s, i) {
             let key = key_at(s, row);
             right &= is_stream(key, first_at(s, row));
@@ -127,13 +124,13 @@ fn are_rows(s: &[u8]) -> Judged
             marks[(key % MARKS as u64) as usize] = MARKED;
             found += 1;
         } else {
-            right &= is_zero(s, row, sheet::ROW);
+            right &= octets::is_zero(s, row, sheet::ROW);
         }
         i += 1;
     }
     Judged {
         right: right & (found == used),
-        zeros: row_at(i),
+        zeros: sheet::row_at(i),
     }
 }
 
@@ -176,14 +173,14 @@ fn are_desks(s: &[u8], judged: Judged) -> bool
     let mut right = judged.right;
     let mut zeros = judged.zeros;
     for d in 0..sheet::DESKS {
-        let desk = desk_at(d);
+        let desk = sheet::desk_at(d);
         if s[desk] != sheet::CLOSED {
-            right &= is_long_zero(s, zeros, desk - zeros);
+            right &= octets::is_long_zero(s, zeros, desk - zeros);
             right &= is_open_desk(s, d);
             zeros = desk + sheet::DESK;
         }
     }
-    right & is_long_zero(s, zeros, sheet::SHEET - zeros)
+    right & octets::is_long_zero(s, zeros, sheet::SHEET - zeros)
 }
 
 // Whether a desk that is not closed is marked open, has its two zeros, names a used row, and both its copies carry that row's word, key
@@ -193,15 +190,15 @@ fn is_open_desk(s: &[u8], d: usize) -> bool
     requires { ⌜ (d < deskCount) × (deskByte (now s) d ≡ 0 → ⊥) ⌝ }
     ensures { λ r. ⌜ r ≡ deskRight (now (s .entry)) d ⌝ }
 {
-    let a = desk_at(d);
+    let a = sheet::desk_at(d);
     let row = s[a + sheet::DESK_ROW_AT] as usize;
     if !is_row(s, row) {
         return false;
     }
-    let from = row_at(row);
+    let from = sheet::row_at(row);
     let open = s[a] == sheet::OPEN;
-    let zeros = is_zero(s, a + sheet::DESK_ZEROS_AT, sheet::DESK_ZEROS);
-    let opened = is_same(s, from, s, a + sheet::OPENED_AT, CARRIED);
-    let worked = is_same(s, from, s, a + sheet::WORKED_AT, CARRIED);
+    let zeros = octets::is_zero(s, a + sheet::DESK_ZEROS_AT, sheet::DESK_ZEROS);
+    let opened = octets::is_same(s, from, s, a + sheet::OPENED_AT, CARRIED);
+    let worked = octets::is_same(s, from, s, a + sheet::WORKED_AT, CARRIED);
     open & zeros & opened & worked
 }

@@ -1,13 +1,8 @@
 // Whether a call of the ledger is refused, judged in the order of the refusal table. Nothing is changed. Each verdict is handed whether the sheet
 // is right: one that a call has left is, so that calls made one after the other need one check. Every call begins with 20 and the rule of what
 // it names, a key, a desk or a row.
-use ledger_rows::free_row;
-use ledger_rows::has_key;
-use ledger_rows::is_closed;
-use ledger_rows::is_idle;
-use ledger_sheet::DESKS;
-use ledger_sheet::ROWS;
-use ledger_sheet::right::is_row;
+use ledger_sheet as sheet;
+use ledger_sheet::right;
 use refusals::Refusal;
 ghost use mathlib.Core.Path.{_≡_};
 ghost use Rattle.refusals.specs.Judge.{verdict};
@@ -45,10 +40,10 @@ pub fn enrol_verdict(s: &[u8], fine: bool, key: u64, first: u32) -> Verdict
     if !keys::is_number(key, first) {
         return Verdict::Refused(Refusal::FirstNumber);
     }
-    if has_key(s, key) {
+    if ledger_rows::has_key(s, key) {
         return Verdict::Refused(Refusal::AlreadyEnrolled);
     }
-    if free_row(s) == ROWS {
+    if ledger_rows::free_row(s) == sheet::ROWS {
         return Verdict::Refused(Refusal::LedgerFull);
     }
     Verdict::Fine
@@ -62,7 +57,7 @@ pub fn find_verdict(s: &[u8], fine: bool, key: u64) -> Verdict
     if let Verdict::Refused(_) = judged {
         return judged;
     }
-    if !has_key(s, key) {
+    if !ledger_rows::has_key(s, key) {
         return Verdict::Refused(Refusal::NoRow);
     }
     Verdict::Fine
@@ -75,7 +70,7 @@ fn desk_number_verdict(fine: bool, desk: u32) -> Verdict
     if !fine {
         return Verdict::Refused(Refusal::NotSheet);
     }
-    if desk as usize >= DESKS {
+    if desk as usize >= sheet::DESKS {
         return Verdict::Refused(Refusal::NoDesk);
     }
     Verdict::Fine
@@ -89,10 +84,10 @@ pub fn open_verdict(s: &[u8], fine: bool, desk: u32, row: u32) -> Verdict
     if let Verdict::Refused(_) = judged {
         return judged;
     }
-    if !is_row(s, row as usize) {
+    if !right::is_row(s, row as usize) {
         return Verdict::Refused(Refusal::NoRow);
     }
-    if !is_closed(s, desk as usize) {
+    if !ledger_rows::is_closed(s, desk as usize) {
         return Verdict::Refused(Refusal::DeskOpen);
     }
     Verdict::Fine
@@ -107,7 +102,7 @@ pub fn desk_verdict(s: &[u8], fine: bool, desk: u32) -> Verdict
     if let Verdict::Refused(_) = judged {
         return judged;
     }
-    if is_closed(s, desk as usize) {
+    if ledger_rows::is_closed(s, desk as usize) {
         return Verdict::Refused(Refusal::DeskClosed);
     }
     Verdict::Fine
@@ -121,7 +116,7 @@ pub fn row_verdict(s: &[u8], fine: bool, row: u32) -> Verdict
     if !fine {
         return Verdict::Refused(Refusal::NotSheet);
     }
-    if !is_row(s, row as usize) {
+    if !right::is_row(s, row as usize) {
         return Verdict::Refused(Refusal::NoRow);
     }
     Verdict::Fine
@@ -135,7 +130,7 @@ pub fn strike_verdict(s: &[u8], fine: bool, row: u32) -> Verdict
     if let Verdict::Refused(_) = judged {
         return judged;
     }
-    if !is_idle(s, row as usize) {
+    if !ledger_rows::is_idle(s, row as usize) {
         return Verdict::Refused(Refusal::RowOpen);
     }
     Verdict::Fine

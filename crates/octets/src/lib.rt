@@ -1,13 +1,6 @@
 // Numbers and ranges in byte slices: numbers of 1 to 8 bytes read and written, ranges tested, cleared and copied.
-mod numbers;
+pub mod numbers;
 
-pub use numbers::read_be;
-pub use numbers::read_le_u16;
-pub use numbers::read_le_u32;
-pub use numbers::read_le_u64;
-pub use numbers::read_u16;
-pub use numbers::read_u32;
-pub use numbers::read_u64;
 ghost use mathlib.Core.Path.{_≡_};
 ghost use mathlib.Core.Logic.{_⊎_};
 ghost use Prim.Native.Nat.{_+_, _*_, _≤_};

@@ -1,14 +1,11 @@
 // A record of the stream, read into a window.
 ghost use Prim.Native.Nat.{_≤_};
 ghost use lib.ListN.{length};
-use octets::read_be;
+use octets::numbers;
+use sfdu::nesting;
 
 // The window's length: the listing's, so that it stops where the listing does.
 pub const WINDOW: usize = 65536;
-
-const LENGTH_AT: usize = 12;
-
-const LENGTH: usize = 8;
 
 // How many bytes there are, none at the end of the input; or a read failed.
 pub struct Filled {
@@ -23,27 +20,27 @@ struct Piece {
 
 // The next record, from the window's start: its label first, which says how long it is.
 pub fn next_record(fd: i32, w: &mut [u8]) -> Filled {
-    let label = fill(fd, w, 0, sfdu::LABEL);
+    let label = fill(fd, w, 0, nesting::LABEL);
     if label.failed {
         return label;
     }
-    if label.have < sfdu::LABEL {
+    if label.have < nesting::LABEL {
         return label;
     }
     let want = wanted(w);
-    fill(fd, w, sfdu::LABEL, want)
+    fill(fd, w, nesting::LABEL, want)
 }
 
 // The length of the record by its label, or the window's where that is less.
 fn wanted(w: &[u8]) -> usize {
-    if w.len() < sfdu::LABEL {
+    if w.len() < nesting::LABEL {
         return 0;
     }
-    let after = read_be(w, LENGTH_AT, LENGTH);
-    if (WINDOW - sfdu::LABEL) as u64 <= after {
+    let after = numbers::read_be(w, nesting::LENGTH_AT, nesting::LENGTH);
+    if (WINDOW - nesting::LABEL) as u64 <= after {
         return WINDOW;
     }
-    sfdu::LABEL + after as usize
+    nesting::LABEL + after as usize
 }
 
 // Reads on from `have` until there are as many bytes as wanted, or the input ends. Each turn but the last reads a byte at least.

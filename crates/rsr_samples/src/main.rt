@@ -4,16 +4,6 @@ mod input;
 mod output;
 
 use arguments::Asked;
-use arguments::first_option_but;
-use arguments::how_many;
-use arguments::is_at;
-use arguments::open_at;
-use input::WINDOW;
-use input::next_record;
-use libc::STDERR_FILENO;
-use libc::STDIN_FILENO;
-use libc::STDOUT_FILENO;
-use output::write_samples;
 use refusals::Refusal;
 use sfdu::Fault;
 use sfdu_samples::Answer;
@@ -36,7 +26,7 @@ fn take_record(
     w: &mut [u8],
     list: &mut [i32],
 ) -> usize {
-    let filled = next_record(fd, w);
+    let filled = input::next_record(fd, w);
     if filled.failed {
         os::fail(name);
         return 0;
@@ -61,7 +51,7 @@ fn written(list: &[i32], n: usize, raw: bool, size: usize) -> usize {
     if list.len() < n {
         return 0;
     }
-    if write_samples(&list[..n], raw) {
+    if output::write_samples(&list[..n], raw) {
         return size;
     }
     os::fail(b"standard output");
@@ -73,7 +63,7 @@ fn stopped_in(name: &[u8], place: u64, fault: Fault, have: usize) -> usize {
     let why = fault.refusal;
     let number = refusals::number(why);
     let cut = refusals::number(Refusal::Truncated);
-    if (number == cut) & (have == WINDOW) {
+    if (number == cut) & (have == input::WINDOW) {
         return stopped(name, place, refusals::number(Refusal::BufferSize), 0);
     }
     let short = refusals::number(Refusal::TooShort);
@@ -89,19 +79,19 @@ fn stopped_in(name: &[u8], place: u64, fault: Fault, have: usize) -> usize {
 }
 
 fn stopped(name: &[u8], place: u64, number: u32, beside: u64) -> usize {
-    io::write_all(STDERR_FILENO, name);
-    io::write_all(STDERR_FILENO, b": stopped at byte ");
-    io::print_decimal(STDERR_FILENO, place);
+    io::write_all(libc::STDERR_FILENO, name);
+    io::write_all(libc::STDERR_FILENO, b": stopped at byte ");
+    io::print_decimal(libc::STDERR_FILENO, place);
     tell_refusal(number, beside);
     0
 }
 
 fn tell_refusal(number: u32, beside: u64) {
-    io::write_all(STDERR_FILENO, b": ");
-    io::print_decimal(STDERR_FILENO, number as u64);
-    io::write_all(STDERR_FILENO, b" ");
-    io::print_decimal(STDERR_FILENO, beside);
-    io::write_all(STDERR_FILENO, b"\n");
+    io::write_all(libc::STDERR_FILENO, b": ");
+    io::print_decimal(libc::STDERR_FILENO, number as u64);
+    io::write_all(libc::STDERR_FILENO, b" ");
+    io::print_decimal(libc::STDERR_FILENO, beside);
+    io::write_all(libc::STDERR_FILENO, b"\n");
 }
 
 fn write_stream(fd: i32, name: &[u8], raw: bool, w: &mut [u8], list: &mut [i32]) {
@@ -126,7 +116,7 @@ fn stream(fd: i32, name: &[u8], raw: bool) {
 // The samples of the file that argument i names.
 fn file(i: usize, raw: bool) {
     let mut path = io::buffer();
-    let opened = open_at(i, &mut path);
+    let opened = arguments::open_at(i, &mut path);
     let fd = opened.fd;
     if fd < 0 {
         return;
@@ -139,7 +129,7 @@ fn file(i: usize, raw: bool) {
 fn files(count: usize, raw: bool) {
     let mut i = 1;
     while i < count {
-        if !is_at(i, &RAW) {
+        if !arguments::is_at(i, &RAW) {
             file(i, raw);
         }
         i += 1;
@@ -148,11 +138,11 @@ fn files(count: usize, raw: bool) {
 
 // All arguments but --raw name files.
 fn samples(count: usize) {
-    let raws = how_many(count, &RAW);
+    let raws = arguments::how_many(count, &RAW);
     let raw = 0 < raws;
     let named = std::num::wrapping_sub_usize(count, raws);
     if named < 2 {
-        stream(STDIN_FILENO, b"standard input", raw);
+        stream(libc::STDIN_FILENO, b"standard input", raw);
         return;
     }
     files(count, raw);
@@ -172,10 +162,10 @@ fn tell_usage(fd: i32) {
 
 fn main() {
     let count = os::arg_count();
-    let wanted = first_option_but(count, &RAW);
+    let wanted = arguments::first_option_but(count, &RAW);
     match wanted {
         Asked::Files => samples(count),
-        Asked::Help => tell_usage(STDOUT_FILENO),
-        Asked::Unknown => tell_usage(STDERR_FILENO),
+        Asked::Help => tell_usage(libc::STDOUT_FILENO),
+        Asked::Unknown => tell_usage(libc::STDERR_FILENO),
     }
 }

@@ -1,11 +1,6 @@
 // Samples written: a pair a line, or as 32-bit little-endian integers.
 ghost use Prim.Native.Nat.{_+_, _≤_};
 ghost use lib.ListN.{length};
-use libc::STDOUT_FILENO;
-use sfdu_samples::to_bits;
-use text::LINE_END;
-use text::SPACE;
-use text::put_word;
 
 // What is laid out is written once there is more of it than this: then its buffer has room for another number.
 const ENOUGH: usize = 32768;
@@ -30,21 +25,21 @@ fn lay_out(list: &[i32], raw: bool, out: &mut [u8]) -> bool {
     let mut well = true;
     for i in 0..list.len() {
         let z = list[i];
-        at = put_number(out, at, to_bits(z), raw, ending(i));
+        at = put_number(out, at, sfdu_samples::to_bits(z), raw, ending(i));
         if ENOUGH < at {
-            well = well & io::write_all(STDOUT_FILENO, first(out, at));
+            well = well & io::write_all(libc::STDOUT_FILENO, first(out, at));
             at = 0;
         }
     }
-    well & io::write_all(STDOUT_FILENO, first(out, at))
+    well & io::write_all(libc::STDOUT_FILENO, first(out, at))
 }
 
 // A line ends behind every second number.
 fn ending(i: usize) -> u8 {
     if i % 2 == 0 {
-        return SPACE;
+        return text::SPACE;
     }
-    LINE_END
+    text::LINE_END
 }
 
 fn put_number(out: &mut [u8], at: usize, bits: u32, raw: bool, after: u8) -> usize {
@@ -58,7 +53,7 @@ fn put_number(out: &mut [u8], at: usize, bits: u32, raw: bool, after: u8) -> usi
         return put_raw(out, at, bits);
     }
     let end = put_sign(out, at, bits);
-    put_word(out, end, magnitude(bits), after)
+    text::put_word(out, end, magnitude(bits), after)
 }
 
 fn put_sign(out: &mut [u8], at: usize, bits: u32) -> usize

@@ -2,7 +2,6 @@
 use ledger_convert::old;
 use ledger_sheet::Answer;
 use ledger_sheet::right;
-use libc::STDERR_FILENO;
 
 // What a file was: a sheet, as it stands or converted, or none.
 pub struct File {
@@ -47,8 +46,8 @@ fn load_open(fd: i32, name: &[u8], slot: &mut [u8]) -> File {
     let n = got.count;
     let file = place(first(&room, n), slot);
     if !file.is_sheet {
-        io::write_all(STDERR_FILENO, name);
-        io::write_all(STDERR_FILENO, b": not a ledger sheet (20)\n");
+        io::write_all(libc::STDERR_FILENO, name);
+        io::write_all(libc::STDERR_FILENO, b": not a ledger sheet (20)\n");
     }
     file
 }

@@ -4,27 +4,21 @@ mod files;
 mod page;
 
 use arguments::Asked;
-use arguments::first_option;
-use files::first;
-use files::load;
-use ledger_season::MOST_SHEETS;
 use ledger_season::SeasonReport;
+use ledger_sheet as sheet;
 use ledger_sheet::Answer;
-use ledger_sheet::SHEET;
-use libc::STDERR_FILENO;
-use libc::STDOUT_FILENO;
 use refusals::Refusal;
 ghost use Prim.Native.Nat.{_*_, _≤_};
 ghost use lib.ListN.{length};
 ghost use Rattle.ledger_sheet.specs.Sheet.{sheetSize};
 ghost use Rattle.ledger_season.specs.Report.{mostSheets};
 
-const MOST_BYTES: usize = MOST_SHEETS * SHEET;
+const MOST_BYTES: usize = ledger_season::MOST_SHEETS * sheet::SHEET;
 
 // The sheets that are loaded: how many, which of them were converted, and whether all files were sheets.
 struct Loaded {
     count: usize,
-    converted: [bool; MOST_SHEETS],
+    converted: [bool; ledger_season::MOST_SHEETS],
     ok: bool,
 }
 
@@ -45,8 +39,8 @@ fn load_all(sheets: &mut [u8], files: usize) -> Loaded
     requires { ⌜ mostSheets * sheetSize ≤ length (now sheets) ⌝ }
     ensures { λ r. ⌜ r .count ≤ mostSheets ⌝ }
 {
-    let mut converted = [false; MOST_SHEETS];
-    for i in 0..MOST_SHEETS {
+    let mut converted = [false; ledger_season::MOST_SHEETS];
+    for i in 0..ledger_season::MOST_SHEETS {
         if files <= i {
             return Loaded {
                 count: i,
@@ -54,9 +48,9 @@ fn load_all(sheets: &mut [u8], files: usize) -> Loaded
                 ok: true,
             };
         }
-        let a = SHEET * i;
-        let e = a + SHEET;
-        let file = load(i + 1, &mut sheets[a..e]);
+        let a = sheet::SHEET * i;
+        let e = a + sheet::SHEET;
+        let file = files::load(i + 1, &mut sheets[a..e]);
         if !file.is_sheet {
             return Loaded {
                 count: i,
@@ -67,7 +61,7 @@ fn load_all(sheets: &mut [u8], files: usize) -> Loaded
         converted[i] = file.converted;
     }
     Loaded {
-        count: MOST_SHEETS,
+        count: ledger_season::MOST_SHEETS,
         converted,
         ok: true,
     }
@@ -78,17 +72,17 @@ fn tell_refusal(why: Refusal) {
     match why {
         Refusal::KeyInTwoSheets => {
             io::write_all(
-                STDERR_FILENO,
+                libc::STDERR_FILENO,
                 b"a stream stands in two of the sheets (41)\n",
             );
         }
         _ => {
-            io::write_all(STDERR_FILENO, b"no season\n");
+            io::write_all(libc::STDERR_FILENO, b"no season\n");
         }
     }
 }
 
-fn tell(sheets: &[u8], converted: [bool; MOST_SHEETS], report: SeasonReport) {
+fn tell(sheets: &[u8], converted: [bool; ledger_season::MOST_SHEETS], report: SeasonReport) {
     let answer = report.answer;
     match answer {
         Answer::Done => page::write(sheets, converted, report),
@@ -103,9 +97,9 @@ fn report(files: usize) {
     if !loaded.ok {
         return;
     }
-    let n = SHEET * loaded.count;
+    let n = sheet::SHEET * loaded.count;
     let converted = loaded.converted;
-    let report = ledger_season::season(first(sheets, n));
+    let report = ledger_season::season(files::first(sheets, n));
     tell(sheets, converted, report);
 }
 
@@ -114,13 +108,13 @@ fn main() {
     if count < 1 {
         return;
     }
-    let wanted = first_option(count);
+    let wanted = arguments::first_option(count);
     match wanted {
-        Asked::Help => tell_usage(STDOUT_FILENO),
-        Asked::Unknown => tell_usage(STDERR_FILENO),
+        Asked::Help => tell_usage(libc::STDOUT_FILENO),
+        Asked::Unknown => tell_usage(libc::STDERR_FILENO),
         Asked::Files => {
-            if MOST_SHEETS < count - 1 {
-                io::write_all(STDERR_FILENO, b"more than 16 sheets (42)\n");
+            if ledger_season::MOST_SHEETS < count - 1 {
+                io::write_all(libc::STDERR_FILENO, b"more than 16 sheets (42)\n");
                 return;
             }
             report(count - 1);

@@ -1,16 +1,11 @@
 // The table. Each function lays its text out from index `at` on and answers where it ends. The page has room for the longest table; text
 // that finds none is left out.
-use crate::files::first;
-use ledger_season::MOST_SHEETS;
+use crate::files;
 use ledger_season::SeasonGap;
 use ledger_season::SeasonReport;
 use ledger_season::SheetCounts;
-use ledger_sheet::NUMBER;
-use ledger_sheet::ROWS;
-use ledger_sheet::SHEET;
-use ledger_sheet::USED_AT;
-use libc::STDOUT_FILENO;
-use octets::read_u32;
+use ledger_sheet as sheet;
+use octets::numbers;
 ghost use Prim.Native.Nat.{_≤_, _<_};
 ghost use Rattle.ledger_sheet.specs.Sheet.{rowCount};
 ghost use Rattle.ledger_season.specs.Report.{mostSheets};
@@ -18,7 +13,7 @@ ghost use Rattle.ledger_season.specs.Report.{mostSheets};
 // A name has 4,096 bytes at most, and 17 are laid out.
 const PAGE: usize = 131072;
 
-const MOST_ROWS: u32 = ROWS as u32;
+const MOST_ROWS: u32 = sheet::ROWS as u32;
 
 // Where a table ends, and how many rows its sheets have.
 struct Laid {
@@ -26,10 +21,10 @@ struct Laid {
     rows: u32,
 }
 
-pub fn write(sheets: &[u8], converted: [bool; MOST_SHEETS], report: SeasonReport) {
+pub fn write(sheets: &[u8], converted: [bool; ledger_season::MOST_SHEETS], report: SeasonReport) {
     let mut page = [0u8; PAGE];
     let n = table(&mut page, sheets, converted, report);
-    if !io::write_all(STDOUT_FILENO, first(&page, n)) {
+    if !io::write_all(libc::STDOUT_FILENO, files::first(&page, n)) {
         os::fail(b"standard output");
     }
 }
@@ -37,7 +32,7 @@ pub fn write(sheets: &[u8], converted: [bool; MOST_SHEETS], report: SeasonReport
 fn table(
     out: &mut [u8],
     sheets: &[u8],
-    converted: [bool; MOST_SHEETS],
+    converted: [bool; ledger_season::MOST_SHEETS],
     report: SeasonReport,
 ) -> usize {
     let start = put(out, 0, b"sheet rows ticked missing per-million\n");
@@ -55,12 +50,12 @@ fn lines(
     out: &mut [u8],
     at: usize,
     sheets: &[u8],
-    converted: [bool; MOST_SHEETS],
+    converted: [bool; ledger_season::MOST_SHEETS],
     report: SeasonReport,
 ) -> Laid {
     let mut end = at;
     let mut rows: u32 = 0;
-    for i in 0..MOST_SHEETS {
+    for i in 0..ledger_season::MOST_SHEETS {
         if report.count <= i as u32 {
             return Laid { end, rows };
         }
@@ -117,11 +112,11 @@ fn rows_used(sheets: &[u8], i: usize) -> u32
     requires { ⌜ i < mostSheets ⌝ }
     ensures { λ r. ⌜ r ≤ rowCount ⌝ }
 {
-    let at = SHEET * i + USED_AT;
-    if sheets.len() < at + NUMBER {
+    let at = sheet::SHEET * i + sheet::USED_AT;
+    if sheets.len() < at + sheet::NUMBER {
         return 0;
     }
-    let used = read_u32(sheets, at);
+    let used = numbers::read_u32(sheets, at);
     if MOST_ROWS < used {
         return MOST_ROWS;
     }

@@ -1,36 +1,8 @@
 // One record: its label, its nested blocks and its parts, for telemetry and for the radio science receiver (RSR).
-mod nesting;
+pub mod nesting;
 mod reader;
 mod whole;
 
-pub use nesting::AGGREGATION_AT;
-pub use nesting::AGGREGATION_TYPE;
-pub use nesting::AUTHORITY;
-pub use nesting::AUTHORITY_AT;
-pub use nesting::DATA_TYPE;
-pub use nesting::KIND_AT;
-pub use nesting::LABEL;
-pub use nesting::LENGTH;
-pub use nesting::LENGTH_AT;
-pub use nesting::MOST_DATA;
-pub use nesting::PRIMARY_AT;
-pub use nesting::PRIMARY_LENGTH;
-pub use nesting::PRIMARY_TYPE;
-pub use nesting::PRIMARY_VALUE_AT;
-pub use nesting::RSR_NUMBER;
-pub use nesting::SECONDARY_AT;
-pub use nesting::SECONDARY_VALUE_AT;
-pub use nesting::TELEMETRY_NUMBER;
-pub use nesting::VERSION_CLASS;
-pub use nesting::VERSION_CLASS_AT;
-pub use nesting::WORD;
-pub use nesting::aggregation_length;
-pub use nesting::data_at;
-pub use nesting::data_value_at;
-pub use nesting::kind_number;
-pub use nesting::kind_tag;
-pub use nesting::secondary_length;
-pub use nesting::secondary_type;
 pub use reader::data_part;
 pub use reader::read_one;
 pub use reader::secondary_part;

@@ -59,11 +59,8 @@ use crate::Kind;
 use crate::Primary;
 use crate::Read;
 use crate::nesting;
-use crate::whole::is_label;
-use octets::is_same;
-use octets::read_u16;
-use octets::read_u32;
-use octets::read_u64;
+use crate::whole;
+use octets::numbers;
 use refusals::Refusal;
 
 // The first record of a slice; what stands after it does not matter. Each kind has a call of its own: LLVM makes a chain of tests for
@@ -80,7 +77,7 @@ pub fn read_one(s: &[u8]) -> Read
     if !has_version_class(s) {
         return refused(Refusal::VersionClass, nesting::VERSION_CLASS_AT);
     }
-    let tag = read_u32(s, nesting::KIND_AT);
+    let tag = numbers::read_u32(s, nesting::KIND_AT);
     if tag == nesting::TELEMETRY_TAG {
         return read_length(s, Kind::Telemetry);
     }
@@ -100,7 +97,7 @@ pub fn has_authority(s: &[u8]) -> bool
     requires { ⌜ labelSize ≤ length (now s) ⌝ }
     ensures { λ r. ⌜ r ≡ sameAt (now (s .entry)) authorityAt authority 0 tagSize ⌝ }
 {
-    is_same(
+    octets::is_same(
         s,
         nesting::AUTHORITY_AT,
         &nesting::AUTHORITY,
@@ -113,7 +110,7 @@ pub fn has_version_class(s: &[u8]) -> bool
     requires { ⌜ labelSize ≤ length (now s) ⌝ }
     ensures { λ r. ⌜ r ≡ sameAt (now (s .entry)) versionClassAt versionClass 0 tagSize ⌝ }
 {
-    is_same(
+    octets::is_same(
         s,
         nesting::VERSION_CLASS_AT,
         &nesting::VERSION_CLASS,
@@ -144,7 +141,7 @@ pub fn label_length(s: &[u8]) -> u64
     requires { ⌜ labelSize ≤ length (now s) ⌝ }
     ensures { λ r. ⌜ r ≡ labelLength (now (s .entry)) ⌝ }
 {
-    read_u64(s, nesting::LENGTH_AT)
+    numbers::read_u64(s, nesting::LENGTH_AT)
 }
 
 pub fn length_in_range(after: u64, kind: Kind) -> bool
@@ -216,10 +213,10 @@ fn judge_label(s: &[u8], at: usize, class: u64, size: u64) -> Checked
     requires { ⌜ (at + blockLabelSize ≤ length (now s)) × (class ≤ mostData) × (size ≤ mostData) ⌝ }
     ensures { λ r. ⌜ r ≡ checked (typeAndLength (now (s .entry)) at class size) ⌝ }
 {
-    if is_label(s, at, class, size) {
+    if whole::is_label(s, at, class, size) {
         return Checked::Right;
     }
-    if read_u16(s, at) as u64 != class {
+    if numbers::read_u16(s, at) as u64 != class {
         return Checked::Wrong(at);
     }
     Checked::Wrong(at + nesting::WORD)
@@ -230,7 +227,7 @@ fn block_length(s: &[u8], at: usize) -> u64
     ensures { λ r. ⌜ r ≡ blockLength (now (s .entry)) at ⌝ }
     ensures { λ r. ⌜ r < 65536 ⌝ }
 {
-    read_u16(s, at + nesting::WORD) as u64
+    numbers::read_u16(s, at + nesting::WORD) as u64
 }
 
 // The refusals from the data block's label on, and the record where there is none.
@@ -269,7 +266,7 @@ fn has_data_type(s: &[u8], kind: Kind) -> bool
     requires { ⌜ dataValueAt kind ≤ length (now s) ⌝ }
     ensures { λ r. ⌜ r ≡ eqb (blockType (now (s .entry)) (dataAt kind)) dataType ⌝ }
 {
-    read_u16(s, nesting::data_at(kind)) as u64 == nesting::DATA_TYPE
+    numbers::read_u16(s, nesting::data_at(kind)) as u64 == nesting::DATA_TYPE
 }
 
 fn has_data_length(s: &[u8], kind: Kind, size: usize) -> bool

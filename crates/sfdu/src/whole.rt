@@ -24,11 +24,8 @@ ghost use Rattle.sfdu.specs.Read.{recordLength, lengthRules, headerRules
 ghost use Rattle.sfdu.specs.inner.Checked.{isLabel, wholeSize};
 use crate::Kind;
 use crate::nesting;
-use crate::reader::has_authority;
-use crate::reader::has_version_class;
-use crate::reader::label_length;
-use crate::reader::length_in_range;
-use octets::read_u32;
+use crate::reader;
+use octets::numbers;
 
 const WORD_VALUES: u64 = 65536;
 
@@ -39,13 +36,13 @@ pub fn whole_size(s: &[u8]) -> usize
     if s.len() < nesting::LABEL {
         return 0;
     }
-    if !has_authority(s) {
+    if !reader::has_authority(s) {
         return 0;
     }
-    if !has_version_class(s) {
+    if !reader::has_version_class(s) {
         return 0;
     }
-    let tag = read_u32(s, nesting::KIND_AT);
+    let tag = numbers::read_u32(s, nesting::KIND_AT);
     if tag == nesting::TELEMETRY_TAG {
         return size_as(s, Kind::Telemetry);
     }
@@ -60,8 +57,8 @@ fn size_as(s: &[u8], kind: Kind) -> usize
     ensures { λ r. ⌜ r ≡ cond (noneApplies (lengthRules kind (now (s .entry))
         ++ headerRules kind (now (s .entry)) ++ dataRules kind (now (s .entry)))) (recordLength (now (s .entry))) 0 ⌝ }
 {
-    let after = label_length(s);
-    if !length_in_range(after, kind) {
+    let after = reader::label_length(s);
+    if !reader::length_in_range(after, kind) {
         return 0;
     }
     let size = nesting::LABEL + after as usize;
@@ -128,5 +125,5 @@ pub fn is_label(s: &[u8], at: usize, class: u64, size: u64) -> bool
     requires { ⌜ (at + blockLabelSize ≤ length (now s)) × (class ≤ mostData) × (size ≤ mostData) ⌝ }
     ensures { λ r. ⌜ r ≡ isLabel (now (s .entry)) at class size ⌝ }
 {
-    read_u32(s, at) as u64 == class * WORD_VALUES + size
+    numbers::read_u32(s, at) as u64 == class * WORD_VALUES + size
 }

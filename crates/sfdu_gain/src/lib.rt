@@ -9,16 +9,12 @@ ghost use Rattle.sfdu.specs.Nesting.{dataValueAt};
 ghost use Rattle.sfdu_headers.specs.Words.{number};
 ghost use Rattle.sfdu_gain.specs.Gain.{wordsOf, gainOf, gaining, agreedGain};
 ghost use Rattle.sfdu_gain.specs.inner.Told.{toldGain};
-use octets::read_u32;
+use octets::numbers;
 use refusals::Refusal;
 use settings::Asked;
-use settings::NEW;
-use settings::ask;
-use settings::is_known;
 use sfdu::Fault;
-use sfdu::SECONDARY_AT;
+use sfdu::nesting;
 use sfdu_rsr::Rsr;
-use sfdu_rsr::read_rsr;
 
 // The multiplier's four bytes as one number; none in the old edition; or a refusal, read headers' 1 to 12 with the number that goes
 // with them.
@@ -30,19 +26,19 @@ pub enum GainAnswer {
 }
 
 // Where it stands, from the record's start.
-const GAIN_AT: usize = SECONDARY_AT + 208;
+const GAIN_AT: usize = nesting::SECONDARY_AT + 208;
 
 pub fn gain(s: &[u8], edition: u32) -> GainAnswer
     ensures { λ r. ⌜ wordsOf r ≡ gaining edition (now (s .entry)) ⌝ }
 {
-    let found = read_rsr(s);
+    let found = sfdu_rsr::read_rsr(s);
     match found {
         Rsr::Record {
             size: _,
             mission: _,
             day_count: _,
         } => {
-            if !is_known(edition) {
+            if !settings::is_known(edition) {
                 return GainAnswer::Refused(Refusal::UnknownEdition);
             }
             gain_in(s, edition)
@@ -56,13 +52,13 @@ pub fn gain(s: &[u8], edition: u32) -> GainAnswer
 pub fn agreed_gain(sheet: &[u8], s: &[u8]) -> GainAnswer
     ensures { λ r. ⌜ wordsOf r ≡ agreedGain (now (sheet .entry)) (now (s .entry)) ⌝ }
 {
-    let found = read_rsr(s);
+    let found = sfdu_rsr::read_rsr(s);
     match found {
         Rsr::Record {
             size: _,
             mission,
             day_count,
-        } => told_gain(s, ask(sheet, mission, day_count)),
+        } => told_gain(s, settings::ask(sheet, mission, day_count)),
         Rsr::Refused(f) => GainAnswer::Header(f),
         Rsr::WrongKind => GainAnswer::Refused(Refusal::WrongKind),
     }
@@ -87,8 +83,8 @@ fn gain_in(s: &[u8], edition: u32) -> GainAnswer
     requires { ⌜ dataValueAt RsrKind ≤ length (now s) ⌝ }
     ensures { λ r. ⌜ wordsOf r ≡ number 0 ∷ gainOf edition (now (s .entry)) ∷ [] ⌝ }
 {
-    if edition == NEW {
-        return GainAnswer::Multiplier(read_u32(s, GAIN_AT));
+    if edition == settings::NEW {
+        return GainAnswer::Multiplier(numbers::read_u32(s, GAIN_AT));
     }
     GainAnswer::Nothing
 }

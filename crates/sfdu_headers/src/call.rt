@@ -7,6 +7,7 @@ use crate::rsr;
 use crate::telemetry;
 use sfdu::Kind;
 use sfdu::Read;
+use sfdu::nesting;
 
 // The headers of the first record of a slice, where it is of the wanted kind. Each kind returns its own answer: where the two
 // meet first, LLVM copies every field.
@@ -20,7 +21,7 @@ pub fn read_headers(s: &[u8], wanted: u32) -> Headers
             size,
             primary,
         } => {
-            if wanted != sfdu::kind_number(kind) {
+            if wanted != nesting::kind_number(kind) {
                 return Headers::WrongKind;
             }
             match kind {
@@ -36,7 +37,7 @@ pub fn read_headers(s: &[u8], wanted: u32) -> Headers
 pub fn record_number(s: &[u8], kind: Kind) -> u32
     ensures { λ r. ⌜ r ≡ numberIn kind (now (s .entry)) ⌝ }
 {
-    if s.len() < sfdu::data_value_at(kind) {
+    if s.len() < nesting::data_value_at(kind) {
         return 0;
     }
     match kind {

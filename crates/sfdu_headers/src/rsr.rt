@@ -26,112 +26,104 @@ ghost use Rattle.sfdu_headers.specs.Headers.{
 };
 ghost use Rattle.sfdu_headers.specs.Ranges.{inRange, isRsrBand, byteRules};
 ghost use Rattle.sfdu_headers.specs.Words.{number};
-use crate::Allowed;
-use crate::Dated;
-use crate::Headers;
-use crate::Judged;
-use crate::RsrSignal;
-use crate::RsrSource;
-use crate::RsrTime;
+use crate as headers;
 use dates::CountAnswer;
-use octets::read_u16;
-use octets::read_u64;
+use octets::numbers;
 use refusals::Refusal;
 use sfdu::Checked;
 use sfdu::Fault;
-use sfdu::PRIMARY_VALUE_AT;
 use sfdu::Primary;
-use sfdu::SECONDARY_AT;
+use sfdu::nesting;
 
 // Where the fields stand, from the record's start.
-const SOFTWARE_AT: usize = SECONDARY_AT + 6;
+const SOFTWARE_AT: usize = nesting::SECONDARY_AT + 6;
 
-const NUMBER_AT: usize = SECONDARY_AT + 8;
+const NUMBER_AT: usize = nesting::SECONDARY_AT + 8;
 
-const COMPLEX_AT: usize = SECONDARY_AT + 10;
+const COMPLEX_AT: usize = nesting::SECONDARY_AT + 10;
 
-const STATION_AT: usize = SECONDARY_AT + 11;
+const STATION_AT: usize = nesting::SECONDARY_AT + 11;
 
-const RECEIVER_AT: usize = SECONDARY_AT + 12;
+const RECEIVER_AT: usize = nesting::SECONDARY_AT + 12;
 
-const SUBCHANNEL_AT: usize = SECONDARY_AT + 13;
+const SUBCHANNEL_AT: usize = nesting::SECONDARY_AT + 13;
 
-const SPACECRAFT_AT: usize = SECONDARY_AT + 15;
+const SPACECRAFT_AT: usize = nesting::SECONDARY_AT + 15;
 
-const PASS_AT: usize = SECONDARY_AT + 16;
+const PASS_AT: usize = nesting::SECONDARY_AT + 16;
 
-const UPLINK_AT: usize = SECONDARY_AT + 18;
+const UPLINK_AT: usize = nesting::SECONDARY_AT + 18;
 
-const DOWNLINK_AT: usize = SECONDARY_AT + 19;
+const DOWNLINK_AT: usize = nesting::SECONDARY_AT + 19;
 
-const MODE_AT: usize = SECONDARY_AT + 20;
+const MODE_AT: usize = nesting::SECONDARY_AT + 20;
 
-const UPLINK_STATION_AT: usize = SECONDARY_AT + 21;
+const UPLINK_STATION_AT: usize = nesting::SECONDARY_AT + 21;
 
-const EXPECTED_AT: usize = SECONDARY_AT + 22;
+const EXPECTED_AT: usize = nesting::SECONDARY_AT + 22;
 
-const BANDWIDTH_AT: usize = SECONDARY_AT + 23;
+const BANDWIDTH_AT: usize = nesting::SECONDARY_AT + 23;
 
-const OVERRIDDEN_AT: usize = SECONDARY_AT + 24;
+const OVERRIDDEN_AT: usize = nesting::SECONDARY_AT + 24;
 
-const ATTENUATION_AT: usize = SECONDARY_AT + 25;
+const ATTENUATION_AT: usize = nesting::SECONDARY_AT + 25;
 
-const RMS_AT: usize = SECONDARY_AT + 26;
+const RMS_AT: usize = nesting::SECONDARY_AT + 26;
 
-const PEAK_AT: usize = SECONDARY_AT + 27;
+const PEAK_AT: usize = nesting::SECONDARY_AT + 27;
 
-const YEAR_AT: usize = SECONDARY_AT + 28;
+const YEAR_AT: usize = nesting::SECONDARY_AT + 28;
 
-const DAY_AT: usize = SECONDARY_AT + 30;
+const DAY_AT: usize = nesting::SECONDARY_AT + 30;
 
-const FREQUENCY_AT: usize = SECONDARY_AT + 64;
+const FREQUENCY_AT: usize = nesting::SECONDARY_AT + 64;
 
 // The judged bytes, from the lowest.
-const JUDGED: [Judged; 10] = [
-    Judged {
-        at: PRIMARY_VALUE_AT,
-        allowed: Allowed::Between(21, 21),
+const JUDGED: [headers::Judged; 10] = [
+    headers::Judged {
+        at: nesting::PRIMARY_VALUE_AT,
+        allowed: headers::Allowed::Between(21, 21),
     },
-    Judged {
-        at: PRIMARY_VALUE_AT + 1,
-        allowed: Allowed::Between(4, 4),
+    headers::Judged {
+        at: nesting::PRIMARY_VALUE_AT + 1,
+        allowed: headers::Allowed::Between(4, 4),
     },
-    Judged {
-        at: PRIMARY_VALUE_AT + 3,
-        allowed: Allowed::Between(0, 0),
+    headers::Judged {
+        at: nesting::PRIMARY_VALUE_AT + 3,
+        allowed: headers::Allowed::Between(0, 0),
     },
-    Judged {
+    headers::Judged {
         at: UPLINK_AT,
-        allowed: Allowed::Bands,
+        allowed: headers::Allowed::Bands,
     },
-    Judged {
+    headers::Judged {
         at: DOWNLINK_AT,
-        allowed: Allowed::Bands,
+        allowed: headers::Allowed::Bands,
     },
-    Judged {
+    headers::Judged {
         at: MODE_AT,
-        allowed: Allowed::Between(1, 3),
+        allowed: headers::Allowed::Between(1, 3),
     },
-    Judged {
+    headers::Judged {
         at: BANDWIDTH_AT,
-        allowed: Allowed::Between(1, 127),
+        allowed: headers::Allowed::Between(1, 127),
     },
-    Judged {
+    headers::Judged {
         at: ATTENUATION_AT,
-        allowed: Allowed::Between(0, 63),
+        allowed: headers::Allowed::Between(0, 63),
     },
-    Judged {
+    headers::Judged {
         at: RMS_AT,
-        allowed: Allowed::Between(0, 128),
+        allowed: headers::Allowed::Between(0, 128),
     },
-    Judged {
+    headers::Judged {
         at: PEAK_AT,
-        allowed: Allowed::Between(0, 128),
+        allowed: headers::Allowed::Between(0, 128),
     },
 ];
 
 // The fields, the key and the day count of a whole RSR record, or the offset of the lowest field out of range.
-pub fn fields(s: &[u8], size: usize, primary: Primary) -> Headers
+pub fn fields(s: &[u8], size: usize, primary: Primary) -> headers::Headers
     requires { ⌜ (size ≡ recordLength (now s)) × (primaryWords primary ≡ primaryOf (now s)) × (dataValueAt Rsr ≤ length (now s)) ⌝ }
     ensures { λ r. ⌜ wordsOf r ≡ judgedFields Rsr (now (s .entry)) ⌝ }
 {
@@ -147,16 +139,16 @@ pub fn fields(s: &[u8], size: usize, primary: Primary) -> Headers
     read_fields(s, size, primary, dated.count)
 }
 
-fn out_of_range(at: usize) -> Headers
+fn out_of_range(at: usize) -> headers::Headers
     ensures { λ r. ⌜ wordsOf r ≡ outOfRange at ⌝ }
 {
-    Headers::Refused(Fault {
+    headers::Headers::Refused(Fault {
         refusal: Refusal::FieldRange,
         at,
     })
 }
 
-fn read_fields(s: &[u8], size: usize, primary: Primary, count: u32) -> Headers
+fn read_fields(s: &[u8], size: usize, primary: Primary, count: u32) -> headers::Headers
     requires { ⌜ (size ≡ recordLength (now s)) × (primaryWords primary ≡ primaryOf (now s)) × (dataValueAt Rsr ≤ length (now s))
         × (number count ∷ [] ≡ addedOf Rsr (now s)) ⌝ }
     ensures { λ r. ⌜ wordsOf r ≡ acceptedFields Rsr (now (s .entry)) ⌝ }
@@ -170,7 +162,7 @@ fn read_fields(s: &[u8], size: usize, primary: Primary, count: u32) -> Headers
         source.receiver,
         source.subchannel,
     );
-    Headers::Rsr {
+    headers::Headers::Rsr {
         size,
         primary,
         source,
@@ -199,12 +191,12 @@ fn byte_fault(s: &[u8]) -> Checked
     Checked::Right
 }
 
-fn in_range(allowed: Allowed, b: u8) -> bool
+fn in_range(allowed: headers::Allowed, b: u8) -> bool
     ensures { λ r. ⌜ r ≡ inRange allowed b ⌝ }
 {
     match allowed {
-        Allowed::Between(low, high) => (low <= b) & (b <= high),
-        Allowed::Bands => is_band(b),
+        headers::Allowed::Between(low, high) => (low <= b) & (b <= high),
+        headers::Allowed::Bands => is_band(b),
     }
 }
 
@@ -215,19 +207,19 @@ pub fn is_band(b: u8) -> bool
 }
 
 // The year and the day: which of them is out of range, or their day count.
-fn read_date(s: &[u8]) -> Dated
+fn read_date(s: &[u8]) -> headers::Dated
     requires { ⌜ dataValueAt Rsr ≤ length (now s) ⌝ }
     ensures { λ r. ⌜ IsDated (now (s .entry)) r ⌝ }
 {
-    let year = read_u16(s, YEAR_AT);
-    let day = read_u16(s, DAY_AT);
+    let year = numbers::read_u16(s, YEAR_AT);
+    let day = numbers::read_u16(s, DAY_AT);
     let answer = dates::day_count(year, day);
     match answer {
-        CountAnswer::Day(count) => Dated {
+        CountAnswer::Day(count) => headers::Dated {
             checked: Checked::Right,
             count,
         },
-        CountAnswer::NotADate => Dated {
+        CountAnswer::NotADate => headers::Dated {
             checked: Checked::Wrong(wrong_date_at(year)),
             count: 0,
         },
@@ -244,19 +236,19 @@ fn wrong_date_at(year: u16) -> usize
     YEAR_AT
 }
 
-fn read_source(s: &[u8]) -> RsrSource
+fn read_source(s: &[u8]) -> headers::RsrSource
     requires { ⌜ dataValueAt Rsr ≤ length (now s) ⌝ }
     ensures { λ r. ⌜ sourceWords r ≡ sourceOf (now (s .entry)) ⌝ }
 {
-    RsrSource {
-        software: read_u16(s, SOFTWARE_AT),
+    headers::RsrSource {
+        software: numbers::read_u16(s, SOFTWARE_AT),
         number: number(s),
         complex: s[COMPLEX_AT],
         station: s[STATION_AT],
         receiver: s[RECEIVER_AT],
         subchannel: s[SUBCHANNEL_AT],
         spacecraft: s[SPACECRAFT_AT],
-        pass: read_u16(s, PASS_AT),
+        pass: numbers::read_u16(s, PASS_AT),
     }
 }
 
@@ -264,15 +256,15 @@ pub fn number(s: &[u8]) -> u16
     requires { ⌜ dataValueAt Rsr ≤ length (now s) ⌝ }
     ensures { λ r. ⌜ r ≡ recordNumber Rsr (now (s .entry)) ⌝ }
 {
-    read_u16(s, NUMBER_AT)
+    numbers::read_u16(s, NUMBER_AT)
 }
 
-fn read_signal(s: &[u8]) -> RsrSignal
+fn read_signal(s: &[u8]) -> headers::RsrSignal
     requires { ⌜ dataValueAt Rsr ≤ length (now s) ⌝ }
     ensures { λ r. ⌜ signalWords r ≡ signalOf (now (s .entry)) ⌝ }
 {
     let expected = signed(s[EXPECTED_AT]);
-    RsrSignal {
+    headers::RsrSignal {
         uplink: s[UPLINK_AT],
         downlink: s[DOWNLINK_AT],
         mode: s[MODE_AT],
@@ -296,13 +288,13 @@ fn signed(b: u8) -> i8
     (b as i16 - 256) as i8
 }
 
-fn read_time(s: &[u8]) -> RsrTime
+fn read_time(s: &[u8]) -> headers::RsrTime
     requires { ⌜ dataValueAt Rsr ≤ length (now s) ⌝ }
     ensures { λ r. ⌜ timeWords r ≡ timeOf (now (s .entry)) ⌝ }
 {
-    RsrTime {
-        year: read_u16(s, YEAR_AT),
-        day: read_u16(s, DAY_AT),
-        frequency: read_u64(s, FREQUENCY_AT),
+    headers::RsrTime {
+        year: numbers::read_u16(s, YEAR_AT),
+        day: numbers::read_u16(s, DAY_AT),
+        frequency: numbers::read_u64(s, FREQUENCY_AT),
     }
 }

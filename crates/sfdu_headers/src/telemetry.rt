@@ -17,36 +17,34 @@ use crate::Band;
 use crate::Headers;
 use crate::ReceivedTime;
 use crate::TelemetryFields;
-use octets::read_u16;
-use octets::read_u32;
-use octets::read_u64;
+use octets::numbers;
 use refusals::Refusal;
 use sfdu::Checked;
 use sfdu::Fault;
 use sfdu::Primary;
-use sfdu::SECONDARY_AT;
+use sfdu::nesting;
 
 // Where the fields stand, from the record's start.
-const SPACECRAFT_AT: usize = SECONDARY_AT + 6;
+const SPACECRAFT_AT: usize = nesting::SECONDARY_AT + 6;
 
-const SOURCE_AT: usize = SECONDARY_AT + 10;
+const SOURCE_AT: usize = nesting::SECONDARY_AT + 10;
 
-const RECEIVED_AT: usize = SECONDARY_AT + 14;
+const RECEIVED_AT: usize = nesting::SECONDARY_AT + 14;
 
 // How many values the lower two parts of the received time have.
 const EXTENDED_VALUES: u64 = 65536;
 
 const MILLISECOND_VALUES: u64 = 4294967296;
 
-const NUMBER_AT: usize = SECONDARY_AT + 22;
+const NUMBER_AT: usize = nesting::SECONDARY_AT + 22;
 
-const UPLINK_AT: usize = SECONDARY_AT + 26;
+const UPLINK_AT: usize = nesting::SECONDARY_AT + 26;
 
-const MODE_AT: usize = SECONDARY_AT + 28;
+const MODE_AT: usize = nesting::SECONDARY_AT + 28;
 
-const STREAM_AT: usize = SECONDARY_AT + 30;
+const STREAM_AT: usize = nesting::SECONDARY_AT + 30;
 
-const EQUIPMENT_AT: usize = SECONDARY_AT + 74;
+const EQUIPMENT_AT: usize = nesting::SECONDARY_AT + 74;
 
 // The fields and the key of a whole telemetry record, or the offset of the band where that is out of range.
 pub fn fields(s: &[u8], size: usize, primary: Primary) -> Headers
@@ -112,12 +110,12 @@ fn read_fields(s: &[u8]) -> TelemetryFields
     TelemetryFields {
         spacecraft: spacecraft(s),
         source: s[SOURCE_AT],
-        received: read_u64(s, RECEIVED_AT),
+        received: numbers::read_u64(s, RECEIVED_AT),
         number: number(s),
         uplink,
         mode: s[MODE_AT] % 4,
         stream: s[STREAM_AT],
-        equipment: read_u16(s, EQUIPMENT_AT),
+        equipment: numbers::read_u16(s, EQUIPMENT_AT),
     }
 }
 
@@ -156,5 +154,5 @@ pub fn number(s: &[u8]) -> u32
     requires { ⌜ dataValueAt Telemetry ≤ length (now s) ⌝ }
     ensures { λ r. ⌜ r ≡ recordNumber Telemetry (now (s .entry)) ⌝ }
 {
-    read_u32(s, NUMBER_AT)
+    numbers::read_u32(s, NUMBER_AT)
 }

@@ -7,18 +7,8 @@ ghost use Rattle.turns.specs.Turn.{textSize};
 ghost use Rattle.sfdu_list.specs.Turn.{Turns, Ends};
 ghost use Rattle.sfdu_list.specs.inner.Turn.{Going};
 use arguments::Asked;
-use arguments::first_option;
-use arguments::open_at;
-use libc::STDERR_FILENO;
-use libc::STDIN_FILENO;
-use libc::STDOUT_FILENO;
 use text::State;
-use turns::ENOUGH;
-use turns::TURNS;
 use turns::Turn;
-use turns::flush;
-use turns::give_up;
-use turns::read_piece;
 
 // One turn: a piece is read and listed, and the text is written where there is enough of it.
 fn take_turn(fd: i32, name: &[u8], w: &mut [u8], out: &mut [u8], s: State) -> Turn
@@ -26,7 +16,7 @@ fn take_turn(fd: i32, name: &[u8], w: &mut [u8], out: &mut [u8], s: State) -> Tu
     ensures { λ r. ⌜ Turns (now (w .entry)) (now (out .entry)) s (now (w .exit)) (now (out .exit)) r ⌝ }
 {
     let have = s.have;
-    let piece = read_piece(fd, w, have);
+    let piece = turns::read_piece(fd, w, have);
     if piece.failed {
         os::fail(name);
         return Turn {
@@ -35,13 +25,13 @@ fn take_turn(fd: i32, name: &[u8], w: &mut [u8], out: &mut [u8], s: State) -> Tu
         };
     }
     let listed = sfdu_listing::list_piece(w, out, s, piece.got);
-    if listed.text <= ENOUGH {
+    if listed.text <= turns::ENOUGH {
         return Turn {
             state: listed,
             failed: false,
         };
     }
-    flush(out, listed)
+    turns::flush(out, listed)
 }
 
 // Lists the stream of a descriptor, but for the last of the text.
@@ -50,7 +40,7 @@ fn list_stream(fd: i32, name: &[u8], w: &mut [u8], out: &mut [u8]) -> Turn
     ensures { λ r. ⌜ Ends (now (w .exit)) (now (out .exit)) r ⌝ }
 {
     let mut s = sfdu_listing::begin(out);
-    let mut turns = TURNS;
+    let mut turns = turns::TURNS;
     while 0 < turns {
         let t = take_turn(fd, name, w, out, s);
         s = t.state;
@@ -59,7 +49,7 @@ fn list_stream(fd: i32, name: &[u8], w: &mut [u8], out: &mut [u8]) -> Turn
         }
         turns -= 1;
     }
-    give_up(name);
+    turns::give_up(name);
     Turn {
         state: s,
         failed: true,
@@ -72,21 +62,21 @@ fn list(fd: i32, name: &[u8]) {
     let mut text = io::large_buffer();
     let out: &mut [u8] = &mut text;
     let t = list_stream(fd, name, w, out);
-    flush(out, t.state);
+    turns::flush(out, t.state);
 }
 
 // Lists the file that argument i names, under a line with its name where there are several.
 fn list_argument(i: usize, several: bool) {
     let mut path = io::buffer();
-    let file = open_at(i, &mut path);
+    let file = arguments::open_at(i, &mut path);
     let fd = file.fd;
     if fd < 0 {
         return;
     }
     let n = file.size;
     if several {
-        io::write_all(STDOUT_FILENO, &path[..n]);
-        io::write_all(STDOUT_FILENO, b"\n");
+        io::write_all(libc::STDOUT_FILENO, &path[..n]);
+        io::write_all(libc::STDOUT_FILENO, b"\n");
     }
     list(fd, &path[..n]);
     libc::close(fd);
@@ -115,13 +105,13 @@ fn tell_usage(fd: i32) {
 fn main() {
     let count = os::arg_count();
     if count < 2 {
-        list(STDIN_FILENO, b"standard input");
+        list(libc::STDIN_FILENO, b"standard input");
         return;
     }
-    let wanted = first_option(count);
+    let wanted = arguments::first_option(count);
     match wanted {
         Asked::Files => list_arguments(count),
-        Asked::Help => tell_usage(STDOUT_FILENO),
-        Asked::Unknown => tell_usage(STDERR_FILENO),
+        Asked::Help => tell_usage(libc::STDOUT_FILENO),
+        Asked::Unknown => tell_usage(libc::STDERR_FILENO),
     }
 }

@@ -10,18 +10,14 @@ ghost use Rattle.sfdu_listing.specs.inner.Room.{mostLine, lineRoom};
 ghost use Rattle.text.specs.Text.{space, Puts};
 ghost use Rattle.sfdu_listing.specs.Run.{begun};
 use sfdu::Kind;
-use text::LINE_END;
-use text::SPACE;
 use text::State;
-use text::put_text;
-use text::put_word;
 
 // The state of a listing of which nothing has been read; the first line is laid out.
 pub fn begin(out: &mut [u8]) -> State
     requires { ⌜ length heading ≤ length (now out) ⌝ }
     ensures { λ r. ⌜ (r ≡ begun) × Puts (now (out .entry)) (now (out .exit)) 0 (r .text) heading ⌝ }
 {
-    let end = put_text(out, 0, b"place length kind number\n");
+    let end = text::put_text(out, 0, b"place length kind number\n");
     State {
         place: 0,
         have: 0,
@@ -35,8 +31,8 @@ fn put_letter(out: &mut [u8], at: usize, kind: Kind) -> usize
     ensures { λ r. ⌜ Puts (now (out .entry)) (now (out .exit)) at r (letter (kindNumber kind) ∷ space ∷ []) ⌝ }
 {
     match kind {
-        Kind::Telemetry => put_text(out, at, b"T "),
-        Kind::Rsr => put_text(out, at, b"R "),
+        Kind::Telemetry => text::put_text(out, at, b"T "),
+        Kind::Rsr => text::put_text(out, at, b"R "),
     }
 }
 
@@ -53,10 +49,10 @@ pub fn put_line(
     ensures { λ r. ⌜ Puts (now (out .entry)) (now (out .exit)) at r (line place size (kindNumber kind) number) ⌝ }
     ensures { λ r. ⌜ r ≤ at + mostLine ⌝ }
 {
-    let a = put_word(out, at, place, SPACE);
-    let b = put_word(out, a, size as u64, SPACE);
+    let a = text::put_word(out, at, place, text::SPACE);
+    let b = text::put_word(out, a, size as u64, text::SPACE);
     let c = put_letter(out, b, kind);
-    put_word(out, c, number as u64, LINE_END)
+    text::put_word(out, c, number as u64, text::LINE_END)
 }
 
 // The last line: the stop place, the stop number, and the number that goes with it.
@@ -65,7 +61,7 @@ pub fn put_last(out: &mut [u8], at: usize, place: u64, number: u32, beside: u64)
     ensures { λ r. ⌜ Puts (now (out .entry)) (now (out .exit)) at r (lastLine place (number ∷ beside ∷ [])) ⌝ }
     ensures { λ r. ⌜ r ≤ at + mostLast ⌝ }
 {
-    let a = put_word(out, at, place, SPACE);
-    let b = put_word(out, a, number as u64, SPACE);
-    put_word(out, b, beside, LINE_END)
+    let a = text::put_word(out, at, place, text::SPACE);
+    let b = text::put_word(out, a, number as u64, text::SPACE);
+    text::put_word(out, b, beside, text::LINE_END)
 }

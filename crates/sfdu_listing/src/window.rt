@@ -12,16 +12,11 @@ ghost use Rattle.sfdu_listing.specs.Window.{mostText, Lists};
 ghost use Rattle.sfdu_listing.specs.inner.Window.{wordsOf, foundIn, Drains, Ready};
 use crate::Drained;
 use crate::Found;
-use crate::lines::put_last;
-use crate::lines::put_line;
-use octets::read_be;
+use crate::lines;
+use octets::numbers;
 use refusals::Refusal;
-use sfdu::LABEL;
-use sfdu::LENGTH;
-use sfdu::LENGTH_AT;
 use sfdu::Read;
-use sfdu::read_one;
-use sfdu_headers::record_number;
+use sfdu::nesting;
 use text::State;
 
 // The window's size: the longest record that the program takes.
@@ -36,7 +31,7 @@ pub fn judge(s: &[u8], place: u64, last: bool) -> Found
     requires { ⌜ (length (now s) ≤ bufferSize) × (place + length (now s) < 2 ^ 64) ⌝ }
     ensures { λ r. ⌜ wordsOf r ≡ foundIn place (now (s .entry)) last ⌝ }
 {
-    let read = read_one(s);
+    let read = sfdu::read_one(s);
     match read {
         Read::Record {
             kind,
@@ -45,7 +40,7 @@ pub fn judge(s: &[u8], place: u64, last: bool) -> Found
         } => Found::Record {
             kind,
             size,
-            number: record_number(s, kind),
+            number: sfdu_headers::record_number(s, kind),
         },
         Read::Refused(fault) => {
             let refusal = fault.refusal;
@@ -102,7 +97,7 @@ fn is_over(s: &[u8]) -> bool
     requires { ⌜ labelSize ≤ length (now s) ⌝ }
     ensures { λ r. ⌜ r ≡ ltb bufferSize (recordLength (now (s .entry))) ⌝ }
 {
-    ((WINDOW - LABEL) as u64) < read_be(s, LENGTH_AT, LENGTH)
+    ((WINDOW - nesting::LABEL) as u64) < numbers::read_be(s, nesting::LENGTH_AT, nesting::LENGTH)
 }
 
 // Lays out, from index `start` of `out` on, a line for each whole record of the window, whose first byte stands at `place` of the
@@ -118,7 +113,7 @@ fn drain(w: &[u8], place: u64, last: bool, out: &mut [u8], start: usize) -> Drai
         let found = judge(&w[at..], here, last);
         match found {
             Found::Record { kind, size, number } => {
-                end = put_line(out, end, here, size, kind, number);
+                end = lines::put_line(out, end, here, size, kind, number);
                 at = at + size;
             }
             Found::More => {
@@ -129,7 +124,7 @@ fn drain(w: &[u8], place: u64, last: bool, out: &mut [u8], start: usize) -> Drai
                 };
             }
             Found::Stop(number, beside) => {
-                end = put_last(out, end, here, number, beside);
+                end = lines::put_last(out, end, here, number, beside);
                 return Drained {
                     used: at,
                     end,

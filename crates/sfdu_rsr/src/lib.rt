@@ -2,8 +2,8 @@
 ghost use mathlib.Core.Path.{_≡_};
 ghost use Rattle.sfdu_rsr.specs.Record.{wordsOf, readRsr};
 use sfdu::Fault;
+use sfdu::nesting;
 use sfdu_headers::Headers;
-use sfdu_headers::read_headers;
 
 // The record's length, the mission of its primary value, and its day count; or a refusal.
 pub enum Rsr {
@@ -19,7 +19,7 @@ pub enum Rsr {
 pub fn read_rsr(s: &[u8]) -> Rsr
     ensures { λ r. ⌜ wordsOf r ≡ readRsr (now (s .entry)) ⌝ }
 {
-    let headers = read_headers(s, sfdu::RSR_NUMBER);
+    let headers = sfdu_headers::read_headers(s, nesting::RSR_NUMBER);
     match headers {
         Headers::Rsr {
             size,

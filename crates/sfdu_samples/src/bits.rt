@@ -2,8 +2,7 @@
 ghost use mathlib.Core.Path.{_≡_};
 ghost use Rattle.sfdu_samples.specs.Packing.{twos};
 ghost use Rattle.sfdu_samples.specs.Bits.{bitsOf};
-use crate::packs::RAISE;
-use crate::packs::raise;
+use crate::packs;
 
 // What the bits of a negative number count more than it.
 const RANGE: i64 = 4294967296;
@@ -12,14 +11,14 @@ const RANGE: i64 = 4294967296;
 pub fn to_bits(z: i32) -> u32
     ensures { λ r. ⌜ r ≡ bitsOf z ⌝ }
 {
-    std::num::wrapping_add_u32(raise(z), RAISE)
+    std::num::wrapping_add_u32(packs::raise(z), packs::RAISE)
 }
 
 // The number of bits in two's complement.
 pub fn from_bits(v: u32) -> i32
     ensures { λ r. ⌜ r ≡ twos 32 v ⌝ }
 {
-    if v < RAISE {
+    if v < packs::RAISE {
         return v as i32;
     }
     (v as i64 - RANGE) as i32

@@ -5,20 +5,13 @@ ghost use lib.ListN.{length};
 ghost use Rattle.sfdu.specs.declared.Kind.the-variants.{Rsr as RsrKind};
 ghost use Rattle.sfdu.specs.Nesting.{dataValueAt};
 ghost use Rattle.sfdu_samples.specs.Calls.{wordsOf, sizeOf, rateOf, unpacking, packing};
-use crate::packs::is_coded;
-use crate::packs::pack_sized;
-use crate::rates::is_listed;
-use crate::unpacks::WORD;
-use crate::unpacks::per_word;
-use crate::unpacks::unpack_data;
 pub use bits::from_bits;
 pub use bits::to_bits;
-use octets::read_u16;
+use octets::numbers;
 use refusals::Refusal;
 use sfdu::Fault;
-use sfdu::SECONDARY_AT;
+use sfdu::nesting;
 use sfdu_rsr::Rsr;
-use sfdu_rsr::read_rsr;
 
 mod bits;
 mod packs;
@@ -39,17 +32,17 @@ pub enum Answer {
 }
 
 // Where the samples' size and rate and the data stand, from the record's start.
-const SIZE_AT: usize = SECONDARY_AT + 36;
+const SIZE_AT: usize = nesting::SECONDARY_AT + 36;
 
-const RATE_AT: usize = SECONDARY_AT + 38;
+const RATE_AT: usize = nesting::SECONDARY_AT + 38;
 
-const DATA_AT: usize = SECONDARY_AT + 228;
+const DATA_AT: usize = nesting::SECONDARY_AT + 228;
 
 // The numbers of a record's data part, I then Q, go to the start of the list.
 pub fn unpack(s: &[u8], list: &mut [i32]) -> Answer
     ensures { λ r. ⌜ (wordsOf r, now (list .exit)) ≡ unpacking (now (s .entry)) (now (list .entry)) ⌝ }
 {
-    let found = read_rsr(s);
+    let found = sfdu_rsr::read_rsr(s);
     match found {
         Rsr::Record {
             size,
@@ -58,7 +51,7 @@ pub fn unpack(s: &[u8], list: &mut [i32]) -> Answer
         } => {
             let bits = sample_size(s);
             let rate = sample_rate(s);
-            unpack_data(&s[DATA_AT..size], bits, rate, list)
+            unpacks::unpack_data(&s[DATA_AT..size], bits, rate, list)
         }
         Rsr::Refused(f) => Answer::Header(f),
         Rsr::WrongKind => Answer::Refused(Refusal::WrongKind),
@@ -82,27 +75,27 @@ fn sample_rate(s: &[u8]) -> u32
     requires { ⌜ dataValueAt RsrKind ≤ length (now s) ⌝ }
     ensures { λ r. ⌜ r ≡ rateOf (now (s .entry)) ⌝ }
 {
-    read_u16(s, RATE_AT) as u32
+    numbers::read_u16(s, RATE_AT) as u32
 }
 
 // The data part of the samples goes to the start of out.
 pub fn pack(size: u32, rate: u32, samples: &[i32], out: &mut [u8]) -> Answer
     ensures { λ r. ⌜ (wordsOf r, now (out .exit)) ≡ packing size rate (now (samples .entry)) (now (out .entry)) ⌝ }
 {
-    if !is_listed(size, rate) {
+    if !rates::is_listed(size, rate) {
         return Answer::Refused(Refusal::SamplePair);
     }
-    let per = per_word(size);
+    let per = unpacks::per_word(size);
     if samples.len() % per != 0 {
         return Answer::Refused(Refusal::SampleWords);
     }
-    if !is_coded(samples, size) {
+    if !packs::is_coded(samples, size) {
         return Answer::Refused(Refusal::SampleValue);
     }
     let words = samples.len() / per;
-    if out.len() / WORD < words {
+    if out.len() / unpacks::WORD < words {
         return Answer::Refused(Refusal::SampleSpace);
     }
-    pack_sized(samples, words, size, out);
-    Answer::Count(words * WORD)
+    packs::pack_sized(samples, words, size, out);
+    Answer::Count(words * unpacks::WORD)
 }

@@ -6,12 +6,7 @@ ghost use lib.ListN.{length, drop};
 ghost use lib.Seq.{sets};
 ghost use Rattle.sfdu_samples.specs.Packing.{codeOf, hasCode, halfWord, perHalf, perWord, halfOf, wordOf, packedWords, allCoded};
 ghost use Rattle.sfdu_samples.specs.inner.Unpacking.{Width, raised};
-use crate::unpacks::HALF;
-use crate::unpacks::WORD;
-use crate::unpacks::codes;
-use crate::unpacks::per_half;
-use crate::unpacks::per_word;
-use octets::write_be;
+use crate::unpacks;
 
 // What is added to a number, so that it is not below zero: an even multiple of every count of codes.
 pub const RAISE: u32 = 2147483648;
@@ -27,7 +22,7 @@ fn has_code(z: i32, size: u32) -> bool
     ensures { λ r. ⌜ r ≡ hasCode size z ⌝ }
 {
     let raised = raise(z);
-    let limit = codes(size);
+    let limit = unpacks::codes(size);
     (raised % 2 == 1) & (RAISE - limit < raised) & (raised < RAISE + limit)
 }
 
@@ -48,7 +43,7 @@ fn code_of(z: i32, size: u32) -> u32
     requires { ⌜ Width size × (hasCode size z ≡ true) ⌝ }
     ensures { λ r. ⌜ r ≡ codeOf size z ⌝ }
 {
-    raise(z) / 2 % codes(size)
+    raise(z) / 2 % unpacks::codes(size)
 }
 
 // The half word of every second number from index at on: the last is the highest.
@@ -56,9 +51,9 @@ fn half_of(samples: &[i32], at: usize, size: u32) -> u32
     requires { ⌜ Width size × (at + perWord size ≤ length (now samples) + 1) × (allCoded size (now samples) ≡ true) ⌝ }
     ensures { λ r. ⌜ (r ≡ halfOf size (perHalf size) (drop at (now (samples .entry)))) × (r < halfWord) ⌝ }
 {
-    let base = codes(size);
+    let base = unpacks::codes(size);
     let mut half = 0;
-    let mut left = per_half(size);
+    let mut left = unpacks::per_half(size);
     while 0 < left {
         left -= 1;
         let z = samples[at + 2 * left];
@@ -73,18 +68,18 @@ fn word_of(samples: &[i32], at: usize, size: u32) -> u32
 {
     let i = half_of(samples, at, size);
     let q = half_of(samples, at + 1, size);
-    q * HALF + i
+    q * unpacks::HALF + i
 }
 
 fn pack_words(samples: &[i32], words: usize, size: u32, out: &mut [u8])
     requires { ⌜ Width size × (words * perWord size ≤ length (now samples)) × (words * 4 ≤ length (now out)) × (allCoded size (now samples) ≡ true) ⌝ }
     ensures { λ _. ⌜ now (out .exit) ≡ sets (now (out .entry)) 0 (packedWords size words (now (samples .entry))) ⌝ }
 {
-    let per = per_word(size);
+    let per = unpacks::per_word(size);
     let mut at = 0;
     for i in 0..words {
         let word = word_of(samples, at, size);
-        write_be(out, i * WORD, WORD, word as u64);
+        octets::write_be(out, i * unpacks::WORD, unpacks::WORD, word as u64);
         at += per;
     }
 }

@@ -7,8 +7,8 @@ ghost use Rattle.sfdu_samples.specs.Packing.{perHalf, perWord, twos, val
 ghost use Rattle.sfdu_samples.specs.Calls.{wordsOf};
 ghost use Rattle.sfdu_samples.specs.inner.Unpacking.{Width, unpackingData};
 use crate::Answer;
-use crate::rates::is_listed;
-use octets::read_u32;
+use crate::rates;
+use octets::numbers;
 use refusals::Refusal;
 
 // Bytes of a packing word.
@@ -28,7 +28,7 @@ const HALF_WORD_BITS: u32 = 16;
 pub fn unpack_data(d: &[u8], size: u32, rate: u32, list: &mut [i32]) -> Answer
     ensures { λ r. ⌜ (wordsOf r, now (list .exit)) ≡ unpackingData size rate (now (d .entry)) (now (list .entry)) ⌝ }
 {
-    if !is_listed(size, rate) {
+    if !rates::is_listed(size, rate) {
         return Answer::Refused(Refusal::SamplePair);
     }
     if d.len() % WORD != 0 {
@@ -110,7 +110,7 @@ fn unpack_words(d: &[u8], words: usize, size: u32, list: &mut [i32])
     let per = per_word(size);
     let mut to = 0;
     for i in 0..words {
-        unpack_word(read_u32(d, i * WORD), size, list, to);
+        unpack_word(numbers::read_u32(d, i * WORD), size, list, to);
         to += per;
     }
 }

@@ -4,44 +4,37 @@ ghost use Prim.Native.Nat.{min};
 ghost use Rattle.sfdu_stream.specs.Walk.{wordsOf};
 ghost use Rattle.sfdu_stream.specs.Listing.{entryAt, listNumbers, listEntries};
 ghost use Rattle.sfdu_stream.specs.inner.Turn.{RecordAt, TurnAt, noTurn};
-use crate::Cursor;
-use crate::Entry;
-use crate::Step;
-use crate::Stop;
-use crate::Turn;
-use crate::Walked;
-use crate::walking::in_stream;
-use crate::walking::stopped;
+use crate as stream;
+use crate::walking;
 use refusals::Refusal;
 use sfdu::Fault;
 use sfdu::Kind;
-use sfdu::kind_number;
-use sfdu_headers::record_number;
+use sfdu::nesting;
 
 // The entry of the record at a place.
-fn entry_at(s: &[u8], at: usize, kind: Kind, size: usize) -> Entry
+fn entry_at(s: &[u8], at: usize, kind: Kind, size: usize) -> stream::Entry
     requires { ⌜ RecordAt (now s) at kind size ⌝ }
     ensures { λ r. ⌜ r ≡ entryAt (now (s .entry)) at ⌝ }
 {
-    Entry {
+    stream::Entry {
         place: at as u64,
         length: size as u64,
-        kind: kind_number(kind),
-        number: record_number(&s[at..], kind),
+        kind: nesting::kind_number(kind),
+        number: sfdu_headers::record_number(&s[at..], kind),
     }
 }
 
 // No record is listed: the list stops.
-fn no_turn(answer: Walked) -> Turn
+fn no_turn(answer: stream::Walked) -> stream::Turn
     ensures { λ r. ⌜ r ≡ noTurn answer ⌝ }
 {
-    let none = Entry {
+    let none = stream::Entry {
         place: 0,
         length: 0,
         kind: 0,
         number: 0,
     };
-    Turn {
+    stream::Turn {
         listed: false,
         entry: none,
         next: 0,
@@ -50,13 +43,13 @@ fn no_turn(answer: Walked) -> Turn
 }
 
 // The turn at a place of a list of `size` entries, `count` of them filled.
-fn turn_at(s: &[u8], at: usize, count: usize, size: usize) -> Turn
+fn turn_at(s: &[u8], at: usize, count: usize, size: usize) -> stream::Turn
     ensures { λ r. ⌜ TurnAt (now (s .entry)) at count size r ⌝ }
 {
-    let cursor = Cursor { at };
+    let cursor = stream::Cursor { at };
     let found = cursor.step(s);
     match found {
-        Step::Found {
+        stream::Step::Found {
             kind,
             size: length,
             primary: _,
@@ -67,17 +60,21 @@ fn turn_at(s: &[u8], at: usize, count: usize, size: usize) -> Turn
                     refusal: Refusal::ListFull,
                     at: 0,
                 };
-                return no_turn(stopped(count, at, Stop::Refused(full)));
+                return no_turn(walking::stopped(count, at, stream::Stop::Refused(full)));
             }
-            Turn {
+            stream::Turn {
                 listed: true,
                 entry: entry_at(s, at, kind, length),
                 next: next.at,
-                answer: stopped(count, at, Stop::End),
+                answer: walking::stopped(count, at, stream::Stop::End),
             }
         }
-        Step::Done(_) => no_turn(stopped(count, at, Stop::End)),
-        Step::Refused(f, _) => no_turn(stopped(count, at, Stop::Refused(in_stream(s, at, f)))),
+        stream::Step::Done(_) => no_turn(walking::stopped(count, at, stream::Stop::End)),
+        stream::Step::Refused(f, _) => no_turn(walking::stopped(
+            count,
+            at,
+            stream::Stop::Refused(walking::in_stream(s, at, f)),
+        )),
     }
 }
 
@@ -95,7 +92,7 @@ pub fn list_numbers(
     lengths: &mut [u64],
     kinds: &mut [u32],
     numbers: &mut [u32],
-) -> Walked
+) -> stream::Walked
     ensures { λ r. ⌜ (
       wordsOf r,
       record { places = now (places .exit); lengths = now (lengths .exit); kinds = now (kinds .exit); numbers = now (numbers .exit) },
@@ -126,7 +123,7 @@ pub fn list_numbers(
 }
 
 // Fills a table of entries from a stream, one entry for a record. Entries past the count stay.
-pub fn list_entries(s: &[u8], table: &mut [Entry]) -> Walked
+pub fn list_entries(s: &[u8], table: &mut [stream::Entry]) -> stream::Walked
     ensures { λ r. ⌜ (wordsOf r, now (table .exit)) ≡ listEntries (now (s .entry)) (now (table .entry)) ⌝ }
 {
     let size = table.len();

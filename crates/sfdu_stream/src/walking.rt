@@ -13,11 +13,8 @@ use crate::Step;
 use crate::Stop;
 use crate::Walked;
 use refusals::Refusal;
-use refusals::number;
 use sfdu::Fault;
 use sfdu::Read;
-use sfdu::read_one;
-use sfdu::whole_size;
 
 impl Cursor {
     // The record at the cursor, and the cursor past it.
@@ -28,7 +25,7 @@ impl Cursor {
         if s.len() <= at {
             return Step::Done(Cursor { at });
         }
-        let found = read_one(&s[at..]);
+        let found = sfdu::read_one(&s[at..]);
         match found {
             Read::Record {
                 kind,
@@ -52,7 +49,7 @@ pub fn walk(s: &[u8]) -> Walked
     let mut at = 0;
     let mut count = 0;
     loop {
-        let size = whole_size(&s[at..]);
+        let size = sfdu::whole_size(&s[at..]);
         if size == 0 {
             return stopped(count, at, stop_at(s, at));
         }
@@ -107,6 +104,6 @@ pub fn in_stream(s: &[u8], place: usize, fault: Fault) -> Fault
 fn is_count(refusal: Refusal) -> bool
     ensures { λ r. ⌜ r ≡ isCount (numberOf refusal) ⌝ }
 {
-    let n = number(refusal);
-    (n == number(Refusal::TooShort)) | (n == number(Refusal::Truncated))
+    let n = refusals::number(refusal);
+    (n == refusals::number(Refusal::TooShort)) | (n == refusals::number(Refusal::Truncated))
 }

@@ -5,10 +5,10 @@ ghost use lib.ListN.{length};
 ghost use Rattle.octets.specs.Octets.{put};
 ghost use Rattle.sfdu.specs.Nesting.{kindNumber, labelSize, primaryAt, secondaryValueAt, dataValueAt, blockLabelSize, secondaryLength, mostData};
 ghost use Rattle.sfdu_write.specs.Write.{wordsOf, writeOne, isInput, recordBytes, headBytes, labelBytes, primaryBlock, block};
-use octets::write_be;
 use refusals::Refusal;
 use sfdu::Kind;
 use sfdu::Primary;
+use sfdu::nesting;
 
 // What writing one record answers: its length in bytes.
 pub enum Write {
@@ -26,10 +26,10 @@ pub fn write_one(
 ) -> Write
     ensures { λ r. ⌜ (wordsOf r, now (out .exit)) ≡ writeOne kind primary (now (secondary .entry)) (now (value .entry)) (now (out .entry)) ⌝ }
 {
-    if kind == sfdu::TELEMETRY_NUMBER {
+    if kind == nesting::TELEMETRY_NUMBER {
         return write_kind(Kind::Telemetry, primary, secondary, value, out);
     }
-    if kind == sfdu::RSR_NUMBER {
+    if kind == nesting::RSR_NUMBER {
         return write_kind(Kind::Rsr, primary, secondary, value, out);
     }
     Write::Refused(Refusal::WriterInput)
@@ -42,7 +42,7 @@ fn write_kind(kind: Kind, primary: Primary, secondary: &[u8], value: &[u8], out:
     if !is_input(kind, secondary, value) {
         return Write::Refused(Refusal::WriterInput);
     }
-    let size = sfdu::data_value_at(kind) + value.len();
+    let size = nesting::data_value_at(kind) + value.len();
     if out.len() < size {
         return Write::Refused(Refusal::WriterSpace);
     }
@@ -54,7 +54,7 @@ fn write_kind(kind: Kind, primary: Primary, secondary: &[u8], value: &[u8], out:
 fn is_input(kind: Kind, secondary: &[u8], value: &[u8]) -> bool
     ensures { λ r. ⌜ r ≡ isInput kind (now (secondary .entry)) (now (value .entry)) ⌝ }
 {
-    (secondary.len() == sfdu::secondary_length(kind)) & (value.len() <= sfdu::MOST_DATA)
+    (secondary.len() == nesting::secondary_length(kind)) & (value.len() <= nesting::MOST_DATA)
 }
 
 fn write_record(kind: Kind, primary: Primary, secondary: &[u8], value: &[u8], out: &mut [u8])
@@ -62,13 +62,13 @@ fn write_record(kind: Kind, primary: Primary, secondary: &[u8], value: &[u8], ou
         × (dataValueAt kind + length (now value) ≤ length (now out)) ⌝ }
     ensures { λ _. ⌜ now (out .exit) ≡ put (now (out .entry)) 0 (recordBytes kind primary (now (secondary .entry)) (now (value .entry))) ⌝ }
 {
-    let at = sfdu::data_value_at(kind);
+    let at = nesting::data_value_at(kind);
     write_head(kind, primary, at + value.len(), out);
-    octets::copy_in(secondary, out, sfdu::SECONDARY_VALUE_AT);
+    octets::copy_in(secondary, out, nesting::SECONDARY_VALUE_AT);
     write_block(
         out,
-        sfdu::data_at(kind),
-        sfdu::DATA_TYPE,
+        nesting::data_at(kind),
+        nesting::DATA_TYPE,
         value.len() as u64,
     );
     octets::copy_in(value, out, at);
@@ -82,16 +82,16 @@ fn write_head(kind: Kind, primary: Primary, size: usize, out: &mut [u8])
     write_label(kind, size, out);
     write_block(
         out,
-        sfdu::AGGREGATION_AT,
-        sfdu::AGGREGATION_TYPE,
-        sfdu::aggregation_length(kind),
+        nesting::AGGREGATION_AT,
+        nesting::AGGREGATION_TYPE,
+        nesting::aggregation_length(kind),
     );
     write_primary(primary, out);
     write_block(
         out,
-        sfdu::SECONDARY_AT,
-        sfdu::secondary_type(kind),
-        sfdu::secondary_length(kind) as u64,
+        nesting::SECONDARY_AT,
+        nesting::secondary_type(kind),
+        nesting::secondary_length(kind) as u64,
     );
 }
 
@@ -99,14 +99,14 @@ fn write_label(kind: Kind, size: usize, out: &mut [u8])
     requires { ⌜ (labelSize ≤ size) × (labelSize ≤ length (now out)) ⌝ }
     ensures { λ _. ⌜ now (out .exit) ≡ put (now (out .entry)) 0 (labelBytes kind size) ⌝ }
 {
-    octets::copy_in(&sfdu::AUTHORITY, out, sfdu::AUTHORITY_AT);
-    octets::copy_in(&sfdu::VERSION_CLASS, out, sfdu::VERSION_CLASS_AT);
-    octets::copy_in(&sfdu::kind_tag(kind), out, sfdu::KIND_AT);
-    write_be(
+    octets::copy_in(&nesting::AUTHORITY, out, nesting::AUTHORITY_AT);
+    octets::copy_in(&nesting::VERSION_CLASS, out, nesting::VERSION_CLASS_AT);
+    octets::copy_in(&nesting::kind_tag(kind), out, nesting::KIND_AT);
+    octets::write_be(
         out,
-        sfdu::LENGTH_AT,
-        sfdu::LENGTH,
-        (size - sfdu::LABEL) as u64,
+        nesting::LENGTH_AT,
+        nesting::LENGTH,
+        (size - nesting::LABEL) as u64,
     );
 }
 
@@ -117,14 +117,14 @@ fn write_primary(p: Primary, out: &mut [u8])
 {
     write_block(
         out,
-        sfdu::PRIMARY_AT,
-        sfdu::PRIMARY_TYPE,
-        sfdu::PRIMARY_LENGTH,
+        nesting::PRIMARY_AT,
+        nesting::PRIMARY_TYPE,
+        nesting::PRIMARY_LENGTH,
     );
-    out[sfdu::PRIMARY_VALUE_AT] = p.major;
-    out[sfdu::PRIMARY_VALUE_AT + 1] = p.minor;
-    out[sfdu::PRIMARY_VALUE_AT + 2] = p.mission;
-    out[sfdu::PRIMARY_VALUE_AT + 3] = p.format;
+    out[nesting::PRIMARY_VALUE_AT] = p.major;
+    out[nesting::PRIMARY_VALUE_AT + 1] = p.minor;
+    out[nesting::PRIMARY_VALUE_AT + 2] = p.mission;
+    out[nesting::PRIMARY_VALUE_AT + 3] = p.format;
 }
 
 // The label of a block: its type and its length.
@@ -132,6 +132,6 @@ fn write_block(out: &mut [u8], at: usize, class: u64, size: u64)
     requires { ⌜ at + blockLabelSize ≤ length (now out) ⌝ }
     ensures { λ _. ⌜ now (out .exit) ≡ put (now (out .entry)) at (block class size) ⌝ }
 {
-    write_be(out, at, sfdu::WORD, class);
-    write_be(out, at + sfdu::WORD, sfdu::WORD, size);
+    octets::write_be(out, at, nesting::WORD, class);
+    octets::write_be(out, at + nesting::WORD, nesting::WORD, size);
 }

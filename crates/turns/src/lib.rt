@@ -4,8 +4,6 @@ ghost use Prim.Native.Nat.{_≤_, _<_};
 ghost use lib.ListN.{length};
 ghost use Rattle.text.specs.State.{emptied};
 ghost use Rattle.turns.specs.inner.Turn.{Behind};
-use libc::STDERR_FILENO;
-use libc::STDOUT_FILENO;
 use text::State;
 
 // Text is written once there is more of it than this: then its buffer has room for more.
@@ -46,7 +44,7 @@ pub fn flush(out: &[u8], s: State) -> Turn
     ensures { λ r. ⌜ r .state ≡ emptied s ⌝ }
 {
     let n = s.text;
-    let is_written = io::write_all(STDOUT_FILENO, &out[..n]);
+    let is_written = io::write_all(libc::STDOUT_FILENO, &out[..n]);
     if !is_written {
         os::fail(b"standard output");
     }
@@ -63,6 +61,6 @@ pub fn flush(out: &[u8], s: State) -> Turn
 
 // No turn is left.
 pub fn give_up(name: &[u8]) {
-    io::write_all(STDERR_FILENO, name);
-    io::write_all(STDERR_FILENO, b": too long to list\n");
+    io::write_all(libc::STDERR_FILENO, name);
+    io::write_all(libc::STDERR_FILENO, b": too long to list\n");
 }

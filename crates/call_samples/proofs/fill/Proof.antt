@@ -8,10 +8,10 @@ use Rattle.call_samples.proofs.fill.Statement.{statement}
 use Rattle.call_samples.proofs.fill.Tie as tie
 
 abbrev Inv-loop : tie.InvT-loop
-Inv-loop a numbers₀ i₀ i-end numbers i = (i ≤ i-end) × (i-end ≡ length numbers₀) × (length numbers ≡ length numbers₀)
+Inv-loop a samples₀ i₀ i-end samples i = (i ≤ i-end) × (i-end ≡ length samples₀) × (length samples ≡ length samples₀)
 
 abbrev μ-loop : tie.MeasureT-loop
-μ-loop a numbers₀ i₀ i-end numbers i = i-end - i
+μ-loop a samples₀ i₀ i-end samples i = i-end - i
 
 loop-holds : tie.Need-loop-holds Inv-loop μ-loop
 loop-holds c = (omega arith, refl, refl)
@@ -28,8 +28,8 @@ from-bits-requires c κs = search needs
 mul-t9 : tie.Need-mul-t9 Inv-loop μ-loop
 mul-t9 c = omega arith
 
-slice-set-from-numbers : tie.Need-slice-set-from-numbers Inv-loop μ-loop
-slice-set-from-numbers c = omega arith
+slice-set-from-samples : tie.Need-slice-set-from-samples Inv-loop μ-loop
+slice-set-from-samples c = omega arith
 
 add-i : tie.Need-add-i Inv-loop μ-loop
 add-i c = omega arith
@@ -57,7 +57,7 @@ fill-spec =
     read-u32-requires
     from-bits-requires
     mul-t9
-    slice-set-from-numbers
+    slice-set-from-samples
     add-i
     loop-less
     loop-again
