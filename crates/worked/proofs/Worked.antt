@@ -25,7 +25,7 @@ use Rattle.ledger_changes.specs.Bytes.{headerBytes}
 use Rattle.ledger_layout.specs.Layout.{bitsValue, tickBytes, placeBytes, countUsed, layout, call, onSheet}
 use Rattle.octets.specs.Lists.{laid}
 use Rattle.ledger_layout.proofs.Sheets.{on-layout}
-use Rattle.worked.specs.Worked.{Agree, table, p7, p8-empty, p8, p9-stale, p9, p10, verdicts, reportAfter, tickByteAfter}
+use Rattle.worked.specs.Worked.{Agree, _also_, all-of-none, table, p7, p8-empty, p8, p9-stale, p9, p10, verdicts, reportAfter, tickByteAfter}
 use Rattle.worked.proofs.Sheet.{wordsIn, answers-fresh, after-fresh}
 
 -- ---- on a sheet: what the model gives
@@ -52,67 +52,8 @@ unfolding judge modulus numberAt bytesOf part put all sameAt hasKind kindOf labe
     readOne dataPart labelBytes block primaryBlock headBytes recordBytes signedByte recordNumber isLeap yearLength isYear isDay isRsrBand isBand
     inRange judgedBytes fault readHeaders validKey telemetryKeyCall position noTicks same size anyTicked missing least positionNumber hasKey
     placeWith allUsed lowestFree refusals effect afterRefusal step run rowBytes headerBytes bitsValue tickBytes placeBytes countUsed laid layout asked
-worked = (
-  refl,
-  (
-    refl,
-    (
-      refl,
-      (
-        refl,
-        (
-          refl,
-          (
-            refl,
-            (
-              refl,
-              (
-                refl,
-                (
-                  refl,
-                  (
-                    refl,
-                    (
-                      refl,
-                      (
-                        refl,
-                        (
-                          refl,
-                          (
-                            refl,
-                            (
-                              ap (map number) (said p7),
-                              (
-                                ap (map number) (reported p7),
-                                (
-                                  ap (map number) (reported p8),
-                                  (
-                                    ap (map number) (reported p8-empty),
-                                    (
-                                      ap (map number) (said p9),
-                                      (
-                                        both p9-stale,
-                                        (
-                                          both p9,
-                                          (ap (map number) (said p10), (both p10, tt)),
-                                        ),
-                                      ),
-                                    ),
-                                  ),
-                                ),
-                              ),
-                            ),
-                          ),
-                        ),
-                      ),
-                    ),
-                  ),
-                ),
-              ),
-            ),
-          ),
-        ),
-      ),
-    ),
-  ),
-)
+worked =
+    refl also refl also refl also refl also refl also refl also refl also refl also refl also refl also refl also refl also refl also refl
+    also ap (map number) (said p7) also ap (map number) (reported p7) also ap (map number) (reported p8) also ap (map number) (reported p8-empty)
+    also ap (map number) (said p9) also both p9-stale also both p9 also ap (map number) (said p10) also both p10
+    also all-of-none

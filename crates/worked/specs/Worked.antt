@@ -30,9 +30,10 @@ abbrev pub numbers : (got expected : List ℕ) → Check
 numbers got expected = check (map number got) (map number expected)
 
 -- The claim about a table: every check agrees.
-abbrev pub Agree : List Check → Type 0
-Agree [] = Unit {0}
-Agree (c ∷ table) = (c .got ≡ c .expected) × Agree table
+infixr 30 _also_
+pub data Agree : List Check → Type 0 where
+  all-of-none : Agree []
+  _also_ : {c : Check} {rest : List Check} → c .got ≡ c .expected → Agree rest → Agree (c ∷ rest)
 
 -- ---- the calls of P7 to P10, on a fresh sheet; desk A is 0, desk B is 1
 
