@@ -299,9 +299,9 @@ fn one_row_sheet() -> Vec<u8> {
 fn reports(each: &[Implementation]) {
     for (row, ticked) in [
         ("no tick", Vec::new()),
-        ("gap at the start", (1..1024).collect()),
-        ("gap at the end", (0..1024).filter(|n| *n != 1022).collect()),
-        ("whole", (0..1024).collect::<Vec<u32>>()),
+        ("gap at the start", (1..ledger::POSITIONS).collect()),
+        ("gap at the end", (0..ledger::POSITIONS).filter(|n| *n != ledger::POSITIONS - 2).collect()),
+        ("whole", (0..ledger::POSITIONS).collect()),
     ] {
         let s = ticked_sheet(&ticked);
         compare_passes(&format!("counting alone: {row}"), 1.0, REPORTS, each, |i| {

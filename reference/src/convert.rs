@@ -1,6 +1,6 @@
 //! Request 10: the old sheet, of document 01, made into a new one.
 
-use crate::ledger::{self, is_sheet, ROWS_USED, ROW_NAMED, ROW_PLACES, SHEET};
+use crate::ledger::{self, is_sheet, DESK_PLACES, KEY, OPENED, ROWS_USED, ROW_NAMED, ROW_PLACES, SHEET, WORKED};
 use crate::record::number;
 
 pub const OLD_SHEET: usize = 6_776;
@@ -24,30 +24,31 @@ pub fn convert(old: &[u8], new: &mut [u8]) -> Result<(), u32> {
 fn copied(old: &[u8]) -> Option<[u8; SHEET]> {
     let header = |i: usize| number(old, 4 * i, 4) as usize;
     if old.len() != OLD_SHEET
-        || [header(0), header(2), header(3), header(4), header(5)] != [OLD_SHEET, ROW_PLACES, OLD_ROWS, 8, OLD_DESKS]
+        || [header(0), header(2), header(3), header(4), header(5)]
+            != [OLD_SHEET, ROW_PLACES, OLD_ROWS, DESK_PLACES, OLD_DESKS]
     {
         return None;
     }
     let used = header(1);
     let mut new = [0; SHEET];
     ledger::fresh(&mut new).expect("the length is right");
-    new[ROWS_USED..ROWS_USED + 4].copy_from_slice(&old[4..8]);
+    new[ROWS_USED..ROWS_USED + 4].copy_from_slice(&old[ROWS_USED..ROWS_USED + 4]);
     for (r, row) in old[OLD_ROWS..OLD_DESKS].chunks_exact(OLD_ROW).enumerate() {
         put_row(&mut new[ledger::row_place(r)..], r < used, row);
     }
     for (d, desk) in old[OLD_DESKS..].chunks_exact(OLD_DESK).enumerate() {
-        let (head, copies) = desk.split_at(4);
+        let (head, copies) = desk.split_at(OPENED);
         let place = ledger::desk_place(d);
-        new[place..place + 4].copy_from_slice(head);
+        new[place..place + OPENED].copy_from_slice(head);
         // An open desk that names no used row makes the sheet wrong, whatever its copies say.
         let open = head[0] == 1 && (head[ROW_NAMED] as usize) < used;
-        put_row(&mut new[place + ledger::OPENED..], open, &copies[..OLD_ROW]);
-        put_row(&mut new[place + ledger::WORKED..], open, &copies[OLD_ROW..]);
+        put_row(&mut new[place + OPENED..], open, &copies[..OLD_ROW]);
+        put_row(&mut new[place + WORKED..], open, &copies[OLD_ROW..]);
     }
     Some(new)
 }
 
 fn put_row(new: &mut [u8], used: bool, old: &[u8]) {
-    new[..4].copy_from_slice(&(used as u32).to_be_bytes());
-    new[4..4 + OLD_ROW].copy_from_slice(old);
+    new[..KEY].copy_from_slice(&(used as u32).to_be_bytes());
+    new[KEY..KEY + OLD_ROW].copy_from_slice(old);
 }

@@ -1,5 +1,6 @@
 //! What the calls of a script met: which refusals, and of refused records which wrong field.
 
+use crate::ops;
 use crate::script::{self, Frame, BAD_FRAME};
 use std::collections::BTreeMap;
 use std::io::{self, Write};
@@ -73,12 +74,12 @@ impl Coverage {
         self.calls += 1;
         *self.refusals.entry(refusal).or_default().entry(frame.op).or_default() += 1;
         match frame.op {
-            // A refused line of op 13 ends in a crc.
-            13 if words.len() > 2 && refusal != 0 => *self.fields.entry((refusal, words[1])).or_default() += 1,
-            1 | 4 | 11 | 15 if words.len() > 1 && refusal != 0 => {
+            // A refused line of this op ends in a crc.
+            ops::UNPACK if words.len() > 2 && refusal != 0 => *self.fields.entry((refusal, words[1])).or_default() += 1,
+            ops::READ_ONE | ops::READ_HEADERS | ops::STEP | ops::GAIN if words.len() > 1 && refusal != 0 => {
                 *self.fields.entry((refusal, words[1])).or_default() += 1
             }
-            8 | 9 if words[1] > 0 => *self.behind.entry(refusal).or_default() += 1,
+            ops::WALK | ops::LIST_NUMBERS if words[1] > 0 => *self.behind.entry(refusal).or_default() += 1,
             _ => {}
         }
     }

@@ -3,7 +3,7 @@
 pub const RECORD: usize = 5_056;
 pub const HEADER_WORDS: usize = 28;
 pub const SAMPLES: usize = 5_000;
-const HEADER: usize = 2 * HEADER_WORDS;
+pub const HEADER: usize = 2 * HEADER_WORDS;
 /// What the length word says: the record's length in words of 16 bits.
 pub const LENGTH_WORD: u16 = 2_528;
 
@@ -25,7 +25,7 @@ pub const RATES: [(u16, u32); 15] = [
     (0b01100, 1_000_000),
     (0b00100, 1_200_000),
 ];
-const PLAYBACK_RATES: usize = 3;
+pub const PLAYBACK_RATES: usize = 3;
 
 /// A code's rate, 0 where the code is not listed.
 const fn by_code(listed: usize) -> [u32; 32] {

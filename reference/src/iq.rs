@@ -13,8 +13,8 @@ pub const LISTED: [(u32, &[u32]); 5] = [
     (16, &[1, 2, 4, 8, 16, 25, 50, 100]),
 ];
 
-const SIZE: usize = SECONDARY + 36;
-const RATE: usize = SECONDARY + 38;
+pub const SIZE: usize = SECONDARY + 36;
+pub const RATE: usize = SECONDARY + 38;
 const WORD: usize = 4;
 const HALF: u32 = 16;
 

@@ -210,7 +210,7 @@ pub fn enrol(s: &mut [u8], key: u64, first: u32) -> Result<usize, u32> {
     row[..KEY].copy_from_slice(&(USED as u32).to_be_bytes());
     row[KEY..FIRST].copy_from_slice(&key.to_be_bytes());
     row[FIRST..TICKS].copy_from_slice(&first.to_be_bytes());
-    row[TICKS..].copy_from_slice(&[0; 128]);
+    row[TICKS..].copy_from_slice(&[0; ROW - TICKS]);
     write_header(s, rows_used(s) + 1);
     Ok(free)
 }

@@ -24,6 +24,7 @@ pub mod coverage;
 pub mod files;
 pub mod make;
 pub mod nights;
+pub mod ops;
 pub mod privacy;
 pub mod random;
 pub mod sample;

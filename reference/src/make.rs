@@ -1,6 +1,6 @@
 //! What the random scripts, the samples and the benchmarks are made of: seeded numbers, decks, whole records.
 
-use crate::dates;
+use crate::dates::{self, FIRST_YEAR, LAST_YEAR};
 use crate::record::{self, RSR, SECONDARY, SECONDARY_VALUE, TELEMETRY};
 use std::cell::Cell;
 
@@ -130,9 +130,9 @@ pub fn secondary(rng: &Rng, kind: u32) -> Vec<u8> {
     set(25, 1, rng.below(64));
     set(26, 1, rng.below(129));
     set(27, 1, rng.below(129));
-    let year = 1900 + rng.below(1101);
-    set(28, 2, year);
-    set(30, 2, 1 + rng.below(dates::days_in(year as u32).into()));
+    let year = rng.between(FIRST_YEAR as usize, LAST_YEAR as usize) as u32;
+    set(28, 2, year.into());
+    set(30, 2, 1 + rng.below(dates::days_in(year).into()));
     bytes
 }
 

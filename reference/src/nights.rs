@@ -1,8 +1,11 @@
 //! The ledger's part of random scripts: nights of calls by eight desks, and sheets right and damaged.
 
 use crate::keys::{FIRST_RSR, PAST_RSR};
-use crate::ledger::{self, DESK, DESK_PLACES, FIRST, KEY, OPENED, POSITIONS, ROW, ROW_PLACES, SHEET, TICKS, WORKED};
+use crate::ledger::{
+    self, DESK, DESK_PLACES, FIRST, KEY, OPENED, POSITIONS, ROW, ROWS_USED, ROW_NAMED, ROW_PLACES, SHEET, TICKS, WORKED,
+};
 use crate::make::{put, Rng};
+use crate::ops;
 use crate::random::Generator;
 use crate::script::{Frame, MOST_SHEET};
 
@@ -11,11 +14,12 @@ const VALID_EDGES: [u64; 7] = [0, 1, 1 << 32, FIRST_RSR - 1, FIRST_RSR, FIRST_RS
 const KEY_OF_NO_OTHER: u64 = 1_000 << 32;
 const KEY_OF_NO_RSR: u64 = FIRST_RSR + (200 << 24);
 const BAD_KEYS: [u64; 7] = [PAST_RSR, PAST_RSR + 1, FIRST_RSR << 1, 1 << 63, u64::MAX, (1 << 48) + 5, u64::MAX - 1];
-const FIRSTS: [u32; 9] = [0, 1, 2, 1_000, 65_530, u32::MAX, u32::MAX - 5, u32::MAX - 1_023, u32::MAX - 1_024];
-const RSR_FIRSTS: [u32; 9] = [0, 1, 2, 1_000, 32_767, 65_535, 65_530, 65_536 - 1_023, 65_536 - 1_024];
+const FIRSTS: [u32; 9] =
+    [0, 1, 2, 1_000, 65_530, u32::MAX, u32::MAX - 5, u32::MAX - POSITIONS + 1, u32::MAX - POSITIONS];
+const RSR_FIRSTS: [u32; 9] = [0, 1, 2, 1_000, 32_767, 65_535, 65_530, 65_536 - POSITIONS + 1, 65_536 - POSITIONS];
 /// No RSR stream has these numbers.
 const BAD_RSR_FIRSTS: [u32; 5] = [65_536, 65_537, 65_536 + 65_530, 1 << 31, u32::MAX];
-const BAD_DESKS: [u32; 6] = [8, 9, 255, 256, 264, u32::MAX];
+const BAD_DESKS: [u32; 6] = [DESK_PLACES as u32, DESK_PLACES as u32 + 1, 255, 256, 256 + DESK_PLACES as u32, u32::MAX];
 
 #[derive(Clone, Copy)]
 pub enum NightCase {
@@ -60,45 +64,45 @@ impl Generator {
     pub fn night(&mut self) {
         if self.calls.sheet.len() != SHEET {
             // A fresh sheet cannot be made in it.
-            self.emit(Frame { op: 19, a: vec![0; SHEET], ..Frame::default() });
+            self.emit(Frame { op: ops::NEW_SHEET, a: vec![0; SHEET], ..Frame::default() });
         }
         match self.nights.deal(&self.rng) {
             NightCase::Crowded => {
-                self.emit(Frame { op: 20, ..Frame::default() });
+                self.emit(Frame { op: ops::FRESH, ..Frame::default() });
                 self.enrol_rows(self.rng.between(1, 3));
                 self.enrol_too_wide();
                 self.piece();
                 self.work(self.rng.between(40, 90));
             }
             NightCase::Full => {
-                self.emit(Frame { op: 20, ..Frame::default() });
+                self.emit(Frame { op: ops::FRESH, ..Frame::default() });
                 self.enrol_rows(ROW_PLACES);
                 self.enrol_rows(1);
                 self.work(12);
                 for _ in 0..self.rng.between(1, 3) {
-                    self.call(30);
+                    self.call(ops::STRIKE);
                 }
                 self.enrol_rows(self.rng.between(1, 4));
                 self.work(8);
             }
             NightCase::Strikes => {
-                self.emit(Frame { op: 20, ..Frame::default() });
+                self.emit(Frame { op: ops::FRESH, ..Frame::default() });
                 self.enrol_rows(self.rng.between(2, 5));
                 self.struck_while_open();
                 self.work(self.rng.between(20, 40));
                 for _ in 0..self.rng.between(2, 5) {
-                    self.call(30);
+                    self.call(ops::STRIKE);
                     self.enrol_rows(self.rng.between(0, 2));
                     self.work(4);
                 }
             }
             NightCase::Underway => {
-                self.emit(Frame { op: 19, a: right_sheet(&self.rng), ..Frame::default() });
+                self.emit(Frame { op: ops::NEW_SHEET, a: right_sheet(&self.rng), ..Frame::default() });
                 self.work(self.rng.between(8, 40));
             }
             NightCase::Careless => {
                 for _ in 0..self.rng.between(10, 30) {
-                    let op = self.rng.between(20, 30) as u32;
+                    let op = self.rng.between(ops::FRESH as usize, ops::STRIKE as usize) as u32;
                     self.call(op);
                 }
             }
@@ -108,37 +112,46 @@ impl Generator {
     /// A sheet right or damaged, and calls on it.
     pub fn sheets(&mut self) {
         let case = self.sheets.deal(&self.rng);
-        self.emit(Frame { op: 19, a: sheet_case(&self.rng, case, true), ..Frame::default() });
+        self.emit(Frame { op: ops::NEW_SHEET, a: sheet_case(&self.rng, case, true), ..Frame::default() });
         for _ in 0..self.rng.between(2, 4) {
             let op = self.sheet_ops.deal(&self.rng);
             self.call(op);
         }
         if self.rng.percent(20) {
-            self.call(20);
+            self.call(ops::FRESH);
         }
     }
 
     fn piece(&mut self) {
         let view = self.view();
         let number = |position| ledger::number_at(ledger::row(&view, 0), position);
-        let (a, b) = (self.rng.below(4) as u32, self.rng.between(4, 7) as u32);
+        let (a, b) = (self.rng.below(4) as u32, self.rng.between(4, DESK_PLACES - 1) as u32);
         let run = self.rng.between(1, 9) as u32;
-        let (one, other) = (self.rng.below(500) as u32, self.rng.between(500, 1_023) as u32);
-        let desk_opens = |desk| vec![(23, desk, 0)];
+        let (one, other) = (self.rng.below(500) as u32, self.rng.between(500, POSITIONS as usize - 1) as u32);
+        let desk_opens = |desk| vec![(ops::OPEN, desk, 0)];
         let changes = |desk, op, position| vec![(op, desk, number(position))];
-        let saves = |desk| vec![(26, desk, 0), (28, 0, 0)];
+        let saves = |desk| vec![(ops::SAVE, desk, 0), (ops::ROW_REPORT, 0, 0)];
         let once = |op, position| [desk_opens(b), changes(b, op, position), saves(b)].concat();
         let calls = match self.pieces.deal(&self.rng) {
             Piece::ChangedBack => {
-                [desk_opens(a), once(24, one), once(25, one), changes(a, 24, other), saves(a)].concat()
+                [desk_opens(a), once(ops::TICK, one), once(ops::UNTICK, one), changes(a, ops::TICK, other), saves(a)]
+                    .concat()
             }
-            Piece::SameCount => {
-                [once(24, one), desk_opens(a), once(25, one), once(24, other), changes(a, 24, 7), saves(a)].concat()
-            }
+            Piece::SameCount => [
+                once(ops::TICK, one),
+                desk_opens(a),
+                once(ops::UNTICK, one),
+                once(ops::TICK, other),
+                changes(a, ops::TICK, 7),
+                saves(a),
+            ]
+            .concat(),
             Piece::Ends => {
-                let from_start = (0..run).flat_map(|position| changes(a, 24, position)).collect();
-                let ends = [POSITIONS, u32::MAX, POSITIONS - 1].map(|position| changes(a, 24, position)).concat();
-                [desk_opens(a), from_start, saves(a), desk_opens(a), ends, saves(a), vec![(29, 0, 0)]].concat()
+                let from_start = (0..run).flat_map(|position| changes(a, ops::TICK, position)).collect();
+                let ends =
+                    [POSITIONS, u32::MAX, POSITIONS - 1].map(|position| changes(a, ops::TICK, position)).concat();
+                [desk_opens(a), from_start, saves(a), desk_opens(a), ends, saves(a), vec![(ops::FIRST_GAP, 0, 0)]]
+                    .concat()
             }
         };
         for (op, x, y) in calls {
@@ -149,7 +162,7 @@ impl Generator {
     fn enrol_rows(&mut self, rows: usize) {
         for _ in 0..rows {
             let key = self.key_not_there();
-            self.emit(Frame { op: 21, key, x: first_number(&self.rng, key), ..Frame::default() });
+            self.emit(Frame { op: ops::ENROL, key, x: first_number(&self.rng, key), ..Frame::default() });
         }
     }
 
@@ -157,12 +170,18 @@ impl Generator {
     fn struck_while_open(&mut self) {
         let x = self.rng.below(DESK_PLACES as u64) as u32;
         let row = self.row();
-        for (op, x, y) in [(23, x, row), (30, row, 0), (24, x, self.number(x)), (26, x, 0), (30, row, 0), (23, x, row)]
-        {
+        for (op, x, y) in [
+            (ops::OPEN, x, row),
+            (ops::STRIKE, row, 0),
+            (ops::TICK, x, self.number(x)),
+            (ops::SAVE, x, 0),
+            (ops::STRIKE, row, 0),
+            (ops::OPEN, x, row),
+        ] {
             self.emit(Frame { op, x, y, ..Frame::default() });
         }
         self.enrol_rows(1);
-        for op in [28, 30] {
+        for op in [ops::ROW_REPORT, ops::STRIKE] {
             self.emit(Frame { op, x: row, ..Frame::default() });
         }
     }
@@ -173,7 +192,12 @@ impl Generator {
         let keys = ledger::used_rows(&view).map(|row| ledger::key(ledger::row(&view, row)));
         let mut keys: Vec<u64> = keys.filter(|key| *key >= FIRST_RSR).collect();
         keys.push(FIRST_RSR + self.rng.below(PAST_RSR - FIRST_RSR));
-        self.emit(Frame { op: 21, key: self.rng.pick(&keys), x: self.rng.pick(&BAD_RSR_FIRSTS), ..Frame::default() });
+        self.emit(Frame {
+            op: ops::ENROL,
+            key: self.rng.pick(&keys),
+            x: self.rng.pick(&BAD_RSR_FIRSTS),
+            ..Frame::default()
+        });
     }
 
     /// Calls that mostly have something to do on the sheet as it stands.
@@ -181,14 +205,14 @@ impl Generator {
         for _ in 0..calls {
             let no_rows = ledger::rows_used(&self.view()) == 0;
             let op = match self.rng.below(200) {
-                _ if no_rows && self.rng.percent(70) => 21,
-                0 => 20,
-                1..=10 => 21,
-                11..=18 => 22,
-                19..=38 => 28,
-                39..=44 => 29,
-                45..=60 => self.rng.between(23, 27) as u32,
-                61..=68 => 30,
+                _ if no_rows && self.rng.percent(70) => ops::ENROL,
+                0 => ops::FRESH,
+                1..=10 => ops::ENROL,
+                11..=18 => ops::FIND,
+                19..=38 => ops::ROW_REPORT,
+                39..=44 => ops::FIRST_GAP,
+                45..=60 => self.rng.between(ops::OPEN as usize, ops::DROP as usize) as u32,
+                61..=68 => ops::STRIKE,
                 _ => 0,
             };
             if op == 0 {
@@ -206,13 +230,13 @@ impl Generator {
         let open = ledger::desk(&view, x as usize)[0] == 1;
         let ticked = self.ticked_number(x);
         let frame = match self.rng.below(100) {
-            roll if roll <= 3 || !open => Frame { op: 23, x, y: self.row(), ..Frame::default() },
-            4..=9 if ticked.is_some() => Frame { op: 24, x, y: ticked.unwrap_or(0), ..Frame::default() },
-            10..=28 if ticked.is_some() => Frame { op: 25, x, y: ticked.unwrap_or(0), ..Frame::default() },
-            29..=34 => Frame { op: 25, x, y: self.number(x), ..Frame::default() },
-            4..=64 => Frame { op: 24, x, y: self.number(x), ..Frame::default() },
-            65..=91 => Frame { op: 26, x, ..Frame::default() },
-            _ => Frame { op: 27, x, ..Frame::default() },
+            roll if roll <= 3 || !open => Frame { op: ops::OPEN, x, y: self.row(), ..Frame::default() },
+            4..=9 if ticked.is_some() => Frame { op: ops::TICK, x, y: ticked.unwrap_or(0), ..Frame::default() },
+            10..=28 if ticked.is_some() => Frame { op: ops::UNTICK, x, y: ticked.unwrap_or(0), ..Frame::default() },
+            29..=34 => Frame { op: ops::UNTICK, x, y: self.number(x), ..Frame::default() },
+            4..=64 => Frame { op: ops::TICK, x, y: self.number(x), ..Frame::default() },
+            65..=91 => Frame { op: ops::SAVE, x, ..Frame::default() },
+            _ => Frame { op: ops::DROP, x, ..Frame::default() },
         };
         self.emit(frame);
     }
@@ -220,18 +244,18 @@ impl Generator {
     /// A call of this op, with arguments good and bad.
     pub fn call(&mut self, op: u32) {
         let frame = match op {
-            21 => {
+            ops::ENROL => {
                 let key = self.enrolment_key();
                 Frame { op, key, x: any_first_number(&self.rng, key), ..Frame::default() }
             }
-            22 => Frame { op, key: self.enrolment_key(), ..Frame::default() },
-            23 => Frame { op, x: self.desk(), y: self.row(), ..Frame::default() },
-            24 | 25 => {
+            ops::FIND => Frame { op, key: self.enrolment_key(), ..Frame::default() },
+            ops::OPEN => Frame { op, x: self.desk(), y: self.row(), ..Frame::default() },
+            ops::TICK | ops::UNTICK => {
                 let x = self.desk();
                 Frame { op, x, y: self.number(x), ..Frame::default() }
             }
-            26 | 27 => Frame { op, x: self.desk(), ..Frame::default() },
-            28 | 30 => Frame { op, x: self.row(), ..Frame::default() },
+            ops::SAVE | ops::DROP => Frame { op, x: self.desk(), ..Frame::default() },
+            ops::ROW_REPORT | ops::STRIKE => Frame { op, x: self.row(), ..Frame::default() },
             _ => Frame { op, ..Frame::default() },
         };
         self.emit(frame);
@@ -281,8 +305,9 @@ impl Generator {
         let view = self.view();
         let used: Vec<u32> = ledger::used_rows(&view).map(|row| row as u32).collect();
         if used.is_empty() || self.rng.percent(6) {
-            let one = used.last().copied().unwrap_or(0);
-            return self.rng.pick(&[0, one + 1, 31, 32, 255, 256, 256 + one, u32::MAX, self.rng.below(32) as u32]);
+            let (one, places) = (used.last().copied().unwrap_or(0), ROW_PLACES as u32);
+            let any = self.rng.below(places.into()) as u32;
+            return self.rng.pick(&[0, one + 1, places - 1, places, 255, 256, 256 + one, u32::MAX, any]);
         }
         self.rng.pick(&used)
     }
@@ -296,7 +321,7 @@ impl Generator {
         let position = match rng.below(20) {
             0..=10 => rng.below(10) as u32,
             11..=15 => rng.below(POSITIONS as u64) as u32,
-            16 => rng.pick(&[1_022, POSITIONS - 1, 7, 8]),
+            16 => rng.pick(&[POSITIONS - 2, POSITIONS - 1, 7, 8]),
             17 => rng.pick(&[POSITIONS, POSITIONS + 1, u32::MAX, 1 << 16, 1 << 31]),
             // Right but for the upper 16 bits: no RSR stream has it.
             18 => return ledger::number_at(worked, rng.below(10) as u32) ^ rng.pick(&[1 << 16, 1 << 31, 0xFFFF_0000]),
@@ -351,7 +376,7 @@ fn any_first_number(rng: &Rng, key: u64) -> u32 {
 
 /// Any right sheet: rows with ticks of every sort, free ones between them, and desks closed or in the middle of their work.
 fn right_sheet(rng: &Rng) -> Vec<u8> {
-    let used = rng.pick(&[0, 1, 2, 3, 5, 31, 32, 32]);
+    let used = rng.pick(&[0, 1, 2, 3, 5, ROW_PLACES - 1, ROW_PLACES, ROW_PLACES]);
     let struck = rng.pick(&[0, 0, 1, 4]);
     let open = rng.pick(&[0, 20, 60, 100]);
     sheet_with(rng, used, struck, open)
@@ -359,7 +384,7 @@ fn right_sheet(rng: &Rng) -> Vec<u8> {
 
 /// The same with the used rows before all free ones.
 pub fn used_first_sheet(rng: &Rng) -> Vec<u8> {
-    let used = rng.pick(&[0, 1, 2, 3, 5, 31, 32]);
+    let used = rng.pick(&[0, 1, 2, 3, 5, ROW_PLACES - 1, ROW_PLACES]);
     let open = rng.pick(&[0, 20, 60, 100]);
     sheet_with(rng, used, 0, open)
 }
@@ -405,17 +430,19 @@ fn used_rows(s: &[u8]) -> Vec<usize> {
 
 /// Ticks of every sort: none, all, any, and about the words' edges.
 pub fn ticks(rng: &Rng) -> Vec<u8> {
+    let length = ROW - TICKS;
+    let any = || rng.index(POSITIONS as usize);
     let mut ticks = match rng.below(6) {
-        0 => vec![0xFF; 128],
-        1 => rng.bytes(128),
-        _ => vec![0; 128],
+        0 => vec![0xFF; length],
+        1 => rng.bytes(length),
+        _ => vec![0; length],
     };
     for _ in 0..rng.pick(&[0, 1, 1, 2, 5]) {
-        let position = rng.pick(&[0, 1, 7, 8, 63, 64, 1_015, 1_016, 1_022, 1_023, rng.index(1_024), rng.index(1_024)]);
+        let position = rng.pick(&[0, 1, 7, 8, 63, 64, 1_015, 1_016, 1_022, 1_023, any(), any()]);
         ticks[position / 8] ^= 1 << (position % 8);
     }
     if rng.percent(20) {
-        let from = rng.index(128);
+        let from = rng.index(length);
         ticks[from..].fill(0);
     }
     ticks
@@ -456,12 +483,21 @@ pub enum SheetCase {
 
 pub fn sheet_cases() -> Vec<SheetCase> {
     use SheetCase::*;
+    let places = ROW_PLACES as u32;
     let mut cases = vec![Right, Right, Right, KeyNotValid, KeyNotValid, KeyAtEdge, SameKeys, SameKeys, AnyBit, AllZero];
     cases.extend([0, SHEET - 1, SHEET + 1, MOST_SHEET].map(Length));
     cases.extend([0, 2, 3, 4, 5].map(Header));
     cases.extend(
-        [(2, 1), (2, 3), (31, 32), (32, 33), (32, 31), (1, u32::MAX), (1, 257)]
-            .map(|(rows, said)| RowsUsed(rows, said)),
+        [
+            (2, 1),
+            (2, 3),
+            (ROW_PLACES - 1, places),
+            (ROW_PLACES, places + 1),
+            (ROW_PLACES, places - 1),
+            (1, u32::MAX),
+            (1, 257),
+        ]
+        .map(|(rows, said)| RowsUsed(rows, said)),
     );
     cases.extend([0, 2, 3, 0x0100_0000, 0x0101, u32::MAX].map(UsedWord));
     cases.extend([65_535, 65_536, 65_536 + 5, u32::MAX].map(|first| First(KEY_OF_NO_RSR, first)));
@@ -470,7 +506,7 @@ pub fn sheet_cases() -> Vec<SheetCase> {
     cases.extend([0, 1, 2, 255].map(DeskByte));
     cases.extend([1, 2, 3, OPENED, WORKED - 1, WORKED, DESK - 1].map(ClosedDesk));
     cases.extend([2, 3].map(DeskZero));
-    cases.extend([32, 33, 255].map(DeskRow));
+    cases.extend([ROW_PLACES as u8, ROW_PLACES as u8 + 1, 255].map(DeskRow));
     cases.extend([false, true].map(DeskRowFree));
     cases.extend([0, 3, KEY, FIRST - 1, FIRST, TICKS - 1].map(|at| Copy(OPENED + at)));
     cases.extend([0, 3, KEY, FIRST - 1, FIRST, TICKS - 1].map(|at| Copy(WORKED + at)));
@@ -482,10 +518,10 @@ pub fn sheet_case(rng: &Rng, case: SheetCase, holes: bool) -> Vec<u8> {
     use SheetCase::*;
     let used = match case {
         RowsUsed(rows, _) => rows,
-        FreeRow(_) => rng.pick(&[0, 1, 31]),
-        SameKeys => rng.pick(&[2, 3, 32]),
+        FreeRow(_) => rng.pick(&[0, 1, ROW_PLACES - 1]),
+        SameKeys => rng.pick(&[2, 3, ROW_PLACES]),
         DeskRowFree(_) => 3,
-        _ => rng.pick(&[1, 3, 32]),
+        _ => rng.pick(&[1, 3, ROW_PLACES]),
     };
     let struck = if holes { rng.pick(&[0, 1, 2]).min(ROW_PLACES - used) } else { 0 };
     let open_percent = match case {
@@ -497,7 +533,7 @@ pub fn sheet_case(rng: &Rng, case: SheetCase, holes: bool) -> Vec<u8> {
     let rows = used_rows(&s);
     let free: Vec<usize> = (0..ROW_PLACES).filter(|row| !rows.contains(row)).collect();
     let row = ledger::row_place(if rows.is_empty() { 0 } else { rng.pick(&rows) });
-    let desk = ledger::desk_place(rng.pick(&[0, 7, rng.index(8)]));
+    let desk = ledger::desk_place(rng.pick(&[0, DESK_PLACES - 1, rng.index(DESK_PLACES)]));
     match case {
         Right if holes => return right_sheet(rng),
         Right => return used_first_sheet(rng),
@@ -507,12 +543,12 @@ pub fn sheet_case(rng: &Rng, case: SheetCase, holes: bool) -> Vec<u8> {
             let wrong = rng.pick(&[right + 1, right - 1, 0, right ^ 1 << 31, right << 8, u32::MAX]);
             put(&mut s, 4 * word, 4, wrong as u64);
         }
-        RowsUsed(_, said) => put(&mut s, 4, 4, said as u64),
+        RowsUsed(_, said) => put(&mut s, ROWS_USED, 4, said as u64),
         UsedWord(word) => {
             put(&mut s, row, 4, word as u64);
             // That the header counts one row too many is not to be the sheet's only fault.
             if rng.percent(70) {
-                put(&mut s, 4, 4, rows.len() as u64 - 1);
+                put(&mut s, ROWS_USED, 4, rows.len() as u64 - 1);
             }
         }
         KeyNotValid => put(&mut s, row + KEY, 8, rng.pick(&BAD_KEYS)),
@@ -533,9 +569,9 @@ pub fn sheet_case(rng: &Rng, case: SheetCase, holes: bool) -> Vec<u8> {
         FreeRow(at) => s[ledger::row_place(rng.pick(&free)) + at] |= 1 << rng.below(8),
         DeskByte(byte) => s[desk] = byte,
         ClosedDesk(at) | DeskZero(at) => s[desk + at] = 1 << rng.below(8),
-        DeskRow(row) => s[desk + 1] = row,
+        DeskRow(row) => s[desk + ROW_NAMED] = row,
         DeskRowFree(with_word) => {
-            s[desk + 1] = rng.pick(&free) as u8;
+            s[desk + ROW_NAMED] = rng.pick(&free) as u8;
             for copy in [OPENED, WORKED] {
                 s[desk + copy..][..TICKS].fill(0);
                 put(&mut s, desk + copy, 4, with_word as u64);

@@ -1,8 +1,13 @@
 //! Random call scripts: scenes of a few calls each, dealt from a deck, so that every kind of call and of damage
 //! comes up soon. Ledger calls stand in nights.rs, those of later requests in random/.
 
+use crate::dates::{FIRST_YEAR, LAST_YEAR};
 use crate::make::{self, put, Deck, Rng};
-use crate::record::{self, RSR, SECONDARY, TELEMETRY};
+use crate::ops;
+use crate::record::{
+    self, DESCRIPTION, LABEL, LABEL_LENGTH, PRIMARY, PRIMARY_VALUE, RSR, RSR_LAYOUT, SECONDARY, SECONDARY_VALUE,
+    TELEMETRY,
+};
 use crate::script::{Calls, Frame, MOST_B, MOST_LIST, MOST_SLICE};
 
 mod dates;
@@ -113,7 +118,7 @@ pub fn script_of(seed: u64, count: usize, part: Option<&str>) -> Vec<Frame> {
         streams: Deck::new(STREAM_CASES.to_vec()),
         longs: Deck::new(LONG_CASES.to_vec()),
         sheets: Deck::new(crate::nights::sheet_cases()),
-        sheet_ops: Deck::new((21..=30).collect()),
+        sheet_ops: Deck::new((ops::ENROL..=ops::STRIKE).collect()),
         pieces: Deck::new(crate::nights::PIECES.to_vec()),
         nights: Deck::new(crate::nights::NIGHT_CASES.to_vec()),
         dates: Deck::new(dates::date_cases()),
@@ -175,14 +180,14 @@ impl Generator {
         let length = make::short_length(&self.rng);
         let mut bytes = make::good_record(&self.rng, kind, length);
         damaged(&self.rng, &mut bytes, kind, damage);
-        let first = self.rng.pick(&[1, 4, 8, 11]);
-        for op in [1, 2, 3, 4] {
+        let first = self.rng.pick(&[ops::READ_ONE, ops::READ_HEADERS, ops::WALK, ops::STEP]);
+        for op in [ops::READ_ONE, ops::SECONDARY_PART, ops::DATA_PART, ops::READ_HEADERS] {
             if op == first || self.rng.percent(12) {
-                let x = if op == 4 { self.rng.pick(&[kind, kind, kind, 3 - kind]) } else { 0 };
+                let x = if op == ops::READ_HEADERS { self.rng.pick(&[kind, kind, kind, 3 - kind]) } else { 0 };
                 self.emit(Frame { op, x, a: bytes.clone(), ..Frame::default() });
             }
         }
-        for op in [8, 11] {
+        for op in [ops::WALK, ops::STEP] {
             if op == first || self.rng.percent(20) {
                 let (key, stream) = self.behind_some(&bytes);
                 self.emit(Frame { op, key, a: stream, ..Frame::default() });
@@ -230,13 +235,13 @@ impl Generator {
     fn streams(&mut self) {
         let case = self.streams.deal(&self.rng);
         let (stream, starts) = stream_case(&self.rng, case);
-        self.emit(Frame { op: 8, a: stream.clone(), ..Frame::default() });
+        self.emit(Frame { op: ops::WALK, a: stream.clone(), ..Frame::default() });
         let [x, y, z, w] = self.list_lengths(starts.len());
-        self.emit(Frame { op: 9, x, y, z, w, a: stream.clone(), ..Frame::default() });
+        self.emit(Frame { op: ops::LIST_NUMBERS, x, y, z, w, a: stream.clone(), ..Frame::default() });
         let steps = if matches!(case, StreamCase::Many) { 0 } else { self.rng.between(1, 2) };
         for _ in 0..steps {
             let key = self.place_in(&stream, &starts);
-            self.emit(Frame { op: 11, key, a: stream.clone(), ..Frame::default() });
+            self.emit(Frame { op: ops::STEP, key, a: stream.clone(), ..Frame::default() });
         }
     }
 
@@ -306,11 +311,11 @@ enum Damage {
 }
 
 fn damages() -> Vec<Damage> {
-    let mut cases = [0, 1, 11, 12, 19, 20].map(Damage::CutTo).to_vec();
+    let mut cases = [0, 1, LABEL_LENGTH - 1, LABEL_LENGTH, LABEL - 1, LABEL].map(Damage::CutTo).to_vec();
     cases.extend([Damage::Whole; 6]);
     cases.extend([Damage::FollowedBy; 3]);
     cases.extend([Damage::CutByOne, Damage::CutAnywhere, Damage::CutAnywhere, Damage::OtherKind]);
-    cases.extend((0..12).map(Damage::Byte));
+    cases.extend((0..LABEL_LENGTH).map(Damage::Byte));
     cases.extend([0, 3, 5].map(Damage::OtherCase));
     cases.extend((0..LABEL_LENGTHS).map(Damage::LabelLength));
     cases.extend([Damage::LabelLengthNearby; 3]);
@@ -334,17 +339,18 @@ fn damaged(rng: &Rng, bytes: &mut Vec<u8>, kind: u32, damage: Damage) {
         Damage::FollowedBy => bytes.extend(rng.bytes(rng.between(1, 40))),
         Damage::CutTo(length) => bytes.truncate(length),
         Damage::CutByOne => bytes.truncate(n - 1),
-        Damage::CutAnywhere => bytes.truncate(rng.between(20, n - 1)),
+        Damage::CutAnywhere => bytes.truncate(rng.between(LABEL, n - 1)),
         Damage::Byte(at) => bytes[at] = rng.pick(&[bytes[at] ^ 0x20, bytes[at].wrapping_add(1), 0, 255, rng.byte()]),
         Damage::OtherCase(at) => bytes[at] ^= 0x20,
         Damage::OtherKind => {
             let other = record::layout_of(3 - kind).expect("one of the two kinds");
-            put(bytes, 8, 4, other.description as u64);
+            put(bytes, DESCRIPTION, 4, other.description as u64);
         }
-        Damage::LabelLength(case) => put(bytes, 12, 8, label_lengths(kind, n)[case]),
+        Damage::LabelLength(case) => put(bytes, LABEL_LENGTH, 8, label_lengths(kind, n)[case]),
         Damage::LabelLengthNearby => {
             bytes.extend(rng.bytes(rng.between(0, 3)));
-            put(bytes, 12, 8, rng.pick(&[n as u64 - 21, n as u64 - 19, n as u64 - 18, n as u64]));
+            let right = (n - LABEL) as u64;
+            put(bytes, LABEL_LENGTH, 8, rng.pick(&[right - 1, right + 1, right + 2, n as u64]));
         }
         Damage::Block(field, value) => damaged_field(rng, bytes, kind, field, value),
         Damage::TypeAndLength(block) => {
@@ -360,7 +366,7 @@ fn damaged(rng: &Rng, bytes: &mut Vec<u8>, kind: u32, damage: Damage) {
         Damage::AnyTwo => {
             for _ in 0..2 {
                 let damage = match rng.below(3) {
-                    0 => Damage::Byte(rng.index(12)),
+                    0 => Damage::Byte(rng.index(LABEL_LENGTH)),
                     1 => Damage::Block(rng.index(8), rng.index(FIELD_VALUES)),
                     _ => Damage::LabelLength(rng.index(LABEL_LENGTHS)),
                 };
@@ -380,7 +386,7 @@ const LABEL_LENGTHS: usize = 12;
 /// At and around the kind's bounds, and such as a shorter number would take for the right one.
 fn label_lengths(kind: u32, n: usize) -> [u64; LABEL_LENGTHS] {
     let layout = record::layout_of(kind).expect("one of the two kinds");
-    let right = n as u64 - 20;
+    let right = (n - LABEL) as u64;
     [
         layout.shortest_label - 1,
         layout.shortest_label,
@@ -392,15 +398,15 @@ fn label_lengths(kind: u32, n: usize) -> [u64; LABEL_LENGTHS] {
         (1 << 32) + right,
         (1 << 63) + right,
         u64::MAX,
-        u64::MAX - 19,
-        u64::MAX - 20,
+        u64::MAX - LABEL as u64 + 1,
+        u64::MAX - LABEL as u64,
     ]
 }
 
 /// Where the type and length of the aggregation, primary, secondary and data label stand.
 fn block_fields(kind: u32) -> [usize; 8] {
     let data = record::layout_of(kind).expect("one of the two kinds").data_label;
-    [20, 22, 24, 26, 32, 34, data, data + 2]
+    [LABEL, LABEL + 2, PRIMARY, PRIMARY + 2, SECONDARY, SECONDARY + 2, data, data + 2]
 }
 
 const FIELD_VALUES: usize = 6;
@@ -409,13 +415,11 @@ const FIELD_VALUES: usize = 6;
 fn damaged_field(rng: &Rng, bytes: &mut [u8], kind: u32, field: usize, value: usize) {
     let at = block_fields(kind)[field];
     let right = record::number(bytes, at, 2) as u16;
-    let of_other_kind = match (field, kind) {
-        (1, TELEMETRY) => 232,
-        (1, _) => 92,
-        (4, TELEMETRY) => 104,
-        (4, _) => 78,
-        (5, TELEMETRY) => 220,
-        (5, _) => 80,
+    let other = record::layout_of(3 - kind).expect("one of the two kinds");
+    let of_other_kind = match field {
+        1 => other.aggregation_length,
+        4 => other.secondary_type,
+        5 => other.secondary_length,
         _ => right.swap_bytes(),
     };
     let values: [u16; FIELD_VALUES] = [
@@ -451,15 +455,15 @@ enum HeaderCase {
 
 /// Offset in the record, width, least and most of each judged RSR field but the bands.
 const RANGES: [(usize, usize, u64, u64); 10] = [
-    (28, 1, 21, 21),
-    (29, 1, 4, 4),
-    (31, 1, 0, 0),
+    (PRIMARY_VALUE, 1, 21, 21),
+    (PRIMARY_VALUE + 1, 1, 4, 4),
+    (PRIMARY_VALUE + 3, 1, 0, 0),
     (SECONDARY + 20, 1, 1, 3),
     (SECONDARY + 23, 1, 1, 127),
     (SECONDARY + 25, 1, 0, 63),
     (SECONDARY + 26, 1, 0, 128),
     (SECONDARY + 27, 1, 0, 128),
-    (SECONDARY + 28, 2, 1900, 3000),
+    (SECONDARY + 28, 2, FIRST_YEAR as u64, LAST_YEAR as u64),
     (SECONDARY + 30, 2, 1, 366),
 ];
 
@@ -519,7 +523,10 @@ fn header_case(rng: &Rng, case: HeaderCase) -> Frame {
             bytes[SECONDARY + 18] = rng.pick(b"SXKU");
             bytes[SECONDARY + 19] = rng.pick(b"SXKU");
         }
-        HeaderCase::RsrNoise => bytes[36..256].copy_from_slice(&rng.bytes(220)),
+        HeaderCase::RsrNoise => {
+            let noise = rng.bytes(RSR_LAYOUT.secondary_length as usize);
+            bytes[SECONDARY_VALUE..RSR_LAYOUT.data_label].copy_from_slice(&noise);
+        }
         HeaderCase::Signed(byte) => bytes[SECONDARY + 22] = byte,
         HeaderCase::TelemetryMode(band, byte_28) => {
             bytes[SECONDARY + 26] = band;
@@ -533,7 +540,7 @@ fn header_case(rng: &Rng, case: HeaderCase) -> Frame {
         }
         HeaderCase::Wanted(_, x) => wanted = x,
     }
-    Frame { op: 4, x: wanted, a: bytes, ..Frame::default() }
+    Frame { op: ops::READ_HEADERS, x: wanted, a: bytes, ..Frame::default() }
 }
 
 // Keys at and beyond the widths.
@@ -546,7 +553,7 @@ enum KeyCase {
 }
 
 fn widths(op: u32) -> [u32; 4] {
-    if op == 6 {
+    if op == ops::TELEMETRY_KEY {
         [10, 8, 16, 8]
     } else {
         [8, 8, 8, 8]
@@ -554,8 +561,8 @@ fn widths(op: u32) -> [u32; 4] {
 }
 
 fn key_cases() -> Vec<KeyCase> {
-    let mut cases = [KeyCase::Any(6), KeyCase::Any(7)].repeat(6);
-    for op in [6, 7] {
+    let mut cases = [ops::TELEMETRY_KEY, ops::RSR_KEY].map(KeyCase::Any).repeat(6);
+    for op in [ops::TELEMETRY_KEY, ops::RSR_KEY] {
         for (part, bits) in widths(op).into_iter().enumerate() {
             let values = [0, (1 << bits) - 1, 1 << bits, (1 << bits) + 1, 1 << 31, u32::MAX];
             cases.extend(values.map(|value| KeyCase::Part(op, part, value)));
@@ -615,9 +622,16 @@ fn write_case(rng: &Rng, case: WriteCase) -> Frame {
     let length = make::short_length(rng);
     let secondary =
         if rng.percent(80) { make::secondary(rng, kind) } else { vec![0; make::secondary(rng, kind).len()] };
-    let n = (secondary.len() + 40 + length) as u32;
-    let mut frame =
-        Frame { op: 5, x: kind, y: rng.word(), z: n, a: secondary, b: rng.bytes(length), ..Frame::default() };
+    let n = (record::layout_of(kind).expect("one of the two kinds").data_value + length) as u32;
+    let mut frame = Frame {
+        op: ops::WRITE_ONE,
+        x: kind,
+        y: rng.word(),
+        z: n,
+        a: secondary,
+        b: rng.bytes(length),
+        ..Frame::default()
+    };
     let other_lengths = [0, 1, 4, 79, 81, 84, 219, 221, 224, 300 - frame.a.len()];
     match case {
         WriteCase::Exact => {}
@@ -695,9 +709,9 @@ fn stream_case(rng: &Rng, case: StreamCase) -> (Vec<u8>, Vec<usize>) {
     }
     match case {
         StreamCase::Cut => stream.truncate(stream.len() - rng.between(1, 60)),
-        StreamCase::TrailingFew => stream.extend(vec![b'N'; rng.between(1, 19)]),
+        StreamCase::TrailingFew => stream.extend(vec![b'N'; rng.between(1, LABEL - 1)]),
         StreamCase::TrailingMany => {
-            let count = rng.between(20, 130);
+            let count = rng.between(LABEL, 130);
             stream.extend(rng.bytes(count));
         }
         _ => {}
@@ -731,16 +745,28 @@ fn long_case(rng: &Rng, case: LongCase) -> Frame {
     let most = record::MOST_DATA;
     let n = (layout.data_value + most) as u32;
     let mut a = make::good_record(rng, kind, most);
-    let write = |z, b| Frame { op: 5, x: kind, y: rng.word(), z, a: make::secondary(rng, kind), b, ..Frame::default() };
+    let write = |z, b| Frame {
+        op: ops::WRITE_ONE,
+        x: kind,
+        y: rng.word(),
+        z,
+        a: make::secondary(rng, kind),
+        b,
+        ..Frame::default()
+    };
     match case {
-        LongCase::Read(_) => Frame { op: rng.pick(&[1, 2, 3, 3, 4]), x: kind, a, ..Frame::default() },
+        LongCase::Read(_) => {
+            let op = rng.pick(&[ops::READ_ONE, ops::SECONDARY_PART, ops::DATA_PART, ops::DATA_PART, ops::READ_HEADERS]);
+            Frame { op, x: kind, a, ..Frame::default() }
+        }
         LongCase::DataLengthWrong => {
             put(&mut a, layout.data_label + 2, 2, most as u64 - 1);
-            Frame { op: 1, a, ..Frame::default() }
+            Frame { op: ops::READ_ONE, a, ..Frame::default() }
         }
         LongCase::FollowedBy => {
             let key = a.len() as u64;
-            Frame { op: rng.pick(&[8, 11]), key, a: [a, make::good_record(rng, RSR, 4)].concat(), ..Frame::default() }
+            let op = rng.pick(&[ops::WALK, ops::STEP]);
+            Frame { op, key, a: [a, make::good_record(rng, RSR, 4)].concat(), ..Frame::default() }
         }
         LongCase::Write => write(rng.pick(&[n - 1, n, n + 1, MOST_SLICE]), rng.bytes(most)),
         LongCase::WriteTooMuch => write(MOST_SLICE, rng.bytes(if rng.percent(80) { most + 1 } else { MOST_B })),

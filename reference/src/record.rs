@@ -12,8 +12,8 @@ pub const VERSION_AND_CLASS: [u8; 4] = *b"2I00";
 
 // Offsets in every record; the aggregation label stands behind the label.
 const VERSION: usize = 4;
-const DESCRIPTION: usize = 8;
-const LABEL_LENGTH: usize = 12;
+pub const DESCRIPTION: usize = 8;
+pub const LABEL_LENGTH: usize = 12;
 pub const LABEL: usize = 20;
 pub const PRIMARY: usize = 24;
 pub const PRIMARY_VALUE: usize = 28;
@@ -360,7 +360,7 @@ fn read_rsr(primary: &[u8; 4], block: &[u8; RSR_BLOCK]) -> Result<Rsr, Refused> 
     judge_field(SECONDARY + 25, block[25] <= 63)?;
     judge_field(SECONDARY + 26, block[26] <= 128)?;
     judge_field(SECONDARY + 27, block[27] <= 128)?;
-    judge_field(SECONDARY + 28, (1900..=3000).contains(&year))?;
+    judge_field(SECONDARY + 28, (dates::FIRST_YEAR..=dates::LAST_YEAR).contains(&year.into()))?;
     let Some(day_count) = dates::day_count(year.into(), day.into()) else {
         return Err(Refused::Field { number: 12, offset: SECONDARY + 30 });
     };

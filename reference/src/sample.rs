@@ -2,7 +2,7 @@
 
 use crate::make::{self, put, put_secondary, Rng, RSR_PRIMARY, TELEMETRY_PRIMARY};
 use crate::random::old_sheets::as_old;
-use crate::record::{self, RSR, SECONDARY, TELEMETRY};
+use crate::record::{self, RSR, TELEMETRY, TELEMETRY_LAYOUT};
 use crate::{iq, keys, ledger, list, tapes};
 use std::io::{self, Write};
 
@@ -113,7 +113,7 @@ pub static LISTED: [Sample; 5] = [
         name: "longest",
         last_line: "65776 0 0",
         about: "The longest record that fits the program's buffer, between two of 120 bytes; the greatest number.",
-        make: || [plain(1, 0), plain(2, list::WINDOW - 120), plain(u32::MAX, 0)].concat(),
+        make: || [plain(1, 0), plain(2, list::WINDOW - TELEMETRY_LAYOUT.data_value), plain(u32::MAX, 0)].concat(),
     },
     Sample {
         name: "mixed",
@@ -125,7 +125,9 @@ pub static LISTED: [Sample; 5] = [
         name: "over-cut",
         last_line: "120 17 0",
         about: "The stream ends behind the label of a record one byte too long for the buffer: 17 stands before 6.",
-        make: || [&plain(7, 0)[..], &plain(8, list::WINDOW - 119)[..record::LABEL]].concat(),
+        make: || {
+            [&plain(7, 0)[..], &plain(8, list::WINDOW + 1 - TELEMETRY_LAYOUT.data_value)[..record::LABEL]].concat()
+        },
     },
 ];
 
@@ -222,8 +224,8 @@ fn tone() -> Vec<u8> {
     let rng = Rng::new(SEED);
     let second = |number: u32| {
         let mut record = rsr(&rng, 1, number, 2_000);
-        record[SECONDARY + 36] = 8;
-        put(&mut record, SECONDARY + 38, 2, 1);
+        record[iq::SIZE] = 8;
+        put(&mut record, iq::RATE, 2, 1);
         let turns = (0..1_000).map(|n| n + 1_000 * number as usize);
         // A number is odd.
         let numbers: Vec<i32> = turns.flat_map(|n| [cosine(n), cosine(n + 36)]).map(|c| c >> 1 << 1 | 1).collect();
@@ -339,7 +341,7 @@ fn stopped(spoil: fn(&mut Vec<u8>)) -> Vec<u8> {
 }
 
 fn too_long() -> Vec<u8> {
-    stopped(|r| *r = telemetry(&Rng::new(SEED), 1, 9, 65_537 - 120))
+    stopped(|r| *r = telemetry(&Rng::new(SEED), 1, 9, list::WINDOW + 1 - TELEMETRY_LAYOUT.data_value))
 }
 
 /// A stream of whole records, of at least `bytes` bytes: the same some megabytes over and over.
@@ -382,8 +384,7 @@ pub fn mixed_record(rng: &Rng) -> Vec<u8> {
 /// Streams of records all of one length, for benchmarks.
 pub fn telemetry_stream(records: u32, record_length: usize) -> Vec<u8> {
     let rng = Rng::new(SEED);
-    let shortest = record::layout_of(TELEMETRY).expect("one of the two kinds").data_value;
-    let mut record = telemetry(&rng, 1, 0, record_length - shortest);
+    let mut record = telemetry(&rng, 1, 0, record_length - TELEMETRY_LAYOUT.data_value);
     let mut stream = Vec::with_capacity(records as usize * record_length);
     let (at, width) = record::number_field(TELEMETRY);
     for number in 0..records {
@@ -396,8 +397,8 @@ pub fn telemetry_stream(records: u32, record_length: usize) -> Vec<u8> {
 /// A record with the most samples of a size, for benchmarks.
 pub fn samples_record(size: u32, rate: u32) -> Vec<u8> {
     let mut record = rsr(&Rng::new(SEED), 1, 7, 65_532);
-    record[SECONDARY + 36] = size as u8;
-    put(&mut record, SECONDARY + 38, 2, rate.into());
+    record[iq::SIZE] = size as u8;
+    put(&mut record, iq::RATE, 2, rate.into());
     record
 }
 

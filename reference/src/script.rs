@@ -2,7 +2,7 @@
 
 use crate::record::{self, Fields, Record, Refused, Rsr, Telemetry};
 use crate::stream::{self, Cursor, Step, Stop};
-use crate::{convert, dates, gain, keys, ledger};
+use crate::{convert, dates, gain, keys, ledger, ops};
 use std::io::{self, Write};
 
 mod idr;
@@ -10,6 +10,9 @@ mod iq;
 mod replay;
 mod season;
 mod settings;
+
+pub use idr::MOST_TAPE_SLICE;
+pub use settings::MOST_SETTINGS;
 
 pub const HEADER: usize = 40;
 pub const MOST_A: usize = 131_072;
@@ -101,25 +104,25 @@ impl Calls {
     /// The line of a call; none for a frame that is bad.
     pub fn line(&mut self, f: &Frame) -> Option<String> {
         match f.op {
-            1 => Some(line_of_record(record::read_one(&f.a))),
-            2 => Some(line_of_part(record::secondary_part(&f.a))),
-            3 => Some(line_of_part(record::data_part(&f.a))),
-            4 => Some(line_of_headers(record::read_headers(&f.a, f.x))),
-            5 => write_one(f),
-            6 => Some(line_of_key(keys::telemetry_key(f.x, f.y, f.z, f.w))),
-            7 => Some(line_of_key(keys::rsr_key(f.x, f.y, f.z, f.w))),
-            8 => Some(line_of_stop(&stream::walk(&f.a))),
-            9 => number_lists(f),
-            11 => Some(line_of_step(Cursor { place: f.key }.step(&f.a))),
-            12 => Some(line_of_date(dates::date_of(f.x))),
-            13 => iq::unpack(f),
-            14 => iq::pack(f),
-            15 => Some(line_of_gain(gain::gain(&f.a, f.x))),
-            16 => Some(idr::read(f)),
-            17 => idr::write(f),
-            19..=32 => self.ledger_line(f),
-            33 => Some(season::line(f)),
-            39..=42 => settings::line(&mut self.settings, f),
+            ops::READ_ONE => Some(line_of_record(record::read_one(&f.a))),
+            ops::SECONDARY_PART => Some(line_of_part(record::secondary_part(&f.a))),
+            ops::DATA_PART => Some(line_of_part(record::data_part(&f.a))),
+            ops::READ_HEADERS => Some(line_of_headers(record::read_headers(&f.a, f.x))),
+            ops::WRITE_ONE => write_one(f),
+            ops::TELEMETRY_KEY => Some(line_of_key(keys::telemetry_key(f.x, f.y, f.z, f.w))),
+            ops::RSR_KEY => Some(line_of_key(keys::rsr_key(f.x, f.y, f.z, f.w))),
+            ops::WALK => Some(line_of_stop(&stream::walk(&f.a))),
+            ops::LIST_NUMBERS => number_lists(f),
+            ops::STEP => Some(line_of_step(Cursor { place: f.key }.step(&f.a))),
+            ops::DATE_OF => Some(line_of_date(dates::date_of(f.x))),
+            ops::UNPACK => iq::unpack(f),
+            ops::PACK => iq::pack(f),
+            ops::GAIN => Some(line_of_gain(gain::gain(&f.a, f.x))),
+            ops::READ_TAPE => Some(idr::read(f)),
+            ops::WRITE_TAPE => idr::write(f),
+            ops::NEW_SHEET..=ops::REPLAY => self.ledger_line(f),
+            ops::SEASON => Some(season::line(f)),
+            ops::NEW_SETTINGS..=ops::ASK => settings::line(&mut self.settings, f),
             _ => None,
         }
     }
@@ -130,29 +133,29 @@ impl Calls {
         let nothing = |_| String::new();
         let row = |row: usize| format!(" {row}");
         let answer = match f.op {
-            19 => {
+            ops::NEW_SHEET => {
                 if f.a.len() > MOST_SHEET {
                     return None;
                 }
                 *s = f.a.clone();
                 Ok(String::new())
             }
-            20 => ledger::fresh(s).map(nothing),
-            21 => ledger::enrol(s, f.key, f.x).map(row),
-            22 => ledger::find(s, f.key).map(row),
-            23 => ledger::open(s, f.x, f.y).map(nothing),
-            24 => ledger::tick(s, f.x, f.y).map(nothing),
-            25 => ledger::untick(s, f.x, f.y).map(nothing),
-            26 => ledger::save(s, f.x).map(nothing),
-            27 => ledger::drop_desk(s, f.x).map(nothing),
-            28 => ledger::report(s, f.x)
+            ops::FRESH => ledger::fresh(s).map(nothing),
+            ops::ENROL => ledger::enrol(s, f.key, f.x).map(row),
+            ops::FIND => ledger::find(s, f.key).map(row),
+            ops::OPEN => ledger::open(s, f.x, f.y).map(nothing),
+            ops::TICK => ledger::tick(s, f.x, f.y).map(nothing),
+            ops::UNTICK => ledger::untick(s, f.x, f.y).map(nothing),
+            ops::SAVE => ledger::save(s, f.x).map(nothing),
+            ops::DROP => ledger::drop_desk(s, f.x).map(nothing),
+            ops::ROW_REPORT => ledger::report(s, f.x)
                 .map(|report| format!(" {} {} {}", report.ticked, report.missing, or_none(report.lowest))),
-            29 => ledger::first_gap(s).map(|gap| match gap {
+            ops::FIRST_GAP => ledger::first_gap(s).map(|gap| match gap {
                 Some((number, row)) => format!(" {number} {row}"),
                 None => " none".to_string(),
             }),
-            30 => ledger::strike(s, f.x).map(nothing),
-            31 => {
+            ops::STRIKE => ledger::strike(s, f.x).map(nothing),
+            ops::CONVERT => {
                 if f.z > MOST_SHEET as u32 {
                     return None;
                 }
@@ -319,8 +322,8 @@ fn number_lists(f: &Frame) -> Option<String> {
 /// The refusal number in a call's line; 0 where there is none, and for parts, whose lines have no such word.
 pub fn refusal_in(op: u32, line: &str) -> u32 {
     let at = match op {
-        2 | 3 => return 0,
-        8 | 9 => 2,
+        ops::SECONDARY_PART | ops::DATA_PART => return 0,
+        ops::WALK | ops::LIST_NUMBERS => 2,
         _ => 0,
     };
     line.split(' ').nth(at).and_then(|word| word.parse().ok()).unwrap_or(0)

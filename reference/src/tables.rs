@@ -1,17 +1,18 @@
 //! The table of entries has no call in scripts, so it is held to the number lists here; `table/` does the same for the
 //! proved library.
 
-use crate::random;
+use crate::script::MOST_LIST;
 use crate::stream::{self, number_lists, Entry};
+use crate::{ops, random};
 
 const STALE: Entry = Entry { place: 7, length: 7, kind: 7, number: 7 };
 
 /// Lends tables of several lengths for the streams of a random script; stops at the first difference.
 pub fn compare(seed: u64, count: usize) -> usize {
-    let streams = random::script(seed, count).into_iter().filter(|frame| frame.op == 9);
+    let streams = random::script(seed, count).into_iter().filter(|frame| frame.op == ops::LIST_NUMBERS);
     let mut tried = 0;
     for frame in streams {
-        for free in [frame.x, frame.y, 0, 1, 64] {
+        for free in [frame.x, frame.y, 0, 1, MOST_LIST] {
             let mut entries = vec![STALE; free as usize];
             let stop = stream::table(&frame.a, &mut entries);
             let (expected_stop, expected) = by_lists(&frame.a, free as usize);

@@ -88,7 +88,7 @@ pub static TAPES: [Sample; 6] = [
         name: "tapes/refusal-51",
         last_line: "5056 51 length word not 2528",
         about: "Word 3 of the second record says 2527 (byte 5060).",
-        make: || behind_one(|tape| put_word(tape, 3, 2_527)),
+        make: || behind_one(|tape| put_word(tape, 3, LENGTH_WORD - 1)),
     },
     Sample {
         name: "tapes/refusal-52",

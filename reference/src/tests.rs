@@ -7,7 +7,7 @@ use crate::make::{self, Rng};
 use crate::record::{self, Fields, Record, Refused, Rsr, Telemetry, RSR, TELEMETRY};
 use crate::script::{self, Frame};
 use crate::stream::{self, Cursor, Entry, Step, Stop};
-use crate::{keys, list, nights, privacy, random, sample};
+use crate::{keys, list, nights, ops, privacy, random, sample};
 use std::collections::BTreeSet;
 use std::io::{self, Read};
 
@@ -565,13 +565,13 @@ fn how_long_a_list_must_be() {
 /// The book's call that a frame makes, if it is one.
 fn call_of(f: &Frame) -> Option<Call> {
     match f.op {
-        21 => Some(Call::Enrol(f.key, f.x)),
-        23 => Some(Call::Open(f.x, f.y)),
-        24 => Some(Call::Tick(f.x, f.y)),
-        25 => Some(Call::Untick(f.x, f.y)),
-        26 => Some(Call::Save(f.x)),
-        27 => Some(Call::Drop(f.x)),
-        30 => Some(Call::Strike(f.x)),
+        ops::ENROL => Some(Call::Enrol(f.key, f.x)),
+        ops::OPEN => Some(Call::Open(f.x, f.y)),
+        ops::TICK => Some(Call::Tick(f.x, f.y)),
+        ops::UNTICK => Some(Call::Untick(f.x, f.y)),
+        ops::SAVE => Some(Call::Save(f.x)),
+        ops::DROP => Some(Call::Drop(f.x)),
+        ops::STRIKE => Some(Call::Strike(f.x)),
         _ => None,
     }
 }
@@ -588,14 +588,14 @@ fn the_ledger_is_the_book_laid_out() {
             let mut words = line.split(' ');
             let mut word = || words.next().unwrap().parse::<u32>().ok();
             match f.op {
-                19 => {
+                ops::NEW_SHEET => {
                     book = Book::of_sheet(&calls.sheet);
                     assert_eq!(ledger::is_sheet(&calls.sheet), book.is_some());
                 }
-                20 if calls.sheet.len() == 6_968 => book = Some(Book::new()),
+                ops::FRESH if calls.sheet.len() == 6_968 => book = Some(Book::new()),
                 // What a replay leaves is held to the book in tests/replay.rs.
-                32 => book = Book::of_sheet(&calls.sheet),
-                31 => {
+                ops::REPLAY => book = Book::of_sheet(&calls.sheet),
+                ops::CONVERT => {
                     book = Book::of_sheet_as(&book::OLD, &f.a).filter(|_| f.z == 6_968);
                     assert_eq!(word(), Some(if book.is_some() { 0 } else { 20 }));
                     let left = book.as_ref().map_or(vec![165; f.z as usize], Book::laid_out);
@@ -607,21 +607,21 @@ fn the_ledger_is_the_book_laid_out() {
             if let Some(call) = call_of(&f) {
                 let answer = book.call(call);
                 assert_eq!(word(), Some(answer.err().unwrap_or(0)), "{call:?}");
-                if let (21, Ok(row)) = (f.op, answer) {
+                if let (ops::ENROL, Ok(row)) = (f.op, answer) {
                     assert_eq!(word(), Some(row as u32));
                 }
                 assert_eq!(book.laid_out(), calls.sheet);
                 compared += 1;
             }
-            if f.op == 22 {
+            if f.op == ops::FIND {
                 assert_eq!(ledger::find(&calls.sheet, f.key), book.find(f.key));
             }
-            if f.op == 28 {
+            if f.op == ops::ROW_REPORT {
                 let answer =
                     ledger::report(&calls.sheet, f.x).map(|r| (r.ticked as usize, r.missing as usize, r.lowest));
                 assert_eq!(answer, book.report(f.x));
             }
-            if f.op == 29 {
+            if f.op == ops::FIRST_GAP {
                 assert_eq!(ledger::first_gap(&calls.sheet), Ok(book.first_gap()));
             }
         }
@@ -696,30 +696,30 @@ fn script_lines() {
     secondary[18] = 255;
     let r = by_hand(RSR, 243, &secondary, b"abc");
     let of = |op, x, a: &[u8]| Frame { op, x, a: a.to_vec(), ..Frame::default() };
-    let list = Frame { op: 9, x: 2, y: 1, z: 1, w: 0, a: t.clone(), ..Frame::default() };
-    let step = |key| Frame { op: 11, key, a: t.clone(), ..Frame::default() };
-    let write = |z| Frame { op: 5, x: 1, y: 0x0102_0304, z, a: vec![0; 80], ..Frame::default() };
+    let list = Frame { op: ops::LIST_NUMBERS, x: 2, y: 1, z: 1, w: 0, a: t.clone(), ..Frame::default() };
+    let step = |key| Frame { op: ops::STEP, key, a: t.clone(), ..Frame::default() };
+    let write = |z| Frame { op: ops::WRITE_ONE, x: 1, y: 0x0102_0304, z, a: vec![0; 80], ..Frame::default() };
     assert_eq!(
         lines(&[
-            of(1, 0, &t),
-            of(1, 0, &t[..50]),
-            of(2, 0, &t[..50]),
-            of(3, 0, &r),
-            of(4, 1, &t),
-            of(4, 2, &r),
-            of(4, 3, &r),
+            of(ops::READ_ONE, 0, &t),
+            of(ops::READ_ONE, 0, &t[..50]),
+            of(ops::SECONDARY_PART, 0, &t[..50]),
+            of(ops::DATA_PART, 0, &r),
+            of(ops::READ_HEADERS, 1, &t),
+            of(ops::READ_HEADERS, 2, &r),
+            of(ops::READ_HEADERS, 3, &r),
             write(0),
-            of(8, 0, &t),
-            of(8, 0, &t[..119]),
+            of(ops::WALK, 0, &t),
+            of(ops::WALK, 0, &t[..119]),
             list,
             step(0),
             step(119),
             step(120),
             step(121),
-            of(7, 256, &[]),
-            of(20, 0, &[]),
-            of(19, 0, &[]),
-            of(20, 0, &[]),
+            of(ops::RSR_KEY, 256, &[]),
+            of(ops::FRESH, 0, &[]),
+            of(ops::NEW_SHEET, 0, &[]),
+            of(ops::FRESH, 0, &[]),
         ]),
         [
             "0 1 120 21 4 255 0",
@@ -747,7 +747,7 @@ fn script_lines() {
 
 #[test]
 fn bad_frames() {
-    let good = Frame { op: 6, ..Frame::default() };
+    let good = Frame { op: ops::TELEMETRY_KEY, ..Frame::default() };
     let mut bytes = Vec::new();
     good.write(&mut bytes).unwrap();
     assert_eq!(lines_of(&[]), [""; 0]);
@@ -756,10 +756,10 @@ fn bad_frames() {
     for op in [0, 10, 18, 34, 38, 43, u32::MAX] {
         assert_eq!(lines(&[good.clone(), Frame { op, ..Frame::default() }, good.clone()]), ["0 0", "bad frame"]);
     }
-    let most = Frame { op: 8, a: vec![0; 131_072], b: vec![0; 66_000], ..Frame::default() };
+    let most = Frame { op: ops::WALK, a: vec![0; 131_072], b: vec![0; 66_000], ..Frame::default() };
     assert_eq!(lines(&[most]), ["0 0 2 0"]);
-    assert_eq!(lines(&[Frame { op: 8, a: vec![0; 131_073], ..Frame::default() }]), ["bad frame"]);
-    assert_eq!(lines(&[Frame { op: 8, b: vec![0; 66_001], ..Frame::default() }]), ["bad frame"]);
+    assert_eq!(lines(&[Frame { op: ops::WALK, a: vec![0; 131_073], ..Frame::default() }]), ["bad frame"]);
+    assert_eq!(lines(&[Frame { op: ops::WALK, b: vec![0; 66_001], ..Frame::default() }]), ["bad frame"]);
 }
 
 #[test]

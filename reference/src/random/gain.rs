@@ -2,6 +2,7 @@
 
 use super::{damaged, damages, header_case, Generator};
 use crate::make;
+use crate::ops;
 use crate::record::{RSR, TELEMETRY};
 use crate::script::Frame;
 
@@ -44,7 +45,7 @@ impl Generator {
                 }
                 _ => {}
             }
-            self.emit(Frame { op: 15, x: edition, a, ..Frame::default() });
+            self.emit(Frame { op: ops::GAIN, x: edition, a, ..Frame::default() });
         }
     }
 }

@@ -1,9 +1,10 @@
 //! Medium band records in random scripts: every field at its edges, and what the writer is lent.
 
 use super::Generator;
-use crate::idr::{HEADER_WORDS, LENGTH_WORD, RATES, RECORD, SAMPLES};
+use crate::idr::{HEADER, HEADER_WORDS, LENGTH_WORD, PLAYBACK_RATES, RATES, RECORD, SAMPLES};
 use crate::make::Rng;
-use crate::script::Frame;
+use crate::ops;
+use crate::script::{Frame, MOST_TAPE_SLICE};
 
 #[derive(Clone, Copy)]
 pub enum TapeCase {
@@ -51,9 +52,9 @@ pub fn tape_cases() -> Vec<Vec<TapeCase>> {
     no_times.extend([1_000_000, 1_048_575].map(Microseconds));
     let codes = RATES.map(|(code, _)| code);
     let unlisted = (0..32).filter(|code| !codes.contains(code));
-    let unlisted_playback = (0..32).filter(|code| !codes[..3].contains(code));
-    let records = [0, 1, 55, 56, 5_000, RECORD - 2, RECORD - 1, RECORD + 1, RECORD + 2, 2 * RECORD];
-    let slices = [0, RECORD - 1, RECORD + 1, 8_192].map(|slice| Lent(HEADER_WORDS, SAMPLES, slice));
+    let unlisted_playback = (0..32).filter(|code| !codes[..PLAYBACK_RATES].contains(code));
+    let records = [0, 1, HEADER - 1, HEADER, SAMPLES, RECORD - 2, RECORD - 1, RECORD + 1, RECORD + 2, 2 * RECORD];
+    let slices = [0, RECORD - 1, RECORD + 1, MOST_TAPE_SLICE as usize].map(|slice| Lent(HEADER_WORDS, SAMPLES, slice));
     let words = [0, HEADER_WORDS - 1, HEADER_WORDS + 1].map(|words| Lent(words, SAMPLES, RECORD));
     let samples = [0, SAMPLES - 1, SAMPLES + 1].map(|samples| Lent(HEADER_WORDS, samples, RECORD));
     vec![
@@ -62,7 +63,7 @@ pub fn tape_cases() -> Vec<Vec<TapeCase>> {
         lengths.into_iter().flat_map(|word| [true, false].map(|tagged| LengthWord(word, tagged))).collect(),
         times,
         no_times,
-        codes[..3].iter().map(|code| Playback(*code)).chain(codes.map(Sampling)).collect(),
+        codes[..PLAYBACK_RATES].iter().map(|code| Playback(*code)).chain(codes.map(Sampling)).collect(),
         unlisted_playback.map(Playback).chain(unlisted.map(Sampling)).collect(),
         [8_388_608, 8_388_609, 16_702_216, 16_711_679, 16_711_680, 16_777_215].map(Block).to_vec(),
         [0, 1, 75_000, 8_388_607].map(Block).to_vec(),
@@ -82,8 +83,9 @@ impl Generator {
         spoil(&self.rng, &mut words, case);
         let samples = self.rng.bytes(SAMPLES);
         let header: Vec<u8> = words.iter().flat_map(|word| word.to_be_bytes()).collect();
-        let mut write = Frame { op: 17, z: RECORD as u32, a: header.clone(), b: samples.clone(), ..Frame::default() };
-        let mut read = Frame { op: 16, a: [header, samples].concat(), ..Frame::default() };
+        let mut write =
+            Frame { op: ops::WRITE_TAPE, z: RECORD as u32, a: header.clone(), b: samples.clone(), ..Frame::default() };
+        let mut read = Frame { op: ops::READ_TAPE, a: [header, samples].concat(), ..Frame::default() };
         match case {
             TapeCase::Lent(words, samples, slice) => {
                 write.a.resize(2 * words, 0);
@@ -117,7 +119,7 @@ fn tagged_words(rng: &Rng) -> [u16; HEADER_WORDS] {
     put_pair(&mut words, 5, rng.below(60) as u16);
     put_pair(&mut words, 7, rng.below(60) as u16);
     put_microseconds(&mut words, rng.below(1_000_000) as u32);
-    put_code(&mut words[9], rng.pick(&RATES[..3]).0);
+    put_code(&mut words[9], rng.pick(&RATES[..PLAYBACK_RATES]).0);
     put_code(&mut words[10], rng.pick(&RATES).0);
     put_block(&mut words, (1 << 23) + rng.below(1 << 23) as u32);
     words

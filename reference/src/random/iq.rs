@@ -1,9 +1,10 @@
 //! Samples in random scripts: every listed size and rate unpacked and packed, and what is refused.
 
 use super::{damaged, damages, header_case, Generator};
-use crate::iq::LISTED;
+use crate::iq::{LISTED, RATE, SIZE};
 use crate::make::{self, put, Rng};
-use crate::record::{RSR, SECONDARY, TELEMETRY};
+use crate::ops;
+use crate::record::{RSR, TELEMETRY};
 use crate::script::Frame;
 
 /// What is wrong, if anything; several at once to try the order.
@@ -101,12 +102,12 @@ impl Generator {
             _ => {}
         }
         let rng = &self.rng;
-        if a.len() > SECONDARY + 40 {
-            a[SECONDARY + 36] = size as u8;
-            put(&mut a, SECONDARY + 38, 2, rate.into());
+        if a.len() > RATE + 2 {
+            a[SIZE] = size as u8;
+            put(&mut a, RATE, 2, rate.into());
         }
         let needed = (8 * length / size.max(1) as usize) as u32;
-        Frame { op: 13, z: lent(rng, case, needed), a, ..Frame::default() }
+        Frame { op: ops::UNPACK, z: lent(rng, case, needed), a, ..Frame::default() }
     }
 }
 
@@ -140,7 +141,7 @@ fn pack_case(rng: &Rng, case: IqCase) -> Frame {
     let needed = (count * real as usize / 8) as u32;
     let z = lent(rng, case, needed);
     let a = numbers.iter().flat_map(|n| n.to_be_bytes()).collect();
-    Frame { op: 14, x: size, y: rate, z, a, ..Frame::default() }
+    Frame { op: ops::PACK, x: size, y: rate, z, a, ..Frame::default() }
 }
 
 fn pair_of(rng: &Rng, case: IqCase) -> (u32, u32) {

@@ -5,6 +5,7 @@ use crate::convert::{OLD_DESKS, OLD_SHEET};
 use crate::ledger::{self, DESK_PLACES, OPENED, ROW_PLACES, SHEET, WORKED};
 use crate::make::{put, Rng};
 use crate::nights::{sheet_case, sheet_cases, used_first_sheet, SheetCase};
+use crate::ops;
 use crate::record::number;
 use crate::script::{Frame, MOST_SHEET};
 
@@ -36,12 +37,12 @@ impl Generator {
         let case = self.old_sheets.deal(&self.rng);
         let old = old_case(&self.rng, case);
         if self.rng.percent(20) {
-            self.emit(Frame { op: 19, a: old.clone(), ..Frame::default() });
+            self.emit(Frame { op: ops::NEW_SHEET, a: old.clone(), ..Frame::default() });
             let op = self.sheet_ops.deal(&self.rng);
             self.call(op);
         }
         let z = if let OldCase::Slice(length) = case { length } else { SHEET } as u32;
-        self.emit(Frame { op: 31, z, a: old, ..Frame::default() });
+        self.emit(Frame { op: ops::CONVERT, z, a: old, ..Frame::default() });
         for _ in 0..self.rng.between(1, 4) {
             let op = self.sheet_ops.deal(&self.rng);
             self.call(op);
@@ -65,8 +66,8 @@ fn old_case(rng: &Rng, case: OldCase) -> Vec<u8> {
 /// A new sheet's bytes in document 01's places: without the used words, and with the old sizes in the header where the new
 /// ones were right.
 pub fn as_old(new: &[u8]) -> Vec<u8> {
-    let without_word = |at: usize| &new[at + 4..at + ledger::ROW];
-    let mut old = new[..24].to_vec();
+    let without_word = |at: usize| &new[at + ledger::KEY..at + ledger::ROW];
+    let mut old = new[..ledger::ROWS].to_vec();
     for (at, right, old_right) in [(0, SHEET, OLD_SHEET), (20, ledger::DESKS, OLD_DESKS)] {
         if number(new, at, 4) == right as u64 {
             put(&mut old, at, 4, old_right as u64);

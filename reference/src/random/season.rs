@@ -2,9 +2,10 @@
 
 use super::Generator;
 use crate::keys::FIRST_RSR;
-use crate::ledger::{self, ROW, SHEET, TICKS};
+use crate::ledger::{self, DESK_PLACES, ROW, ROW_PLACES, SHEET, TICKS};
 use crate::make::Rng;
 use crate::nights::{sheet_case, ticks};
+use crate::ops;
 use crate::script::Frame;
 use crate::season::MOST_SHEETS;
 
@@ -48,7 +49,7 @@ impl Generator {
         let mut streams = Streams::default();
         let mut sheets: Vec<Vec<u8>> = match case {
             SeasonCase::Sheets(count) => (0..count).map(|_| streams.sheet(rng, rng.index(6))).collect(),
-            SeasonCase::Full(count) => (0..count).map(|_| streams.sheet(rng, 32)).collect(),
+            SeasonCase::Full(count) => (0..count).map(|_| streams.sheet(rng, ROW_PLACES)).collect(),
             SeasonCase::TooMany => vec![streams.sheet(rng, 0); MOST_SHEETS + 1],
             _ => (0..2).map(|_| streams.sheet(rng, rng.between(1, 5))).collect(),
         };
@@ -72,7 +73,7 @@ impl Generator {
             SeasonCase::Damaged => sheets[rng.index(2)] = sheet_case(rng, damage, true),
             _ => {}
         }
-        self.emit(Frame { op: 33, a: sheets.concat(), ..Frame::default() });
+        self.emit(Frame { op: ops::SEASON, a: sheets.concat(), ..Frame::default() });
     }
 }
 
@@ -103,7 +104,7 @@ impl Streams {
             ledger::strike(&mut s, rng.index(rows + struck) as u32).expect("a used row");
         }
         if let Some(row) = ledger::used_rows(&s).last().filter(|_| rng.percent(30)) {
-            ledger::open(&mut s, rng.index(8) as u32, row as u32).expect("a closed desk");
+            ledger::open(&mut s, rng.index(DESK_PLACES) as u32, row as u32).expect("a closed desk");
         }
         s
     }
@@ -111,7 +112,7 @@ impl Streams {
 
 /// Every row is ticked from its start up to somewhere, and all desks are closed.
 fn close_gaps(rng: &Rng, s: &mut [u8]) {
-    for desk in 0..8 {
+    for desk in 0..DESK_PLACES as u32 {
         let _ = ledger::drop_desk(s, desk);
     }
     let rows: Vec<usize> = ledger::used_rows(s).collect();

@@ -1,14 +1,16 @@
 //! Mission settings in random scripts: added, asked for, and settings sheets right and damaged.
 
 use super::Generator;
+use crate::dates::LAST_COUNT;
 use crate::make::{put, Rng};
+use crate::ops;
 use crate::record::number;
-use crate::script::Frame;
-use crate::settings::{self, Setting, COUNT, EDITION, ENTRIES, ENTRY, FIRST_DAY, PLACES, SETTINGS};
+use crate::script::{Frame, MOST_SETTINGS};
+use crate::settings::{self, Setting, COUNT, EDITION, ENTRIES, ENTRY, FIRST_DAY, PLACES, SETTINGS, ZEROS};
 
 /// Few missions and days, so that many are there already.
 const MISSIONS: [u8; 5] = [0, 1, 74, 177, 255];
-const DAYS: [u32; 12] = [0, 1, 2, 39_000, 39_001, 40_000, 65_535, 65_536, 402_131, 1 << 31, u32::MAX - 1, u32::MAX];
+const DAYS: [u32; 12] = [0, 1, 2, 39_000, 39_001, 40_000, 65_535, 65_536, LAST_COUNT, 1 << 31, u32::MAX - 1, u32::MAX];
 const BAD_EDITIONS: [u32; 7] = [0, 3, 255, 256, 257, 65_537, u32::MAX];
 
 /// What a scene starts from.
@@ -48,12 +50,19 @@ pub enum Damage {
 }
 
 pub fn damages() -> Vec<Damage> {
-    let mut damages = [0, 1, SETTINGS - 1, SETTINGS + 1, 1_024].map(Damage::Length).to_vec();
-    damages.extend([(0, 783), (0, 0), (2, 63), (2, 65), (3, 12), (3, 0x1000)].map(|(i, word)| Damage::Header(i, word)));
-    damages.extend([(3, 2), (3, 4), (64, 65), (64, 63), (1, u32::MAX)].map(|(n, said)| Damage::Count(n, said)));
+    let (length, places) = (SETTINGS as u32, PLACES as u32);
+    let mut damages = [0, 1, SETTINGS - 1, SETTINGS + 1, MOST_SETTINGS].map(Damage::Length).to_vec();
+    damages.extend(
+        [(0, length - 1), (0, 0), (2, places - 1), (2, places + 1), (3, 12), (3, 0x1000)]
+            .map(|(i, word)| Damage::Header(i, word)),
+    );
+    damages.extend(
+        [(3, 2), (3, 4), (PLACES, places + 1), (PLACES, places - 1), (1, u32::MAX)]
+            .map(|(n, said)| Damage::Count(n, said)),
+    );
     damages.extend([0, 3, 255].map(Damage::Edition));
-    damages.extend([2, 3].map(Damage::Zeros));
-    damages.extend([0, 1, 2, 3, 4, 11].map(Damage::Unused));
+    damages.extend([ZEROS, ZEROS + 1].map(Damage::Zeros));
+    damages.extend([0, EDITION, ZEROS, ZEROS + 1, FIRST_DAY, ENTRY - 1].map(Damage::Unused));
     damages.extend([Damage::SameDay, Damage::SameDay, Damage::AnyBit, Damage::AllZero]);
     damages
 }
@@ -64,10 +73,10 @@ impl Generator {
             SettingsCase::Season => {
                 if self.calls.settings.len() != SETTINGS {
                     // An empty sheet cannot be made in it.
-                    self.emit(Frame { op: 40, ..Frame::default() });
-                    self.emit(Frame { op: 39, a: vec![1; SETTINGS], ..Frame::default() });
+                    self.emit(Frame { op: ops::MAKE_EMPTY, ..Frame::default() });
+                    self.emit(Frame { op: ops::NEW_SETTINGS, a: vec![1; SETTINGS], ..Frame::default() });
                 }
-                self.emit(Frame { op: 40, ..Frame::default() });
+                self.emit(Frame { op: ops::MAKE_EMPTY, ..Frame::default() });
                 self.ask_setting();
                 for _ in 0..self.rng.between(2, 8) {
                     self.add_setting();
@@ -79,21 +88,21 @@ impl Generator {
             }
             SettingsCase::With => {
                 let count = self.rng.pick(&[0, 1, 5, 30, PLACES - 1]);
-                self.emit(Frame { op: 39, a: settings_with(&self.rng, count), ..Frame::default() });
+                self.emit(Frame { op: ops::NEW_SETTINGS, a: settings_with(&self.rng, count), ..Frame::default() });
                 for _ in 0..self.rng.between(1, 3) {
                     self.add_setting();
                     self.ask_setting();
                 }
             }
             SettingsCase::Full => {
-                self.emit(Frame { op: 39, a: settings_with(&self.rng, PLACES), ..Frame::default() });
+                self.emit(Frame { op: ops::NEW_SETTINGS, a: settings_with(&self.rng, PLACES), ..Frame::default() });
                 self.add_setting();
                 self.ask_setting();
                 self.add_refused();
             }
             SettingsCase::Damaged => {
                 let damage = self.damaged_settings.deal(&self.rng);
-                self.emit(Frame { op: 39, a: damaged(&self.rng, damage), ..Frame::default() });
+                self.emit(Frame { op: ops::NEW_SETTINGS, a: damaged(&self.rng, damage), ..Frame::default() });
                 self.add_setting();
                 self.ask_setting();
             }
@@ -104,7 +113,7 @@ impl Generator {
         let rng = &self.rng;
         let edition = if rng.percent(15) { rng.pick(&BAD_EDITIONS) } else { 1 + rng.below(2) as u32 };
         let x = rng.pick(&MISSIONS).into();
-        self.emit(Frame { op: 41, x, y: edition, z: day(rng), w: frame_length(rng), ..Frame::default() });
+        self.emit(Frame { op: ops::ADD, x, y: edition, z: day(rng), w: frame_length(rng), ..Frame::default() });
     }
 
     /// A mission and day that are there, with an edition that is not known and one that is; and the day for another mission.
@@ -120,7 +129,7 @@ impl Generator {
         let (mission, z, w) = (entry[0], number(entry, FIRST_DAY, 4) as u32, frame_length(rng));
         let bad = rng.pick(&BAD_EDITIONS);
         for (mission, y) in [(mission, bad), (mission, 1), (mission, 2), (mission ^ 1, 2)] {
-            self.emit(Frame { op: 41, x: mission.into(), y, z, w, ..Frame::default() });
+            self.emit(Frame { op: ops::ADD, x: mission.into(), y, z, w, ..Frame::default() });
         }
     }
 
@@ -128,7 +137,7 @@ impl Generator {
         let rng = &self.rng;
         let x = if rng.percent(90) { rng.pick(&MISSIONS) } else { rng.byte() }.into();
         let y = rng.pick(&[day(rng), day(rng).wrapping_add(1), day(rng).wrapping_sub(1)]);
-        self.emit(Frame { op: 42, x, y, ..Frame::default() });
+        self.emit(Frame { op: ops::ASK, x, y, ..Frame::default() });
     }
 }
 
@@ -170,7 +179,7 @@ fn damaged(rng: &Rng, damage: Damage) -> Vec<u8> {
     match damage {
         Damage::Length(length) => s.resize(length, 0),
         Damage::Header(i, word) => put(&mut s, 4 * i, 4, word.into()),
-        Damage::Count(_, said) => put(&mut s, 4, 4, said.into()),
+        Damage::Count(_, said) => put(&mut s, COUNT, 4, said.into()),
         Damage::Edition(edition) => s[entry(one) + EDITION] = edition,
         Damage::Zeros(at) => s[entry(one) + at] = 1 << rng.below(8),
         Damage::SameDay => {

@@ -1,9 +1,11 @@
 //! Traces in random scripts: recorded nights, and such as differ from what the calls answer or are not well formed.
 
 use super::Generator;
+use crate::convert::OLD_SHEET;
 use crate::keys::FIRST_RSR;
 use crate::ledger::{self, SHEET};
 use crate::make::{put, Rng};
+use crate::ops;
 use crate::replay::{write_trace, Answer, Call, ANSWER, DESK, ENTRY, HEADER, KEY, MOST_ENTRIES, NUMBER, ROW};
 use crate::script::Frame;
 
@@ -45,9 +47,9 @@ pub fn trace_cases() -> [Vec<TraceCase>; 4] {
     wrong.extend((0..3).flat_map(|i| [1, -1, 16, 1 << 31].map(|more| Header(i, more))));
     wrong.extend([1, ENTRY].map(Cut));
     wrong.extend([1, ENTRY].map(Longer));
-    wrong.extend([0, 11, HEADER].map(Short));
+    wrong.extend([0, HEADER - 1, HEADER].map(Short));
     wrong.extend([AnyByte, AnyByte, Recorded(MOST_ENTRIES + 1)]);
-    let lengths = [0, 6_776, SHEET - 1, SHEET + 1].map(SheetLength);
+    let lengths = [0, OLD_SHEET, SHEET - 1, SHEET + 1].map(SheetLength);
     [recorded.to_vec(), formed, wrong, lengths.to_vec()]
 }
 
@@ -57,10 +59,10 @@ impl Generator {
         let case = self.traces[kind].deal(&self.rng);
         let length = if let TraceCase::SheetLength(length) = case { length } else { SHEET };
         if self.calls.sheet.len() != length {
-            self.emit(Frame { op: 19, a: vec![0; length], ..Frame::default() });
+            self.emit(Frame { op: ops::NEW_SHEET, a: vec![0; length], ..Frame::default() });
         }
         let trace = trace_case(&self.rng, case);
-        self.emit(Frame { op: 32, a: trace, ..Frame::default() });
+        self.emit(Frame { op: ops::REPLAY, a: trace, ..Frame::default() });
         for _ in 0..self.rng.below(3) {
             let op = self.sheet_ops.deal(&self.rng);
             self.call(op);
@@ -104,7 +106,7 @@ fn trace_case(rng: &Rng, case: TraceCase) -> Vec<u8> {
             put(&mut trace, 4 * i, 4, (right + more) as u32 as u64);
             if rng.percent(30) {
                 // What the header says of the count, its length says too.
-                let length = (trace.len() as i64 + 16 * more) as u32;
+                let length = (trace.len() as i64 + ENTRY as i64 * more) as u32;
                 put(&mut trace, 0, 4, length.into());
             }
         }

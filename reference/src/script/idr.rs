@@ -1,9 +1,9 @@
-//! Ops 16 and 17: medium band records.
+//! `READ_TAPE` and `WRITE_TAPE`: medium band records.
 
 use super::{crc32, or_none, Frame, SLICE_FILL};
 use crate::idr::{self, Fields};
 
-const MOST_TAPE_SLICE: u32 = 8_192;
+pub const MOST_TAPE_SLICE: u32 = 8_192;
 
 pub fn read(f: &Frame) -> String {
     match idr::read(&f.a) {

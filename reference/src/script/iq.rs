@@ -1,4 +1,4 @@
-//! Ops 13 and 14: samples of RSR records. The crc of all that is lent is always there.
+//! `UNPACK` and `PACK`: samples of RSR records. The crc of all that is lent is always there.
 
 use super::{crc32, refusal_words, Frame, LIST_FILL, MOST_SLICE, SLICE_FILL};
 use crate::iq;

@@ -1,4 +1,4 @@
-//! Op 32: a trace played over the sheet.
+//! `REPLAY`: a trace played over the sheet.
 
 use super::Frame;
 use crate::replay::{self, Replayed};

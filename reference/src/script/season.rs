@@ -1,4 +1,4 @@
-//! Op 33: the season report.
+//! `SEASON`: the season report.
 
 use super::Frame;
 use crate::season::{self, Counts, Gap};

@@ -1,24 +1,25 @@
-//! Ops 39 to 42: mission settings. The crc of the settings after the call ends each line.
+//! `NEW_SETTINGS` to `ASK`: mission settings. The crc of the settings after the call ends each line.
 
 use super::{crc32, Frame};
+use crate::ops;
 use crate::settings::{self, Setting};
 
-const MOST_SETTINGS: usize = 1_024;
+pub const MOST_SETTINGS: usize = 1_024;
 
 pub fn line(s: &mut Vec<u8>, f: &Frame) -> Option<String> {
     let nothing = |_| String::new();
-    // Ops 41 and 42 have a mission.
-    let mission = if f.op >= 41 { u8::try_from(f.x).ok()? } else { 0 };
+    // `ADD` and `ASK` have a mission.
+    let mission = if f.op >= ops::ADD { u8::try_from(f.x).ok()? } else { 0 };
     let answer = match f.op {
-        39 => {
+        ops::NEW_SETTINGS => {
             if f.a.len() > MOST_SETTINGS {
                 return None;
             }
             s.clone_from(&f.a);
             Ok(String::new())
         }
-        40 => settings::make_empty(s).map(nothing),
-        41 => {
+        ops::MAKE_EMPTY => settings::make_empty(s).map(nothing),
+        ops::ADD => {
             let setting = Setting { edition: f.y, first_day: f.z, frame_length: f.w };
             settings::add(s, mission, setting).map(nothing)
         }

@@ -2,6 +2,7 @@
 
 use super::{by_hand, field, lines, rsr_secondary, telemetry_by_hand, Frame};
 use crate::dates::{date_of, day_count};
+use crate::ops;
 use crate::record::{read_headers, Fields, RSR, TELEMETRY};
 
 /// Month lengths, and 29 February in a leap year: not the reference's rule.
@@ -71,7 +72,7 @@ fn day_366_is_a_leap_year_s() {
 
 #[test]
 fn date_lines() {
-    let of = |x| Frame { op: 12, x, ..Frame::default() };
+    let of = |x| Frame { op: ops::DATE_OF, x, ..Frame::default() };
     let lines = lines(&[of(0), of(21_184), of(402_131), of(402_132), of(u32::MAX)]);
     assert_eq!(lines, ["0 1900 1", "0 1958 1", "0 3000 365", "33", "33"]);
 }

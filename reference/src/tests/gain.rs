@@ -2,6 +2,7 @@
 
 use super::{by_hand, field, lines, rsr_secondary, short, telemetry_by_hand, Frame};
 use crate::gain::{gain, gain_by_settings};
+use crate::ops;
 use crate::record::{Refused, RSR};
 use crate::settings::{self, Setting};
 
@@ -51,7 +52,7 @@ fn gains_by_settings() {
 
 #[test]
 fn gain_lines() {
-    let of = |x, a: &[u8]| Frame { op: 15, x, a: a.to_vec(), ..Frame::default() };
+    let of = |x, a: &[u8]| Frame { op: ops::GAIN, x, a: a.to_vec(), ..Frame::default() };
     let s = record();
     let lines = lines(&[of(2, &s), of(1, &s), of(3, &s), of(2, &s[..259]), of(2, &telemetry_by_hand(100, &[]))]);
     assert_eq!(lines, ["0 16909060", "0 none", "44", "6 259", "15"]);

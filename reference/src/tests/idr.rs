@@ -3,7 +3,7 @@
 use super::{lines, Slow};
 use crate::idr::{self, Fields, Time, HEADER_WORDS, RECORD, SAMPLES};
 use crate::script::{crc32, Frame};
-use crate::{random, sample, tapes};
+use crate::{ops, random, sample, tapes};
 use std::io::Read;
 
 /// Words 1 to 28 of a record whose time tag is valid, with words put in.
@@ -122,7 +122,7 @@ impl Bits {
 #[test]
 fn fields_are_cut_out_of_the_bits() {
     let (mut with_fields, mut without) = (0, 0);
-    for frame in random::script_of(1, 3_000, Some("tapes")).iter().filter(|frame| frame.op == 16) {
+    for frame in random::script_of(1, 3_000, Some("tapes")).iter().filter(|frame| frame.op == ops::READ_TAPE) {
         let Ok(record) = idr::read(&frame.a) else { continue };
         let s = Bits(frame.a[..56].iter().map(|byte| format!("{byte:08b}")).collect());
         assert_eq!(
@@ -212,7 +212,7 @@ fn fields_are_cut_out_of_the_bits() {
 fn round_trip() {
     let mut tried = 0;
     for frame in random::script_of(2, 2_000, Some("tapes")) {
-        if frame.op == 16 {
+        if frame.op == ops::READ_TAPE {
             let Ok(record) = idr::read(&frame.a) else { continue };
             let mut out = vec![0; RECORD];
             let words: Vec<u16> = record.header.words().collect();
@@ -237,8 +237,8 @@ fn round_trip() {
 fn tape_lines() {
     let words = tagged(&[(1, 0x9007), (27, 1), (28, 2)]);
     let (header, samples) = (words.iter().flat_map(|word| word.to_be_bytes()).collect::<Vec<u8>>(), vec![9; SAMPLES]);
-    let read = |a: &[u8]| Frame { op: 16, a: a.to_vec(), ..Frame::default() };
-    let write = |z, a: &[u8]| Frame { op: 17, z, a: a.to_vec(), b: samples.clone(), ..Frame::default() };
+    let read = |a: &[u8]| Frame { op: ops::READ_TAPE, a: a.to_vec(), ..Frame::default() };
+    let write = |z, a: &[u8]| Frame { op: ops::WRITE_TAPE, z, a: a.to_vec(), b: samples.clone(), ..Frame::default() };
     let good = [&header[..], &samples].concat();
     let mut untagged = good.clone();
     untagged[0] = 0;

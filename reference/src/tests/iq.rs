@@ -6,7 +6,7 @@ use crate::make::Rng;
 use crate::record::{Refused, RSR};
 use crate::sample_text::write_samples;
 use crate::script::{crc32, Calls};
-use crate::{random, sample};
+use crate::{ops, random, sample};
 
 /// A record with this size and rate.
 fn record(size: u8, rate: u16, data: &[u8]) -> Vec<u8> {
@@ -130,7 +130,7 @@ fn samples_there_and_back() {
     let (mut unpacked, mut packed) = (0, 0);
     for f in random::script_of(5, 4_000, Some("samples")) {
         let mut list = vec![7; f.z as usize];
-        if f.op == 13 {
+        if f.op == ops::UNPACK {
             let Ok(count) = unpack(&f.a, &mut list) else { continue };
             assert!(list[count..].iter().all(|n| *n == 7));
             let data = crate::record::data_part(&f.a);
@@ -198,10 +198,10 @@ fn the_tone() {
 
 #[test]
 fn sample_lines() {
-    let unpack = |z, a: &[u8]| Frame { op: 13, z, a: a.to_vec(), ..Frame::default() };
+    let unpack = |z, a: &[u8]| Frame { op: ops::UNPACK, z, a: a.to_vec(), ..Frame::default() };
     let pack = |x, y, z, numbers: &[i32]| {
         let a = numbers.iter().flat_map(|n| n.to_be_bytes()).collect();
-        Frame { op: 14, x, y, z, a, ..Frame::default() }
+        Frame { op: ops::PACK, x, y, z, a, ..Frame::default() }
     };
     let crc = |numbers: &[i32]| crc32(&numbers.iter().flat_map(|n| n.to_be_bytes()).collect::<Vec<u8>>());
     let s = record(16, 1, &[0xFF, 0xFF, 0, 0]);

@@ -3,6 +3,7 @@
 use super::{fresh, lines, Frame};
 use crate::book::{self, Book};
 use crate::make::Rng;
+use crate::ops;
 use crate::random::{self, traces::recorded};
 use crate::replay::{replay, write_trace, Answer, Call, Replayed};
 use crate::script::{crc32, Calls};
@@ -67,7 +68,7 @@ fn replays_are_the_books() {
         for f in random::script_of(seed, 1_500, Some("traces")) {
             let before = calls.sheet.clone();
             let line = calls.line(&f).unwrap();
-            if f.op != 32 {
+            if f.op != ops::REPLAY {
                 continue;
             }
             let (expected, left) = match plainly(&f.a) {
@@ -146,14 +147,14 @@ fn every_bit_of_a_trace_counts() {
 
 #[test]
 fn replay_lines() {
-    let of = |a: &[u8]| Frame { op: 32, a: a.to_vec(), ..Frame::default() };
+    let of = |a: &[u8]| Frame { op: ops::REPLAY, a: a.to_vec(), ..Frame::default() };
     let mut sheet = fresh();
     let (empty, call) = (crc32(&sheet), Call::Enrol { key: 7, first: 1 });
     let trace = write_trace(&[(call, call.make(&mut sheet))]);
     let mut other = trace.clone();
     other[12 + 3] = 99;
     let one = crc32(&sheet);
-    let become_short = Frame { op: 19, a: vec![1], ..Frame::default() };
+    let become_short = Frame { op: ops::NEW_SHEET, a: vec![1], ..Frame::default() };
     assert_eq!(
         lines(&[of(&trace), of(&other), of(&trace[..12]), of(&write_trace(&[])), become_short, of(&[])]),
         [

@@ -2,6 +2,7 @@
 
 use super::{fresh, lines, Frame};
 use crate::ledger::{self, Report};
+use crate::ops;
 
 const RSR_KEY: u64 = (1 << 42) + (177 << 24) + (43 << 16) + (1 << 8) + 2;
 
@@ -71,11 +72,11 @@ fn a_sheet_with_a_number_too_wide() {
 fn rsr_lines() {
     let of = |op, x, y, key| Frame { op, x, y, key, ..Frame::default() };
     let lines = lines(&[
-        of(20, 0, 0, 0),
-        of(21, 65_536, 0, RSR_KEY),
-        of(21, 65_535, 0, RSR_KEY),
-        of(23, 3, 0, 0),
-        of(24, 3, 0, 0),
+        of(ops::FRESH, 0, 0, 0),
+        of(ops::ENROL, 65_536, 0, RSR_KEY),
+        of(ops::ENROL, 65_535, 0, RSR_KEY),
+        of(ops::OPEN, 3, 0, 0),
+        of(ops::TICK, 3, 0, 0),
     ]);
     let answers: Vec<&str> = lines.iter().map(|line| line.split(' ').next().unwrap()).collect();
     assert_eq!(answers, ["0", "32", "0", "0", "0"]);

@@ -2,6 +2,7 @@
 
 use super::{fresh, lines, Frame};
 use crate::book::Book;
+use crate::ops;
 use crate::random::{self, old_sheets::as_old};
 use crate::sample;
 use crate::script::Calls;
@@ -65,7 +66,7 @@ fn per_million() {
 #[test]
 fn none_given() {
     assert_eq!(season(&[]), Ok(Season::default()));
-    assert_eq!(lines(&[Frame { op: 33, ..Frame::default() }]), ["0 0 0 0 0 none"]);
+    assert_eq!(lines(&[Frame { op: ops::SEASON, ..Frame::default() }]), ["0 0 0 0 0 none"]);
 }
 
 /// Of each row what was saved, and of each desk its row and what it has marked since it opened.
@@ -81,21 +82,21 @@ fn ticked_is_what_was_saved() {
         let mut log: Option<Log> = None;
         for f in random::script_of(seed, 3_000, Some("ledger")) {
             let accepted = calls.line(&f).unwrap().starts_with("0 ");
-            if [19, 31].contains(&f.op) {
+            if [ops::NEW_SHEET, ops::CONVERT].contains(&f.op) {
                 log = None;
             }
-            if f.op == 20 && accepted {
+            if f.op == ops::FRESH && accepted {
                 log = Some(([0; 32], [(0, 0); 8]));
                 nights += 1;
             }
             let Some((saved, desks)) = &mut log else { continue };
             if accepted {
                 match f.op {
-                    23 => desks[f.x as usize] = (f.y as usize, 0),
-                    24 => desks[f.x as usize].1 += 1,
-                    25 => desks[f.x as usize].1 -= 1,
-                    26 => saved[desks[f.x as usize].0] += desks[f.x as usize].1,
-                    30 => saved[f.x as usize] = 0,
+                    ops::OPEN => desks[f.x as usize] = (f.y as usize, 0),
+                    ops::TICK => desks[f.x as usize].1 += 1,
+                    ops::UNTICK => desks[f.x as usize].1 -= 1,
+                    ops::SAVE => saved[desks[f.x as usize].0] += desks[f.x as usize].1,
+                    ops::STRIKE => saved[f.x as usize] = 0,
                     _ => {}
                 }
             }
@@ -134,7 +135,7 @@ first gap: old, row 0, number 3
 
 #[test]
 fn season_lines() {
-    let of = |sheets: &[&[u8]]| Frame { op: 33, a: sheets.concat(), ..Frame::default() };
+    let of = |sheets: &[&[u8]]| Frame { op: ops::SEASON, a: sheets.concat(), ..Frame::default() };
     let (night, empty) = (sample::sample("sheets/new-night").unwrap(), fresh());
     let lines = lines(&[
         of(&[&empty]),

@@ -2,6 +2,7 @@
 
 use super::{lines, Frame};
 use crate::make::Rng;
+use crate::ops;
 use crate::random;
 use crate::random::settings::settings_with;
 use crate::script::{crc32, Calls};
@@ -68,18 +69,18 @@ fn settings_are_the_model_laid_out() {
             let words: Vec<u32> = line.split(' ').map(|word| word.parse().unwrap()).collect();
             let setting = Setting { edition: f.y, first_day: f.z, frame_length: f.w };
             let answer = match (f.op, &mut model) {
-                (39, _) => {
+                (ops::NEW_SETTINGS, _) => {
                     model = Model::of_sheet(&f.a);
                     assert_eq!(settings::is_settings(&f.a), model.is_some());
                     *if model.is_some() { &mut right } else { &mut wrong } += 1;
                     vec![0]
                 }
-                (40, _) if calls.settings.len() == 784 => {
+                (ops::MAKE_EMPTY, _) if calls.settings.len() == 784 => {
                     model = Some(Model::default());
                     vec![0]
                 }
                 (_, None) => vec![43],
-                (41, Some(model)) => vec![model.add(f.x as u8, setting).err().unwrap_or(0)],
+                (ops::ADD, Some(model)) => vec![model.add(f.x as u8, setting).err().unwrap_or(0)],
                 (_, Some(model)) => match model.ask(f.x as u8, f.y) {
                     Ok(found) => vec![0, found.edition, found.first_day, found.frame_length],
                     Err(refusal) => vec![refusal],
@@ -136,7 +137,7 @@ fn what_adding_changes() {
 #[test]
 fn settings_lines() {
     let of = |op, x, y, z, w| Frame { op, x, y, z, w, ..Frame::default() };
-    let become_bytes = |a: &[u8]| Frame { op: 39, a: a.to_vec(), ..Frame::default() };
+    let become_bytes = |a: &[u8]| Frame { op: ops::NEW_SETTINGS, a: a.to_vec(), ..Frame::default() };
     let mut one = settings_with(&Rng::new(1), 0);
     let empty = crc32(&one);
     settings::add(&mut one, 255, Setting { edition: 2, first_day: 100, frame_length: 1_115 }).unwrap();
@@ -144,17 +145,17 @@ fn settings_lines() {
     let zero = crc32(&[0; 784]);
     assert_eq!(
         lines(&[
-            of(42, 255, 100, 0, 0),
-            of(40, 999, 0, 0, 0),
-            of(41, 255, 3, 100, 1_115),
-            of(41, 255, 2, 100, 1_115),
-            of(41, 255, 1, 100, 0),
-            of(42, 255, 99, 0, 0),
-            of(42, 255, 100, 0, 0),
-            of(42, 254, 100, 0, 0),
+            of(ops::ASK, 255, 100, 0, 0),
+            of(ops::MAKE_EMPTY, 999, 0, 0, 0),
+            of(ops::ADD, 255, 3, 100, 1_115),
+            of(ops::ADD, 255, 2, 100, 1_115),
+            of(ops::ADD, 255, 1, 100, 0),
+            of(ops::ASK, 255, 99, 0, 0),
+            of(ops::ASK, 255, 100, 0, 0),
+            of(ops::ASK, 254, 100, 0, 0),
             become_bytes(&[0; 1_024]),
-            of(40, 0, 0, 0, 0),
-            of(42, 256, 0, 0, 0),
+            of(ops::MAKE_EMPTY, 0, 0, 0, 0),
+            of(ops::ASK, 256, 0, 0, 0),
         ]),
         [
             format!("43 {zero}"),
@@ -170,6 +171,6 @@ fn settings_lines() {
             "bad frame".to_string(),
         ]
     );
-    assert_eq!(lines(&[of(41, 256, 1, 1, 1)]), ["bad frame"]);
+    assert_eq!(lines(&[of(ops::ADD, 256, 1, 1, 1)]), ["bad frame"]);
     assert_eq!(lines(&[become_bytes(&[0; 1_025])]), ["bad frame"]);
 }

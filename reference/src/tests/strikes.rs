@@ -5,6 +5,7 @@ use crate::book::{Book, OLD};
 use crate::convert::convert;
 use crate::ledger::{self, Report};
 use crate::make::Rng;
+use crate::ops;
 use crate::random::old_sheets::as_old;
 use crate::script::crc32;
 use crate::{nights, sample};
@@ -133,20 +134,20 @@ fn the_sample_sheets() {
 #[test]
 fn strike_and_convert_lines() {
     let of = |op, x, key| Frame { op, x, key, ..Frame::default() };
-    let convert = |z, a: &[u8]| Frame { op: 31, z, a: a.to_vec(), ..Frame::default() };
+    let convert = |z, a: &[u8]| Frame { op: ops::CONVERT, z, a: a.to_vec(), ..Frame::default() };
     let mut one = fresh();
     ledger::enrol(&mut one, 7, 1).unwrap();
     let (old, empty, one_crc) = (as_old(&one), crc32(&fresh()), crc32(&one));
     assert_eq!(
         lines(&[
-            of(20, 0, 0),
-            of(30, 0, 0),
-            of(21, 1, 7),
-            of(30, 0, 0),
+            of(ops::FRESH, 0, 0),
+            of(ops::STRIKE, 0, 0),
+            of(ops::ENROL, 1, 7),
+            of(ops::STRIKE, 0, 0),
             convert(6_968, &old),
-            of(22, 0, 7),
+            of(ops::FIND, 0, 7),
             convert(3, &old),
-            of(30, 0, 0),
+            of(ops::STRIKE, 0, 0),
             convert(8_193, &old)
         ]),
         [
