@@ -11,7 +11,7 @@ const FILL: u32 = 7;
 const WIDE_FILL: u64 = FILL as u64;
 
 // No words where a list is to be too long.
-pub fn list_numbers(f: Frame, s: &[u8], out: &mut [u8], at: usize) -> usize {
+pub(crate) fn list_numbers(f: Frame, s: &[u8], out: &mut [u8], at: usize) -> usize {
     let x = f.x as usize;
     let y = f.y as usize;
     let z = f.z as usize;

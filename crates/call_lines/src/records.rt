@@ -26,7 +26,7 @@ const RSR: usize = 30;
 
 const BYTE_VALUES: u32 = 256;
 
-pub fn read_one(s: &[u8], out: &mut [u8], at: usize) -> usize {
+pub(crate) fn read_one(s: &[u8], out: &mut [u8], at: usize) -> usize {
     let found = sfdu::read_one(s);
     match found {
         Read::Record {
@@ -43,12 +43,12 @@ fn one(out: &mut [u8], at: usize, kind: Kind, size: usize, primary: Primary) -> 
     line::numbers(out, at, &answer, 0, RECORD)
 }
 
-pub fn part(part: &[u8], out: &mut [u8], at: usize) -> usize {
+pub(crate) fn part(part: &[u8], out: &mut [u8], at: usize) -> usize {
     let end = line::number(out, at, part.len() as u64);
     line::number(out, end, crc::crc(part) as u64)
 }
 
-pub fn read_headers(s: &[u8], wanted: u32, out: &mut [u8], at: usize) -> usize {
+pub(crate) fn read_headers(s: &[u8], wanted: u32, out: &mut [u8], at: usize) -> usize {
     let answer = records::headers(sfdu_headers::read_headers(s, wanted));
     if answer[places::REFUSAL] != ACCEPTED {
         let n = line::told_count(answer[places::REFUSAL], 0);
@@ -75,7 +75,7 @@ fn rsr(out: &mut [u8], at: usize, answer: [u64; answers::NUMBERS]) -> usize {
 }
 
 // All of the bytes that are lent go into the crc.
-pub fn write_one(f: Frame, a: &[u8], b: &[u8], out: &mut [u8], at: usize) -> usize {
+pub(crate) fn write_one(f: Frame, a: &[u8], b: &[u8], out: &mut [u8], at: usize) -> usize {
     let z = f.z as usize;
     if MOST_SLICE < z {
         return at;
@@ -114,7 +114,7 @@ fn low_byte(n: u32) -> u8 {
     (n % BYTE_VALUES) as u8
 }
 
-pub fn stopped(out: &mut [u8], at: usize, walked: Walked) -> usize {
+pub(crate) fn stopped(out: &mut [u8], at: usize, walked: Walked) -> usize {
     let stop = walked.stop;
     let counted = line::number(out, at, walked.count as u64);
     let placed = line::number(out, counted, walked.place as u64);
@@ -140,7 +140,7 @@ fn beside(stop: Stop) -> usize {
     }
 }
 
-pub fn step(s: &[u8], place: u64, out: &mut [u8], at: usize) -> usize {
+pub(crate) fn step(s: &[u8], place: u64, out: &mut [u8], at: usize) -> usize {
     let cursor = Cursor { at: place as usize };
     let found = cursor.step(s);
     match found {

@@ -16,7 +16,7 @@ const MOST_HEADER: usize = 65536;
 const MOST_SLICE: usize = 8192;
 
 // The words, the fields where there are any, and the crc of the samples.
-pub fn read(s: &[u8], out: &mut [u8], at: usize) -> usize {
+pub(crate) fn read(s: &[u8], out: &mut [u8], at: usize) -> usize {
     let mut words = [0u16; idr::HEADER];
     let judged = idr::read_words(s, &mut words);
     match judged {
@@ -51,7 +51,7 @@ fn fields(out: &mut [u8], at: usize, answer: [u64; tapes::FIELDS]) -> usize {
 }
 
 // No words where the first run is no whole number of header words, or there is to be too much of either.
-pub fn write(f: Frame, a: &[u8], b: &[u8], out: &mut [u8], at: usize) -> usize {
+pub(crate) fn write(f: Frame, a: &[u8], b: &[u8], out: &mut [u8], at: usize) -> usize {
     let z = f.z as usize;
     if MOST_SLICE < z {
         return at;

@@ -77,7 +77,7 @@ fn lay_out(numbers: &[i32], bytes: &mut [u8])
 {
     for i in 0..numbers.len() {
         let n = numbers[i];
-        octets::write_be(bytes, i * NUMBER, NUMBER, sfdu_samples::to_bits(n) as u64);
+        numbers::write_be(bytes, i * NUMBER, NUMBER, sfdu_samples::to_bits(n) as u64);
     }
 }
 

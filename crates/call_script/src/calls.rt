@@ -4,7 +4,7 @@ use crate::sheets;
 use call_lines::Frame;
 use call_lines::ops;
 
-pub fn call(
+pub(crate) fn call(
     f: Frame,
     a: &[u8],
     b: &[u8],

@@ -39,7 +39,7 @@ pub enum Next {
 }
 
 // Reads a frame, its two runs to the start of `runs`, one behind the other.
-pub fn read(runs: &mut [u8]) -> Next {
+pub(crate) fn read(runs: &mut [u8]) -> Next {
     let mut header = [0u8; HEADER];
     let got = io::read_full(libc::STDIN_FILENO, &mut header);
     if got == 0 {
@@ -86,7 +86,7 @@ fn read_runs(runs: &mut [u8], f: Frame) -> Next {
 }
 
 // The first n bytes of s, or all where it has fewer.
-pub fn first(s: &[u8], n: usize) -> &[u8] {
+pub(crate) fn first(s: &[u8], n: usize) -> &[u8] {
     if s.len() < n {
         return s;
     }
@@ -94,7 +94,7 @@ pub fn first(s: &[u8], n: usize) -> &[u8] {
 }
 
 // What stands behind the first n bytes of s, or all where it has fewer.
-pub fn behind(s: &[u8], n: usize) -> &[u8] {
+pub(crate) fn behind(s: &[u8], n: usize) -> &[u8] {
     if s.len() < n {
         return s;
     }

@@ -13,7 +13,14 @@ const DONE: usize = 1;
 
 const SETTING: usize = 4;
 
-pub fn call(f: Frame, a: &[u8], room: &mut [u8], n: usize, out: &mut [u8], at: usize) -> usize {
+pub(crate) fn call(
+    f: Frame,
+    a: &[u8],
+    room: &mut [u8],
+    n: usize,
+    out: &mut [u8],
+    at: usize,
+) -> usize {
     if f.op == ops::NEW_SETTINGS {
         return sheets::new_sheet(a, room, out, at);
     }

@@ -9,7 +9,7 @@ use ledger_season::SheetCounts;
 const IN_ALL: usize = 8;
 
 // Those of each sheet stand between the count of sheets and the counts in all.
-pub fn season(a: &[u8], out: &mut [u8], at: usize) -> usize {
+pub(crate) fn season(a: &[u8], out: &mut [u8], at: usize) -> usize {
     let report = ledger_season::season(a);
     let answer = report.answer;
     let total = report.total;

@@ -20,7 +20,7 @@ const GAP: usize = 3;
 const REPLAYED: usize = 4;
 
 // The sheet becomes the bytes of a.
-pub fn new_sheet(a: &[u8], room: &mut [u8], out: &mut [u8], at: usize) -> usize {
+pub(crate) fn new_sheet(a: &[u8], room: &mut [u8], out: &mut [u8], at: usize) -> usize {
     if room.len() < a.len() {
         return at;
     }
@@ -30,7 +30,7 @@ pub fn new_sheet(a: &[u8], room: &mut [u8], out: &mut [u8], at: usize) -> usize 
 }
 
 // The old sheet a converted into n bytes, which become the sheet.
-pub fn converted(a: &[u8], room: &mut [u8], n: usize, out: &mut [u8], at: usize) -> usize {
+pub(crate) fn converted(a: &[u8], room: &mut [u8], n: usize, out: &mut [u8], at: usize) -> usize {
     if room.len() < n {
         return at;
     }
@@ -52,7 +52,7 @@ fn fill(s: &mut [u8]) {
 }
 
 // The trace t played again over the sheet, which is the first n bytes of its room.
-pub fn replayed(t: &[u8], room: &mut [u8], n: usize, out: &mut [u8], at: usize) -> usize {
+pub(crate) fn replayed(t: &[u8], room: &mut [u8], n: usize, out: &mut [u8], at: usize) -> usize {
     if room.len() < n {
         return at;
     }
@@ -63,7 +63,7 @@ pub fn replayed(t: &[u8], room: &mut [u8], n: usize, out: &mut [u8], at: usize) 
 }
 
 // A call on the sheet, which is the first n bytes of its room. The crc of the whole sheet after the call ends its line.
-pub fn on_sheet(f: Frame, room: &mut [u8], n: usize, out: &mut [u8], at: usize) -> usize {
+pub(crate) fn on_sheet(f: Frame, room: &mut [u8], n: usize, out: &mut [u8], at: usize) -> usize {
     if room.len() < n {
         return at;
     }

@@ -16,14 +16,14 @@ ghost use Rattle.host.specs.inner.Written.{Written};
 const FEW_BYTES: usize = answers::NUMBER * answers::FEW;
 
 // What a call returns that was lent an answer's slice of another length.
-pub fn unwritten() -> u32
+pub(crate) fn unwritten() -> u32
     ensures { λ r. ⌜ r ≡ numberOf AnswerLength ⌝ }
 {
     refusals::number(Refusal::AnswerLength)
 }
 
 // Writes all the numbers of an answer, and returns the first.
-pub fn write(answer: &mut [u8], numbers: [u64; answers::NUMBERS]) -> u32
+pub(crate) fn write(answer: &mut [u8], numbers: [u64; answers::NUMBERS]) -> u32
     requires { ⌜ (length (now answer) ≡ answerSize) × (getD numbers 0 0 < 2 ^ 32) ⌝ }
     ensures { λ r. ⌜ Written r (now (answer .exit)) numbers ⌝ }
 {
@@ -32,7 +32,7 @@ pub fn write(answer: &mut [u8], numbers: [u64; answers::NUMBERS]) -> u32
 }
 
 // Writes a few numbers of an answer and zeros behind them, and returns the first.
-pub fn write_few(answer: &mut [u8], numbers: [u64; answers::FEW]) -> u32
+pub(crate) fn write_few(answer: &mut [u8], numbers: [u64; answers::FEW]) -> u32
     requires { ⌜ (length (now answer) ≡ answerSize) × (getD numbers 0 0 < 2 ^ 32) ⌝ }
     ensures { λ r. ⌜ Written r (now (answer .exit)) (numbers ++ replicate (numberCount - fewCount) 0) ⌝ }
 {
@@ -47,6 +47,6 @@ fn write_numbers(answer: &mut [u8], numbers: &[u64])
     ensures { λ _. ⌜ now (answer .exit) ≡ put (now (answer .entry)) 0 (answerBytes (now (numbers .entry))) ⌝ }
 {
     for i in 0..numbers.len() {
-        octets::write_be(answer, answers::NUMBER * i, answers::NUMBER, numbers[i]);
+        octets::numbers::write_be(answer, answers::NUMBER * i, answers::NUMBER, numbers[i]);
     }
 }

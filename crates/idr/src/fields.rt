@@ -36,7 +36,7 @@ const MOST_DECIMATION: u16 = 8;
 // The block size counts down from here: 2^24.
 const BLOCK_END: u32 = 16777216;
 
-pub fn is_tagged(w: &[u16]) -> bool
+pub(crate) fn is_tagged(w: &[u16]) -> bool
     requires { ⌜ length (now w) ≡ headerCount ⌝ }
     ensures { λ r. ⌜ r ≡ tagged (now (w .entry)) ⌝ }
 {
@@ -51,7 +51,7 @@ fn is_counted(w: &[u16]) -> bool
 }
 
 // Digit k of the time, from 0.
-pub fn digit_at(w: &[u16], k: usize) -> u16
+pub(crate) fn digit_at(w: &[u16], k: usize) -> u16
     requires { ⌜ (length (now w) ≡ headerCount) × (k < digitCount) ⌝ }
     ensures { λ r. ⌜ (r ≡ digit (now (w .entry)) k) × (r < 16) ⌝ }
 {
@@ -66,7 +66,7 @@ fn two_digits(w: &[u16], k: usize) -> u16
     digit_at(w, k) * 10 + digit_at(w, k + 1)
 }
 
-pub fn time_of(w: &[u16]) -> idr::Time
+pub(crate) fn time_of(w: &[u16]) -> idr::Time
     requires { ⌜ length (now w) ≡ headerCount ⌝ }
     ensures { λ r. ⌜ timeWords r ≡ timeOf (now (w .entry)) ⌝ }
 {
@@ -80,7 +80,7 @@ pub fn time_of(w: &[u16]) -> idr::Time
 }
 
 // The playback rates are the sampling rates of the slowest tape.
-pub fn playback_rate(code: u16) -> u32
+pub(crate) fn playback_rate(code: u16) -> u32
     requires { ⌜ code < 32 ⌝ }
     ensures { λ r. ⌜ r ≡ rateIn playbackRates code ⌝ }
 {
@@ -90,7 +90,7 @@ pub fn playback_rate(code: u16) -> u32
     sampling_rate(code)
 }
 
-pub fn sampling_rate(code: u16) -> u32
+pub(crate) fn sampling_rate(code: u16) -> u32
     requires { ⌜ code < 32 ⌝ }
     ensures { λ r. ⌜ r ≡ rateIn samplingRates code ⌝ }
 {
@@ -113,7 +113,7 @@ fn decimation(code: u16) -> u16
 }
 
 // The block size as it is stored, in 24 bits.
-pub fn block_stored(w: &[u16]) -> u32
+pub(crate) fn block_stored(w: &[u16]) -> u32
     requires { ⌜ length (now w) ≡ headerCount ⌝ }
     ensures { λ r. ⌜ (r ≡ blockStored (now (w .entry))) × (r < 16777216) ⌝ }
 {
@@ -190,7 +190,7 @@ fn count_of(w: &[u16]) -> idr::Count
 }
 
 // What is given of accepted header words.
-pub fn given(w: &[u16]) -> idr::Read
+pub(crate) fn given(w: &[u16]) -> idr::Read
     requires { ⌜ length (now w) ≡ headerCount ⌝ }
     ensures { λ r. ⌜ wordsOf r ≡ givenOf (now (w .entry)) ⌝ }
 {

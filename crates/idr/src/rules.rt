@@ -43,7 +43,7 @@ pub fn judge(w: &[u16]) -> Outcome
 }
 
 // The rules on as many words as a header has.
-pub fn judge_words(w: &[u16]) -> Outcome
+pub(crate) fn judge_words(w: &[u16]) -> Outcome
     requires { ⌜ length (now w) ≡ headerCount ⌝ }
     ensures { λ r. ⌜ outcomeNumber r ≡ verdict (wordRules (now (w .entry))) ⌝ }
 {

@@ -21,21 +21,21 @@ fn bits_of(x: u16, first: usize, last: usize) -> u16
 }
 
 // The same of word k.
-pub fn field(w: &[u16], k: usize, first: usize, last: usize) -> u16
+pub(crate) fn field(w: &[u16], k: usize, first: usize, last: usize) -> u16
     requires { ⌜ (1 ≤ k) × (k ≤ length (now w)) × (1 ≤ first) × (first ≤ last) × (last ≤ wordBits) ⌝ }
     ensures { λ r. ⌜ (r ≡ fieldOf (now (w .entry)) k first last) × (r < 2 ^ (last + 1 - first)) ⌝ }
 {
     bits_of(w[k - 1], first, last)
 }
 
-pub fn long(high: u16, low: u16) -> u32
+pub(crate) fn long(high: u16, low: u16) -> u32
     ensures { λ r. ⌜ r ≡ longOf high low ⌝ }
 {
     high as u32 * UPPER + low as u32
 }
 
 // Fills a list with the header words of a record.
-pub fn fill(s: &[u8], w: &mut [u16])
+pub(crate) fn fill(s: &[u8], w: &mut [u16])
     requires { ⌜ (samplesAt ≤ length (now s)) × (length (now w) ≡ headerCount) ⌝ }
     ensures { λ _. ⌜ now (w .exit) ≡ header (now (s .entry)) ⌝ }
 {

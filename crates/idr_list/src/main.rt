@@ -75,14 +75,14 @@ fn list_tape(fd: i32, name: &[u8], w: &mut [u8], out: &mut [u8]) -> Turn
         text: end,
         done: false,
     };
-    let mut turns = turns::TURNS;
-    while 0 < turns {
+    let mut left = turns::TURNS;
+    while 0 < left {
         let t = take_turn(fd, name, w, out, s);
         s = t.state;
         if t.failed | s.done {
             return t;
         }
-        turns -= 1;
+        left -= 1;
     }
     turns::give_up(name);
     Turn {

@@ -39,7 +39,7 @@ pub fn begin(out: &mut [u8]) -> usize
 }
 
 // Where a record stands, and whose it is.
-pub fn put_origin(
+pub(crate) fn put_origin(
     out: &mut [u8],
     at: usize,
     place: u64,
@@ -60,7 +60,7 @@ pub fn put_origin(
 }
 
 // When it was recorded.
-pub fn put_time(out: &mut [u8], at: usize, t: Time) -> usize
+pub(crate) fn put_time(out: &mut [u8], at: usize, t: Time) -> usize
     requires { ⌜ at + mostTime ≤ length (now out) ⌝ }
     ensures { λ r. ⌜ Puts (now (out .entry)) (now (out .exit)) at r (timeText (t .day) (t .hour) (t .minute) (t .second) (t .micros)) ⌝ }
     ensures { λ r. ⌜ r ≤ at + mostTime ⌝ }
@@ -71,7 +71,7 @@ pub fn put_time(out: &mut [u8], at: usize, t: Time) -> usize
 }
 
 // How it was reduced.
-pub fn put_reduction(out: &mut [u8], at: usize, d: Reduction) -> usize
+pub(crate) fn put_reduction(out: &mut [u8], at: usize, d: Reduction) -> usize
     requires { ⌜ at + mostReduction ≤ length (now out) ⌝ }
     ensures { λ r. ⌜ Puts (now (out .entry)) (now (out .exit)) at r (reductionText (d .playback) (d .sampling) (d .decimation)) ⌝ }
     ensures { λ r. ⌜ r ≤ at + mostReduction ⌝ }
@@ -109,7 +109,7 @@ fn clock_of(t: Time) -> [u8; 16]
 }
 
 // Where the time tag is not valid.
-pub fn put_untagged(out: &mut [u8], at: usize) -> usize
+pub(crate) fn put_untagged(out: &mut [u8], at: usize) -> usize
     requires { ⌜ at + length untaggedText ≤ length (now out) ⌝ }
     ensures { λ r. ⌜ Puts (now (out .entry)) (now (out .exit)) at r untaggedText ⌝ }
 {
@@ -117,7 +117,7 @@ pub fn put_untagged(out: &mut [u8], at: usize) -> usize
 }
 
 // The last line: the stop place, the stop number, and what it means.
-pub fn put_last(out: &mut [u8], at: usize, place: u64, number: u32) -> usize
+pub(crate) fn put_last(out: &mut [u8], at: usize, place: u64, number: u32) -> usize
     requires { ⌜ at + mostLine ≤ length (now out) ⌝ }
     ensures { λ r. ⌜ Puts (now (out .entry)) (now (out .exit)) at r (lastLine place number) ⌝ }
     ensures { λ r. ⌜ r ≤ at + mostLine ⌝ }

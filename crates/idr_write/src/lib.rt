@@ -8,6 +8,7 @@ ghost use Rattle.idr.specs.Words.{headerCount, samplesAt, samplesSize, recordSi
 ghost use Rattle.idr.specs.Rules.{outcomeNumber};
 ghost use Rattle.idr_write.specs.Write.{wordBytes, writeRecord};
 use idr::Outcome;
+use octets::numbers;
 use refusals::Refusal;
 
 // Writes the record that has these header words and samples; a refusal leaves `out` whole.
@@ -46,7 +47,7 @@ fn write_words(words: &[u16], out: &mut [u8])
     ensures { λ _. ⌜ now (out .exit) ≡ put (now (out .entry)) 0 (wordBytes (now (words .entry))) ⌝ }
 {
     for i in 0..idr::HEADER {
-        octets::write_be(out, i * idr::WORD, idr::WORD, wide(words[i]));
+        numbers::write_be(out, i * idr::WORD, idr::WORD, wide(words[i]));
     }
 }
 

@@ -1,6 +1,7 @@
 // Desks, and the sheet as a whole: made fresh, opened, saved, cleared.
 use ledger_sheet as sheet;
 use ledger_sheet::Answer;
+use octets::numbers;
 use refusals::Refusal;
 ghost use mathlib.Core.Path.{_≡_};
 ghost use Prim.Native.Nat.{_+_, _≤_, _<_};
@@ -25,17 +26,17 @@ fn write_header(s: &mut [u8], used: u64)
     requires { ⌜ rowsStart ≤ length (now s) ⌝ }
     ensures { λ _. ⌜ now (s .exit) ≡ put (now (s .entry)) 0 (headerBytes used) ⌝ }
 {
-    octets::write_be(s, sheet::LENGTH_AT, sheet::NUMBER, sheet::SHEET as u64);
-    octets::write_be(s, sheet::USED_AT, sheet::NUMBER, used);
-    octets::write_be(s, sheet::ROW_COUNT_AT, sheet::NUMBER, sheet::ROWS as u64);
-    octets::write_be(
+    numbers::write_be(s, sheet::LENGTH_AT, sheet::NUMBER, sheet::SHEET as u64);
+    numbers::write_be(s, sheet::USED_AT, sheet::NUMBER, used);
+    numbers::write_be(s, sheet::ROW_COUNT_AT, sheet::NUMBER, sheet::ROWS as u64);
+    numbers::write_be(
         s,
         sheet::ROWS_OFFSET_AT,
         sheet::NUMBER,
         sheet::ROWS_AT as u64,
     );
-    octets::write_be(s, sheet::DESK_COUNT_AT, sheet::NUMBER, sheet::DESKS as u64);
-    octets::write_be(
+    numbers::write_be(s, sheet::DESK_COUNT_AT, sheet::NUMBER, sheet::DESKS as u64);
+    numbers::write_be(
         s,
         sheet::DESKS_OFFSET_AT,
         sheet::NUMBER,

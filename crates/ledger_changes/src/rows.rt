@@ -2,6 +2,7 @@
 use ledger_sheet as sheet;
 use ledger_sheet::Row;
 use ledger_sheet::right;
+use octets::numbers;
 ghost use mathlib.Core.Path.{_≡_};
 ghost use Prim.Native.Nat.{_+_, _≤_, _<_};
 ghost use lib.ListN.{length};
@@ -51,9 +52,9 @@ pub fn write_row(s: &mut [u8], a: usize, row: Row)
     ensures { λ _. ⌜ now (s .exit) ≡ put (now (s .entry)) a (rowBytes (row .key) (row .first) (row .ticks)) ⌝ }
 {
     let ticks = row.ticks;
-    octets::write_be(s, a, sheet::USED_WORD, sheet::USED);
-    octets::write_be(s, a + sheet::KEY_AT, sheet::KEY, row.key);
-    octets::write_be(s, a + sheet::FIRST_AT, sheet::FIRST, row.first as u64);
+    numbers::write_be(s, a, sheet::USED_WORD, sheet::USED);
+    numbers::write_be(s, a + sheet::KEY_AT, sheet::KEY, row.key);
+    numbers::write_be(s, a + sheet::FIRST_AT, sheet::FIRST, row.first as u64);
     write_ticks(s, a + sheet::TICKS_AT, &ticks);
 }
 
@@ -74,7 +75,7 @@ pub fn enrol_row(s: &mut [u8], key: u64, first: u32) -> u32
     let row = ledger_rows::free_row(s);
     let used = right::rows_used(s) as u64;
     write_row(s, sheet::row_at(row), blank_row(key, first));
-    octets::write_be(s, sheet::USED_AT, sheet::NUMBER, used + 1);
+    numbers::write_be(s, sheet::USED_AT, sheet::NUMBER, used + 1);
     row as u32
 }
 
@@ -85,5 +86,5 @@ pub fn strike_row(s: &mut [u8], row: usize)
 {
     let used = right::rows_used(s) as u64;
     octets::clear(s, sheet::row_at(row), sheet::ROW);
-    octets::write_be(s, sheet::USED_AT, sheet::NUMBER, used - 1);
+    numbers::write_be(s, sheet::USED_AT, sheet::NUMBER, used - 1);
 }

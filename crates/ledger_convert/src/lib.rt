@@ -6,6 +6,7 @@ use ledger_changes::rows;
 use ledger_sheet as sheet;
 use ledger_sheet::Answer;
 use ledger_sheet::Row;
+use octets::numbers;
 use refusals::Refusal;
 ghost use mathlib.Core.Path.{_≡_};
 ghost use mathlib.Core.Bool.{true};
@@ -42,7 +43,7 @@ fn lay_out(old: &[u8], new: &mut [u8])
 {
     let used = old::rows_used(old);
     desks::make_fresh(new);
-    octets::write_be(new, sheet::USED_AT, sheet::NUMBER, used as u64);
+    numbers::write_be(new, sheet::USED_AT, sheet::NUMBER, used as u64);
     write_rows(old, new, used);
     write_desks(old, new);
 }

@@ -14,7 +14,7 @@ ghost use Rattle.ledger_replay.specs.Trace.{callIn};
 ghost use Rattle.ledger_replay.specs.Replay.{told, sameTold};
 ghost use Rattle.ledger_replay.specs.inner.Making.{lastIn, plainIn, made, written};
 
-pub fn make(s: &mut [u8], x: Line) -> Told
+pub(crate) fn make(s: &mut [u8], x: Line) -> Told
     requires { ⌜ right (now s) ≡ true ⌝ }
     ensures { λ r. ⌜ (r, now (s .exit)) ≡ made (callIn x) (now (s .entry)) ⌝ }
 {
@@ -77,7 +77,7 @@ fn tell_row(a: RowAnswer) -> Told
     }
 }
 
-pub fn is_written(x: Line, answered: Told) -> bool
+pub(crate) fn is_written(x: Line, answered: Told) -> bool
     ensures { λ r. ⌜ r ≡ sameTold answered (written x) ⌝ }
 {
     let same_number = answered.number == x.answer as u32;

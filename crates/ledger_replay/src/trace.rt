@@ -7,7 +7,7 @@ ghost use Prim.Native.Nat.{_+_, _≤_};
 ghost use lib.ListN.{length};
 ghost use Rattle.ledger_replay.specs.Trace.{headerSize, entrySize, count, entryAt, lineAt, headerRight, lineRight, linesRight, isTrace};
 
-pub fn is_trace(t: &[u8]) -> bool
+pub(crate) fn is_trace(t: &[u8]) -> bool
     ensures { λ r. ⌜ r ≡ isTrace (now (t .entry)) ⌝ }
 {
     if t.len() < replay::HEADER {
@@ -32,7 +32,7 @@ fn is_header(t: &[u8]) -> bool
 }
 
 // How many entries there are.
-pub fn entry_count(t: &[u8]) -> usize
+pub(crate) fn entry_count(t: &[u8]) -> usize
     requires { ⌜ headerSize ≤ length (now t) ⌝ }
     ensures { λ r. ⌜ r ≡ count (now (t .entry)) ⌝ }
 {
@@ -52,7 +52,7 @@ fn are_lines(t: &[u8]) -> bool
 }
 
 // The entry at index a.
-pub fn read_line(t: &[u8], a: usize) -> Line
+pub(crate) fn read_line(t: &[u8], a: usize) -> Line
     requires { ⌜ a + entrySize ≤ length (now t) ⌝ }
     ensures { λ r. ⌜ r ≡ lineAt (now (t .entry)) a ⌝ }
 {

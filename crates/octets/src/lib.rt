@@ -5,7 +5,7 @@ ghost use mathlib.Core.Path.{_≡_};
 ghost use mathlib.Core.Logic.{_⊎_};
 ghost use Prim.Native.Nat.{_+_, _*_, _≤_};
 ghost use lib.ListN.{length, replicate};
-ghost use Rattle.octets.specs.Octets.{bytesOf, part, put, zeroAt, sameAt};
+ghost use Rattle.octets.specs.Octets.{part, put, zeroAt, sameAt};
 
 // The bytes of a vector. From an index that they divide, no load reads two cache lines, where the slice begins at such an address, as slices
 // of a heap do.
@@ -72,20 +72,6 @@ pub fn is_same(s: &[u8], a: usize, t: &[u8], b: usize, n: usize) -> bool
         any |= s[a + i] ^ t[b + i];
     }
     any == 0
-}
-
-// Writes v as n big-endian bytes from index a.
-pub fn write_be(s: &mut [u8], a: usize, n: usize, v: u64)
-    requires { ⌜ a + n ≤ length (now s) ⌝ }
-    ensures { λ _. ⌜ now (s .exit) ≡ put (now (s .entry)) a (bytesOf n v) ⌝ }
-{
-    let mut left = v;
-    let mut i = n;
-    while 0 < i {
-        i -= 1;
-        s[a + i] = (left % 256) as u8;
-        left = left / 256;
-    }
 }
 
 // Sets the n bytes from index a to zero.

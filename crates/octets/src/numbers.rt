@@ -1,10 +1,10 @@
-// Numbers read from byte slices. A big-endian number of two, four or eight bytes is read in the order of the machine and then swapped, in
-// two functions: LLVM makes one load of the first before it inlines it, and a swap of the second. Read byte by byte from the highest
-// they are joined after inlining, and count as so many loads when LLVM decides what to inline.
+// Numbers read from byte slices and written into them. A big-endian number of two, four or eight bytes is read in the order of the machine
+// and then swapped, in two functions: LLVM makes one load of the first before it inlines it, and a swap of the second. Read byte by byte
+// from the highest they are joined after inlining, and count as so many loads when LLVM decides what to inline.
 ghost use mathlib.Core.Path.{_≡_};
 ghost use Prim.Native.Nat.{_+_, _≤_, _<_};
 ghost use lib.ListN.{length};
-ghost use Rattle.octets.specs.Octets.{numberAt};
+ghost use Rattle.octets.specs.Octets.{numberAt, bytesOf, put};
 ghost use Rattle.octets.specs.inner.Little.{littleAt, swapped};
 
 // The longest number, its half and a quarter of it, in bytes.
@@ -120,4 +120,18 @@ fn swapped_u32(w: u32) -> u32
     ensures { λ r. ⌜ r ≡ swapped 4 w ⌝ }
 {
     w % SECOND * FOURTH + w / SECOND % SECOND * THIRD + w / THIRD % SECOND * SECOND + w / FOURTH
+}
+
+// Writes v as n big-endian bytes from index a.
+pub fn write_be(s: &mut [u8], a: usize, n: usize, v: u64)
+    requires { ⌜ a + n ≤ length (now s) ⌝ }
+    ensures { λ _. ⌜ now (s .exit) ≡ put (now (s .entry)) a (bytesOf n v) ⌝ }
+{
+    let mut left = v;
+    let mut i = n;
+    while 0 < i {
+        i -= 1;
+        s[a + i] = (left % 256) as u8;
+        left = left / 256;
+    }
 }

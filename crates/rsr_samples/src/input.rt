@@ -19,7 +19,7 @@ struct Piece {
 }
 
 // The next record, from the window's start: its label first, which says how long it is.
-pub fn next_record(fd: i32, w: &mut [u8]) -> Filled {
+pub(crate) fn next_record(fd: i32, w: &mut [u8]) -> Filled {
     let label = fill(fd, w, 0, nesting::LABEL);
     if label.failed {
         return label;

@@ -15,7 +15,7 @@ const NEGATIVE: u32 = 2147483648;
 const BYTE_VALUES: u32 = 256;
 
 // Whether all could be written.
-pub fn write_samples(list: &[i32], raw: bool) -> bool {
+pub(crate) fn write_samples(list: &[i32], raw: bool) -> bool {
     let mut buffer = io::large_buffer();
     lay_out(list, raw, &mut buffer)
 }

@@ -23,7 +23,7 @@ fn no_sheet() -> File {
 }
 
 // Reads the file that argument i names into the slot, and says what is wrong with one that is no sheet.
-pub fn load(i: usize, slot: &mut [u8]) -> File {
+pub(crate) fn load(i: usize, slot: &mut [u8]) -> File {
     let mut path = io::buffer();
     let opened = arguments::open_at(i, &mut path);
     let fd = opened.fd;
@@ -80,7 +80,7 @@ fn read_all(fd: i32, room: &mut [u8]) -> Got {
 }
 
 // The first n bytes of s, or all where it has fewer.
-pub fn first(s: &[u8], n: usize) -> &[u8] {
+pub(crate) fn first(s: &[u8], n: usize) -> &[u8] {
     if s.len() < n {
         return s;
     }

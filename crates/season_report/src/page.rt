@@ -21,7 +21,11 @@ struct Laid {
     rows: u32,
 }
 
-pub fn write(sheets: &[u8], converted: [bool; ledger_season::MOST_SHEETS], report: SeasonReport) {
+pub(crate) fn write(
+    sheets: &[u8],
+    converted: [bool; ledger_season::MOST_SHEETS],
+    report: SeasonReport,
+) {
     let mut page = [0u8; PAGE];
     let n = table(&mut page, sheets, converted, report);
     if !io::write_all(libc::STDOUT_FILENO, files::first(&page, n)) {

@@ -93,7 +93,7 @@ fn refused(refusal: Refusal, at: usize) -> Read
     Read::Refused(Fault { refusal, at })
 }
 
-pub fn has_authority(s: &[u8]) -> bool
+pub(crate) fn has_authority(s: &[u8]) -> bool
     requires { ⌜ labelSize ≤ length (now s) ⌝ }
     ensures { λ r. ⌜ r ≡ sameAt (now (s .entry)) authorityAt authority 0 tagSize ⌝ }
 {
@@ -106,7 +106,7 @@ pub fn has_authority(s: &[u8]) -> bool
     )
 }
 
-pub fn has_version_class(s: &[u8]) -> bool
+pub(crate) fn has_version_class(s: &[u8]) -> bool
     requires { ⌜ labelSize ≤ length (now s) ⌝ }
     ensures { λ r. ⌜ r ≡ sameAt (now (s .entry)) versionClassAt versionClass 0 tagSize ⌝ }
 {
@@ -137,14 +137,14 @@ fn read_length(s: &[u8], kind: Kind) -> Read
 }
 
 // The length in the label: that of the record past the label.
-pub fn label_length(s: &[u8]) -> u64
+pub(crate) fn label_length(s: &[u8]) -> u64
     requires { ⌜ labelSize ≤ length (now s) ⌝ }
     ensures { λ r. ⌜ r ≡ labelLength (now (s .entry)) ⌝ }
 {
     numbers::read_u64(s, nesting::LENGTH_AT)
 }
 
-pub fn length_in_range(after: u64, kind: Kind) -> bool
+pub(crate) fn length_in_range(after: u64, kind: Kind) -> bool
     ensures { λ r. ⌜ r ≡ (leb (leastLabelLength kind) after && leb after (mostLabelLength kind)) ⌝ }
 {
     let least = nesting::least_label_length(kind);

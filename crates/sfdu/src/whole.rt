@@ -121,7 +121,7 @@ fn is_data(s: &[u8], kind: Kind, size: usize) -> bool
 }
 
 // Whether the block at an offset has this type and this length.
-pub fn is_label(s: &[u8], at: usize, class: u64, size: u64) -> bool
+pub(crate) fn is_label(s: &[u8], at: usize, class: u64, size: u64) -> bool
     requires { ⌜ (at + blockLabelSize ≤ length (now s)) × (class ≤ mostData) × (size ≤ mostData) ⌝ }
     ensures { λ r. ⌜ r ≡ isLabel (now (s .entry)) at class size ⌝ }
 {

@@ -123,7 +123,7 @@ const JUDGED: [headers::Judged; 10] = [
 ];
 
 // The fields, the key and the day count of a whole RSR record, or the offset of the lowest field out of range.
-pub fn fields(s: &[u8], size: usize, primary: Primary) -> headers::Headers
+pub(crate) fn fields(s: &[u8], size: usize, primary: Primary) -> headers::Headers
     requires { ⌜ (size ≡ recordLength (now s)) × (primaryWords primary ≡ primaryOf (now s)) × (dataValueAt Rsr ≤ length (now s)) ⌝ }
     ensures { λ r. ⌜ wordsOf r ≡ judgedFields Rsr (now (s .entry)) ⌝ }
 {
@@ -200,7 +200,7 @@ fn in_range(allowed: headers::Allowed, b: u8) -> bool
     }
 }
 
-pub fn is_band(b: u8) -> bool
+pub(crate) fn is_band(b: u8) -> bool
     ensures { λ r. ⌜ r ≡ isRsrBand b ⌝ }
 {
     (b == b'S') | (b == b'X') | (b == b'K')
@@ -252,7 +252,7 @@ fn read_source(s: &[u8]) -> headers::RsrSource
     }
 }
 
-pub fn number(s: &[u8]) -> u16
+pub(crate) fn number(s: &[u8]) -> u16
     requires { ⌜ dataValueAt Rsr ≤ length (now s) ⌝ }
     ensures { λ r. ⌜ r ≡ recordNumber Rsr (now (s .entry)) ⌝ }
 {

@@ -47,7 +47,7 @@ const STREAM_AT: usize = nesting::SECONDARY_AT + 30;
 const EQUIPMENT_AT: usize = nesting::SECONDARY_AT + 74;
 
 // The fields and the key of a whole telemetry record, or the offset of the band where that is out of range.
-pub fn fields(s: &[u8], size: usize, primary: Primary) -> Headers
+pub(crate) fn fields(s: &[u8], size: usize, primary: Primary) -> Headers
     requires { ⌜ (size ≡ recordLength (now s)) × (primaryWords primary ≡ primaryOf (now s)) × (dataValueAt Telemetry ≤ length (now s)) ⌝ }
     ensures { λ r. ⌜ wordsOf r ≡ judgedFields Telemetry (now (s .entry)) ⌝ }
 {
@@ -150,7 +150,7 @@ fn band(s: &[u8]) -> Band
     Band::Unused
 }
 
-pub fn number(s: &[u8]) -> u32
+pub(crate) fn number(s: &[u8]) -> u32
     requires { ⌜ dataValueAt Telemetry ≤ length (now s) ⌝ }
     ensures { λ r. ⌜ r ≡ recordNumber Telemetry (now (s .entry)) ⌝ }
 {

@@ -40,14 +40,14 @@ fn list_stream(fd: i32, name: &[u8], w: &mut [u8], out: &mut [u8]) -> Turn
     ensures { λ r. ⌜ Ends (now (w .exit)) (now (out .exit)) r ⌝ }
 {
     let mut s = sfdu_listing::begin(out);
-    let mut turns = turns::TURNS;
-    while 0 < turns {
+    let mut left = turns::TURNS;
+    while 0 < left {
         let t = take_turn(fd, name, w, out, s);
         s = t.state;
         if t.failed | s.done {
             return t;
         }
-        turns -= 1;
+        left -= 1;
     }
     turns::give_up(name);
     Turn {

@@ -37,7 +37,7 @@ fn put_letter(out: &mut [u8], at: usize, kind: Kind) -> usize
 }
 
 // The line of a record that the window holds.
-pub fn put_line(
+pub(crate) fn put_line(
     out: &mut [u8],
     at: usize,
     place: u64,
@@ -56,7 +56,7 @@ pub fn put_line(
 }
 
 // The last line: the stop place, the stop number, and the number that goes with it.
-pub fn put_last(out: &mut [u8], at: usize, place: u64, number: u32, beside: u64) -> usize
+pub(crate) fn put_last(out: &mut [u8], at: usize, place: u64, number: u32, beside: u64) -> usize
     requires { ⌜ at + mostLast ≤ length (now out) ⌝ }
     ensures { λ r. ⌜ Puts (now (out .entry)) (now (out .exit)) at r (lastLine place (number ∷ beside ∷ [])) ⌝ }
     ensures { λ r. ⌜ r ≤ at + mostLast ⌝ }

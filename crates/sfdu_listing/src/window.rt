@@ -27,7 +27,7 @@ const END: u32 = 0;
 
 // The record at the start of `s`, what the window holds from a place of the stream on. `last` says that the stream ends with the
 // window.
-pub fn judge(s: &[u8], place: u64, last: bool) -> Found
+fn judge(s: &[u8], place: u64, last: bool) -> Found
     requires { ⌜ (length (now s) ≤ bufferSize) × (place + length (now s) < 2 ^ 64) ⌝ }
     ensures { λ r. ⌜ wordsOf r ≡ foundIn place (now (s .entry)) last ⌝ }
 {

@@ -7,11 +7,12 @@ ghost use lib.Seq.{sets};
 ghost use Rattle.sfdu_samples.specs.Packing.{codeOf, hasCode, halfWord, perHalf, perWord, halfOf, wordOf, packedWords, allCoded};
 ghost use Rattle.sfdu_samples.specs.inner.Unpacking.{Width, raised};
 use crate::unpacks;
+use octets::numbers;
 
 // What is added to a number, so that it is not below zero: an even multiple of every count of codes.
 pub const RAISE: u32 = 2147483648;
 
-pub fn raise(z: i32) -> u32
+pub(crate) fn raise(z: i32) -> u32
     ensures { λ r. ⌜ r ≡ raised z ⌝ }
 {
     (z as i64 + RAISE as i64) as u32
@@ -27,7 +28,7 @@ fn has_code(z: i32, size: u32) -> bool
 }
 
 // The tests are gathered with no early exit, so that LLVM vectorizes the loop.
-pub fn is_coded(samples: &[i32], size: u32) -> bool
+pub(crate) fn is_coded(samples: &[i32], size: u32) -> bool
     requires { ⌜ Width size ⌝ }
     ensures { λ r. ⌜ r ≡ allCoded size (now (samples .entry)) ⌝ }
 {
@@ -79,13 +80,13 @@ fn pack_words(samples: &[i32], words: usize, size: u32, out: &mut [u8])
     let mut at = 0;
     for i in 0..words {
         let word = word_of(samples, at, size);
-        octets::write_be(out, i * unpacks::WORD, unpacks::WORD, word as u64);
+        numbers::write_be(out, i * unpacks::WORD, unpacks::WORD, word as u64);
         at += per;
     }
 }
 
 // The same with a width that is a constant: LLVM unrolls the loop in a half word.
-pub fn pack_sized(samples: &[i32], words: usize, size: u32, out: &mut [u8])
+pub(crate) fn pack_sized(samples: &[i32], words: usize, size: u32, out: &mut [u8])
     requires { ⌜ Width size × (words * perWord size ≤ length (now samples)) × (words * 4 ≤ length (now out)) × (allCoded size (now samples) ≡ true) ⌝ }
     ensures { λ _. ⌜ now (out .exit) ≡ sets (now (out .entry)) 0 (packedWords size words (now (samples .entry))) ⌝ }
 {

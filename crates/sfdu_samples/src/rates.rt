@@ -82,7 +82,7 @@ const LISTED: [Listed; 36] = [
     },
 ];
 
-pub fn is_listed(size: u32, rate: u32) -> bool
+pub(crate) fn is_listed(size: u32, rate: u32) -> bool
     ensures { λ r. ⌜ r ≡ isListed size rate ⌝ }
 {
     let table = LISTED;

@@ -25,7 +25,7 @@ const WORD_BITS: u32 = 32;
 const HALF_WORD_BITS: u32 = 16;
 
 // The numbers of a data part of that size and rate.
-pub fn unpack_data(d: &[u8], size: u32, rate: u32, list: &mut [i32]) -> Answer
+pub(crate) fn unpack_data(d: &[u8], size: u32, rate: u32, list: &mut [i32]) -> Answer
     ensures { λ r. ⌜ (wordsOf r, now (list .exit)) ≡ unpackingData size rate (now (d .entry)) (now (list .entry)) ⌝ }
 {
     if !rates::is_listed(size, rate) {
@@ -44,21 +44,21 @@ pub fn unpack_data(d: &[u8], size: u32, rate: u32, list: &mut [i32]) -> Answer
 }
 
 // How many codes have this many bits.
-pub fn codes(bits: u32) -> u32
+pub(crate) fn codes(bits: u32) -> u32
     requires { ⌜ bits ≤ 16 ⌝ }
     ensures { λ r. ⌜ r ≡ 2 ^ bits ⌝ }
 {
     1 << bits
 }
 
-pub fn per_half(size: u32) -> usize
+pub(crate) fn per_half(size: u32) -> usize
     requires { ⌜ Width size ⌝ }
     ensures { λ r. ⌜ r ≡ perHalf size ⌝ }
 {
     HALF_BITS / size as usize
 }
 
-pub fn per_word(size: u32) -> usize
+pub(crate) fn per_word(size: u32) -> usize
     requires { ⌜ Width size ⌝ }
     ensures { λ r. ⌜ r ≡ perWord size ⌝ }
 {

@@ -5,6 +5,7 @@ ghost use lib.ListN.{length};
 ghost use Rattle.octets.specs.Octets.{put};
 ghost use Rattle.sfdu.specs.Nesting.{kindNumber, labelSize, primaryAt, secondaryValueAt, dataValueAt, blockLabelSize, secondaryLength, mostData};
 ghost use Rattle.sfdu_write.specs.Write.{wordsOf, writeOne, isInput, recordBytes, headBytes, labelBytes, primaryBlock, block};
+use octets::numbers;
 use refusals::Refusal;
 use sfdu::Kind;
 use sfdu::Primary;
@@ -102,7 +103,7 @@ fn write_label(kind: Kind, size: usize, out: &mut [u8])
     octets::copy_in(&nesting::AUTHORITY, out, nesting::AUTHORITY_AT);
     octets::copy_in(&nesting::VERSION_CLASS, out, nesting::VERSION_CLASS_AT);
     octets::copy_in(&nesting::kind_tag(kind), out, nesting::KIND_AT);
-    octets::write_be(
+    numbers::write_be(
         out,
         nesting::LENGTH_AT,
         nesting::LENGTH,
@@ -132,6 +133,6 @@ fn write_block(out: &mut [u8], at: usize, class: u64, size: u64)
     requires { ⌜ at + blockLabelSize ≤ length (now out) ⌝ }
     ensures { λ _. ⌜ now (out .exit) ≡ put (now (out .entry)) at (block class size) ⌝ }
 {
-    octets::write_be(out, at, nesting::WORD, class);
-    octets::write_be(out, at + nesting::WORD, nesting::WORD, size);
+    numbers::write_be(out, at, nesting::WORD, class);
+    numbers::write_be(out, at + nesting::WORD, nesting::WORD, size);
 }

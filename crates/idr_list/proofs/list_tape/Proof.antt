@@ -9,10 +9,10 @@ use Rattle.idr_list.proofs.list_tape.Statement.{statement}
 use Rattle.idr_list.proofs.list_tape.Tie as tie
 
 abbrev Inv-loop : tie.InvT-loop
-Inv-loop fd name w₀ out₀ end s₀ turns₀ w out s turns = Round w out s turns
+Inv-loop fd name w₀ out₀ end s₀ left₀ w out s left = Round w out s left
 
 abbrev μ-loop : tie.MeasureT-loop
-μ-loop fd name w₀ out₀ end s₀ turns₀ w out s turns = turns
+μ-loop fd name w₀ out₀ end s₀ left₀ w out s left = left
 
 begin-requires : tie.Need-begin-requires Inv-loop μ-loop
 unfolding heading
@@ -36,10 +36,10 @@ returns : tie.Need-returns Inv-loop μ-loop
 returns c =
     let turned = c .before .before .before .before .before .before .before .before in
     let k = turned .before .before .before .before .loop in
-    round-ends (k .w) (k .out) (k .s) (k .turns) (k .inv) _ _ _ (turned .take-turn .ensures) (c .if1 .taken)
+    round-ends (k .w) (k .out) (k .s) (k .left) (k .inv) _ _ _ (turned .take-turn .ensures) (c .if1 .taken)
 
-sub-turns : tie.Need-sub-turns Inv-loop μ-loop
-sub-turns c = search needs
+sub-left : tie.Need-sub-left Inv-loop μ-loop
+sub-left c = search needs
 
 loop-less : tie.Need-loop-less Inv-loop μ-loop
 loop-less c = search needs
@@ -48,7 +48,7 @@ loop-again : tie.Need-loop-again Inv-loop μ-loop
 loop-again c =
     let turned = c .before .before .before .before .before .before .before .before in
     let k = turned .before .before .before .before .loop in
-    round-goes (k .w) (k .out) (k .s) (k .turns) (k .inv) _ _ _ (search needs) (search needs) (turned .take-turn .ensures) (c .if1 .left) _
+    round-goes (k .w) (k .out) (k .s) (k .left) (k .inv) _ _ _ (search needs) (search needs) (turned .take-turn .ensures) (c .if1 .left) _
     (search needs) (lit≤ tt)
 
 give-up-requires : tie.Need-give-up-requires Inv-loop μ-loop
@@ -61,7 +61,7 @@ same-length-4 : tie.Need-same-length-4 Inv-loop μ-loop
 same-length-4 c = search needs
 
 returns-2 : tie.Need-returns-2 Inv-loop μ-loop
-returns-2 c = let k = c .before .before .loop in round-gives-up (k .w) (k .out) (k .s) (k .turns) (k .inv)
+returns-2 c = let k = c .before .before .loop in round-gives-up (k .w) (k .out) (k .s) (k .left) (k .inv)
 
 pub list-tape-spec : {M : Type 1} → statement M
 list-tape-spec =
@@ -75,7 +75,7 @@ list-tape-spec =
     same-length
     same-length-2
     returns
-    sub-turns
+    sub-left
     loop-less
     loop-again
     give-up-requires

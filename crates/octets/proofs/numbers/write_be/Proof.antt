@@ -1,12 +1,12 @@
--- `octets::write_be` meets its contract. The invariant: the first i bytes of what is left, put in, give the result. Assumes nothing.
+-- `octets::numbers::write_be` meets its contract. The invariant: the first i bytes of what is left, put in, give the result. Assumes nothing.
 use Prim.Native.Nat.{_≤_}
 use lib.ListN.{length, length-set}
 use Rattle.octets.specs.Octets.{put, bytesOf}
 use Rattle.octets.proofs.Laws.{put-zero, put-number}
 use mathlib.Core.Path.{_≡_, refl, sym, _∙_}
 use native.Mathlib.Omega.{arith}
-use Rattle.octets.proofs.write_be.Statement.{statement}
-use Rattle.octets.proofs.write_be.Tie as tie
+use Rattle.octets.proofs.numbers.write_be.Statement.{statement}
+use Rattle.octets.proofs.numbers.write_be.Tie as tie
 
 abbrev Inv-loop : tie.InvT-loop
 Inv-loop s₀ a n v left₀ i₀ s left i = (i ≤ n) × (put s a (bytesOf i left) ≡ put s₀ a (bytesOf n v)) × (length s ≡ length s₀)
