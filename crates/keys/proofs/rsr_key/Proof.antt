@@ -2,7 +2,7 @@
 use native.Mathlib.Omega.{arith}
 use borrow.Author.Needs.{needs}
 use Rattle.keys.specs.Key.{rsrKeyCall}
-use Rattle.keys.proofs.Laws.{fit-all, refuses, makes}
+use Rattle.keys.proofs.Laws.{Below, fit-all, refuses, makes}
 use Rattle.keys.proofs.rsr_key.Statement.{statement}
 use Rattle.keys.proofs.rsr_key.Tie as tie
 
@@ -13,29 +13,21 @@ returns : tie.Need-returns
 unfolding rsrKeyCall
 returns c = refuses _ _ _ (c .before .all-fit .ensures) (c .if1 .taken)
 
+-- Where the call is not refused, each number lies below its limit.
+fits : (c : tie.Else1) → let a = c .before .before .args in Below (a .spacecraft) 256 (a .station) 256 (a .receiver) 256 (a .subchannel) 256
+fits c = fit-all _ _ _ _ _ _ _ _ _ (c .before .all-fit .ensures) (c .if1 .left)
+
 cast-rsr-key-of : tie.Need-cast-rsr-key-of
-cast-rsr-key-of c =
-    let a = c .before .before .args in
-    let w = fit-all (a .spacecraft) 256 (a .station) 256 (a .receiver) 256 (a .subchannel) 256 _ (c .before .all-fit .ensures) (c .if1 .left) in
-    omega (arith, w .one)
+cast-rsr-key-of c = omega (arith, fits c .one)
 
 cast-rsr-key-of-2 : tie.Need-cast-rsr-key-of-2
-cast-rsr-key-of-2 c =
-    let a = c .before .before .args in
-    let w = fit-all (a .spacecraft) 256 (a .station) 256 (a .receiver) 256 (a .subchannel) 256 _ (c .before .all-fit .ensures) (c .if1 .left) in
-    omega (arith, w .two)
+cast-rsr-key-of-2 c = omega (arith, fits c .two)
 
 cast-rsr-key-of-3 : tie.Need-cast-rsr-key-of-3
-cast-rsr-key-of-3 c =
-    let a = c .before .before .args in
-    let w = fit-all (a .spacecraft) 256 (a .station) 256 (a .receiver) 256 (a .subchannel) 256 _ (c .before .all-fit .ensures) (c .if1 .left) in
-    omega (arith, w .three)
+cast-rsr-key-of-3 c = omega (arith, fits c .three)
 
 cast-rsr-key-of-4 : tie.Need-cast-rsr-key-of-4
-cast-rsr-key-of-4 c =
-    let a = c .before .before .args in
-    let w = fit-all (a .spacecraft) 256 (a .station) 256 (a .receiver) 256 (a .subchannel) 256 _ (c .before .all-fit .ensures) (c .if1 .left) in
-    omega (arith, w .four)
+cast-rsr-key-of-4 c = omega (arith, fits c .four)
 
 rsr-key-of-requires : tie.Need-rsr-key-of-requires
 rsr-key-of-requires c κs = search needs

@@ -2,7 +2,7 @@
 use native.Mathlib.Omega.{arith}
 use borrow.Author.Needs.{needs}
 use Rattle.keys.specs.Key.{telemetryKeyCall}
-use Rattle.keys.proofs.Laws.{fit-all, refuses, makes}
+use Rattle.keys.proofs.Laws.{Below, fit-all, refuses, makes}
 use Rattle.keys.proofs.telemetry_key.Statement.{statement}
 use Rattle.keys.proofs.telemetry_key.Tie as tie
 
@@ -13,34 +13,24 @@ returns : tie.Need-returns
 unfolding telemetryKeyCall
 returns c = refuses _ _ _ (c .before .all-fit .ensures) (c .if1 .taken)
 
+-- Where the call is not refused, each number lies below its limit.
+fits : (c : tie.Else1) → let a = c .before .before .args in Below (a .spacecraft) 1024 (a .source) 256 (a .equipment) 65536 (a .stream) 256
+fits c = fit-all _ _ _ _ _ _ _ _ _ (c .before .all-fit .ensures) (c .if1 .left)
+
 cast-telemetry-key-of : tie.Need-cast-telemetry-key-of
-cast-telemetry-key-of c =
-    let a = c .before .before .args in
-    let w = fit-all (a .spacecraft) 1024 (a .source) 256 (a .equipment) 65536 (a .stream) 256 _ (c .before .all-fit .ensures) (c .if1 .left) in
-    omega (arith, w .one)
+cast-telemetry-key-of c = omega (arith, fits c .one)
 
 cast-telemetry-key-of-2 : tie.Need-cast-telemetry-key-of-2
-cast-telemetry-key-of-2 c =
-    let a = c .before .before .args in
-    let w = fit-all (a .spacecraft) 1024 (a .source) 256 (a .equipment) 65536 (a .stream) 256 _ (c .before .all-fit .ensures) (c .if1 .left) in
-    omega (arith, w .two)
+cast-telemetry-key-of-2 c = omega (arith, fits c .two)
 
 cast-telemetry-key-of-3 : tie.Need-cast-telemetry-key-of-3
-cast-telemetry-key-of-3 c =
-    let a = c .before .before .args in
-    let w = fit-all (a .spacecraft) 1024 (a .source) 256 (a .equipment) 65536 (a .stream) 256 _ (c .before .all-fit .ensures) (c .if1 .left) in
-    omega (arith, w .three)
+cast-telemetry-key-of-3 c = omega (arith, fits c .three)
 
 cast-telemetry-key-of-4 : tie.Need-cast-telemetry-key-of-4
-cast-telemetry-key-of-4 c =
-    let a = c .before .before .args in
-    let w = fit-all (a .spacecraft) 1024 (a .source) 256 (a .equipment) 65536 (a .stream) 256 _ (c .before .all-fit .ensures) (c .if1 .left) in
-    omega (arith, w .four)
+cast-telemetry-key-of-4 c = omega (arith, fits c .four)
 
 telemetry-key-of-requires : tie.Need-telemetry-key-of-requires
-telemetry-key-of-requires c κs =
-    let a = c .before .before .args in
-    fit-all (a .spacecraft) 1024 (a .source) 256 (a .equipment) 65536 (a .stream) 256 _ (c .before .all-fit .ensures) (c .if1 .left) .one
+telemetry-key-of-requires c κs = fits c .one
 
 returns-2 : tie.Need-returns-2
 unfolding telemetryKeyCall
