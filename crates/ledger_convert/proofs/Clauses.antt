@@ -9,9 +9,10 @@ use lib.ListN.{length}
 use borrow.Author.Tests.{eqb-true, leb-true, ltb-true}
 use Rattle.octets.specs.Octets.{all, zeroAt}
 use Rattle.octets.proofs.Laws.{and-split, and-true, all-at}
-use Rattle.ledger_convert.specs.Old.{sheetSize, rowSize, rowCount, rowsStart, deskSize, deskCount, deskZerosAt, deskZerosSize, openedAt}
-use Rattle.ledger_convert.specs.Old.{workedAt, desksStart, lengthAt, rowCountAt, rowsStartAt, deskCountAt, desksStartAt, rowAt, deskAt}
-use Rattle.ledger_convert.specs.Old.{headerNumber, used, deskByte, deskRow, isClosed, carries, headerRight, validKeys, differentKeys}
+use Rattle.ledger_sheet.specs.Sheet.{rowCount, rowsStart, deskZerosAt, deskZerosSize, openedAt, deskCount, lengthAt, rowCountAt, rowsStartAt, deskCountAt, desksStartAt, headerNumber, used}
+use Rattle.ledger_convert.specs.Old.{sheetSize, rowSize, deskSize}
+use Rattle.ledger_convert.specs.Old.{workedAt, desksStart, rowAt, deskAt}
+use Rattle.ledger_convert.specs.Old.{deskByte, deskRow, isClosed, carries, headerRight, validKeys, differentKeys}
 use Rattle.ledger_convert.specs.Old.{firstNumbers, unusedZero, closedZero, deskMarked, openNames, deskRight, right}
 use Rattle.ledger_convert.specs.inner.Sized.{Sized}
 use Rattle.ledger_sheet.proofs.Desks.{closed-is, open-is, UpTo, longer, ended}

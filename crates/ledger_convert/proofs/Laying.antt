@@ -27,6 +27,7 @@ use Rattle.octets.proofs.Lists.{length-table, laid-table}
 use Rattle.ledger_layout.proofs.Rows.{length-place}
 use Rattle.ledger_layout.proofs.Places.{header-put, length-desk}
 use Rattle.ledger_layout.proofs.Used.{count-law}
+use Rattle.ledger_sheet.specs.Sheet.{used}
 use Rattle.ledger_convert.specs.Old as Old
 use Rattle.ledger_convert.specs.Convert.{oldPlaceIn, oldDeskIn, oldBookOf, oldTicksOf}
 use Rattle.ledger_convert.specs.inner.Laid.{Laid}
@@ -120,27 +121,27 @@ module _ (old new : List ℕ) (k d : ℕ) (h : Laid old new k d) where
       }
 
 -- the free rows are there already
-pub rows-laid : (old new : List ℕ) (d : ℕ) → Laid old new (Old.used old) d → Laid old new rowCount d
+pub rows-laid : (old new : List ℕ) (d : ℕ) → Laid old new (used old) d → Laid old new rowCount d
 unfolding oldPlaceIn placeBytes
 rows-laid old new d h =
     record {
       long = h .long;
       header = h .header;
-      rows = λ j m. h .rows j m ∙ rw (lt-ltb j rowCount m) (by j (ltb j (Old.used old)) refl);
+      rows = λ j m. h .rows j m ∙ rw (lt-ltb j rowCount m) (by j (ltb j (used old)) refl);
       desks = h .desks;
     }
   where
-    by : (j : ℕ) (t : Bool) → ltb j (Old.used old) ≡ t
-        → cond (ltb j (Old.used old)) (placeBytes (oldPlaceIn old j)) (replicate rowSize 0) ≡ placeBytes (oldPlaceIn old j)
+    by : (j : ℕ) (t : Bool) → ltb j (used old) ≡ t
+        → cond (ltb j (used old)) (placeBytes (oldPlaceIn old j)) (replicate rowSize 0) ≡ placeBytes (oldPlaceIn old j)
     by j true e = rw e
     by j false e = rw e
 
 -- ---- the start
 
-pub fresh-laid : (old : List ℕ) {t u : List ℕ} → t ≡ freshSheet → u ≡ put t usedAt (bytesOf headerNumberSize (Old.used old)) → Laid old u 0 0
+pub fresh-laid : (old : List ℕ) {t u : List ℕ} → t ≡ freshSheet → u ≡ put t usedAt (bytesOf headerNumberSize (used old)) → Laid old u 0 0
 unfolding freshSheet
 fresh-laid old {t} {u} p q =
-    let m = Old.used old in
+    let m = used old in
     let zeros : List ℕ = replicate (sheetSize - rowsStart) 0 in
     let lz = length-replicate {A = ℕ} (sheetSize - rowsStart) 0 in
     let lh = length-header m in
@@ -176,11 +177,11 @@ count-below (suc n) u l =
     (eq-or-lt-of-le l)
 
 module _ (old : List ℕ) (r : Old.right old ≡ true) where
-  count-is : countUsed (oldBookOf old .places) ≡ Old.used old
+  count-is : countUsed (oldBookOf old .places) ≡ used old
   unfolding oldBookOf
   count-is =
       let n = length-table rowCount (oldPlaceIn old) in
-      let u = Old.used old in
+      let u = used old in
       sym (count-law (oldBookOf old .places) (λ i. ltb i u) (λ i l. sym (Bool·not-not (ltb i u)) ∙ ap not (sym (free-at old r i))))
       ∙ rw n (count-below rowCount u (few old r))
 
@@ -197,13 +198,13 @@ module _ (old : List ℕ) (r : Old.right old ≡ true) where
 -- ---- what is copied
 
 module _ (old : List ℕ) (r : Old.right old ≡ true) (bytes : Bytes old) where
-  pub row-copied : (i b : ℕ) → i < Old.used old → b + keyStart ≡ Old.rowAt i → (v : Row) → v ≡ rowValueAt old b
+  pub row-copied : (i b : ℕ) → i < used old → b + keyStart ≡ Old.rowAt i → (v : Row) → v ≡ rowValueAt old b
       → rowBytes (v .key) (v .first) (v .ticks) ≡ placeBytes (oldPlaceIn old i)
   unfolding oldPlaceIn
   row-copied i b l e v is =
       let m = few old r in
       let n = long old r in
-      rw (lt-ltb i (Old.used old) l) (old-bytes old (Old.rowAt i) b e bytes (omega arith) v is)
+      rw (lt-ltb i (used old) l) (old-bytes old (Old.rowAt i) b e bytes (omega arith) v is)
 
   -- a copy at offset c of an open desk
   copied : (d c b : ℕ) → d < deskCount → Old.isClosed old d ≡ false → b + keyStart ≡ c → c + Old.rowSize ≤ Old.sheetSize
@@ -213,7 +214,7 @@ module _ (old : List ℕ) (r : Old.right old ≡ true) (bytes : Bytes old) where
       let n = long old r in
       old-bytes old c b e bytes (omega arith) v is ∙ ap placeBytes (copy-is old r (Old.deskRow old d) c (opened old r d l o .names) h k)
 
-  pub desk-copied : (d b c : ℕ) → d < deskCount → Old.isClosed old d ≡ false → b + keyStart ≡ Old.deskAt d + Old.openedAt
+  pub desk-copied : (d b c : ℕ) → d < deskCount → Old.isClosed old d ≡ false → b + keyStart ≡ Old.deskAt d + openedAt
       → c + keyStart ≡ Old.deskAt d + Old.workedAt → (v w : Row) → v ≡ rowValueAt old b → w ≡ rowValueAt old c
       → openDesk (Old.deskRow old d) (rowBytes (v .key) (v .first) (v .ticks)) (rowBytes (w .key) (w .first) (w .ticks))
       ≡ deskBytes (oldBookOf old .places) (oldDeskIn old d)
@@ -222,6 +223,6 @@ module _ (old : List ℕ) (r : Old.right old ≡ true) (bytes : Bytes old) where
       let h = opened old r d l o in
       rw (
         o,
-        copied d (Old.deskAt d + Old.openedAt) b l o e (omega arith) (h .opened-carries) v x,
+        copied d (Old.deskAt d + openedAt) b l o e (omega arith) (h .opened-carries) v x,
         copied d (Old.deskAt d + Old.workedAt) c l o f (omega arith) (h .worked-carries) w y,
       )

@@ -27,8 +27,9 @@ use Rattle.ledger_layout.specs.Layout.{placeBytes}
 use Rattle.ledger_layout.proofs.Parts.{number-within}
 use Rattle.octets.proofs.Lists.{length-table, getD-table, table-is}
 use Rattle.ledger_layout.proofs.Ticks.{ticks-bytes}
-use Rattle.ledger_convert.specs.Old.{sheetSize, keySize, firstAt, firstSize, rowCount, deskCount, openedAt, workedAt}
-use Rattle.ledger_convert.specs.Old.{rowAt, deskAt, used, keyAt, firstNumberAt, deskRow, isClosed, carries}
+use Rattle.ledger_sheet.specs.Sheet.{keySize, firstSize, rowCount, openedAt, deskCount, used}
+use Rattle.ledger_convert.specs.Old.{sheetSize, firstAt, workedAt}
+use Rattle.ledger_convert.specs.Old.{rowAt, deskAt, keyAt, firstNumberAt, deskRow, isClosed, carries}
 use Rattle.ledger_convert.specs.Old.{validKeys, differentKeys, firstNumbers, closedZero, deskMarked, openNames, deskRight, right}
 use Rattle.ledger_convert.specs.Old as Old
 use Rattle.ledger_convert.specs.Convert.{oldTickedAt, oldTicksOf, oldPlaceIn, oldDeskIn, oldBookOf}

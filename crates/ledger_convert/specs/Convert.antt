@@ -12,8 +12,9 @@ use Rattle.ledger_sheet.specs.Sheet.{sheetSize}
 use Rattle.octets.specs.Lists.{table}
 use Rattle.ledger_sheet.specs.Outcome.{Outcome}
 use Rattle.ledger_layout.specs.Layout.{layout}
-use Rattle.ledger_convert.specs.Old.{ticksAt, byteBits, rowCount, openedAt, workedAt, deskCount, rowAt}
-use Rattle.ledger_convert.specs.Old.{deskAt, used, keyAt, firstNumberAt, deskRow, isClosed, right}
+use Rattle.ledger_sheet.specs.Sheet.{rowCount, byteBits, openedAt, deskCount, used}
+use Rattle.ledger_convert.specs.Old.{ticksAt, workedAt, rowAt}
+use Rattle.ledger_convert.specs.Old.{deskAt, keyAt, firstNumberAt, deskRow, isClosed, right}
 
 -- Position i of the old row or copy at offset a: tick byte i / 8, and in it the bit that counts 2 ^ (i % 8).
 abbrev pub oldTickedAt : List ℕ → ℕ → ℕ → Bool

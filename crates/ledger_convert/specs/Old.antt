@@ -1,5 +1,6 @@
 -- The old sheet, document 01, "The ledger sheet", with request 03's rule on first numbers: where its parts stand, and when a list of bytes
--- is a right one. Every size and offset of it has its name here, once. Assumes nothing.
+-- is a right one. Its sizes and offsets that the new sheet has too are named there (`ledger_sheet/specs/Sheet.antt`), the others here.
+-- Assumes nothing.
 -- The manual, docs/INTERFACE.md: "Calls on the ledger".
 use Prim.Native.Nat.{ℕ, _+_, _*_}
 use mathlib.Core.Bool.{Bool, not, _&&_, _||_}
@@ -9,60 +10,29 @@ use lib.ListN.{length, getD}
 use Rattle.keys.specs.Key.{validKey}
 use Rattle.keys.specs.Numbers.{isNumber}
 use Rattle.octets.specs.Octets.{numberAt, all, zeroAt, sameAt}
+use Rattle.ledger_sheet.specs.Sheet.{keySize, firstSize, ticksSize, rowCount, rowsStart, deskRowAt, deskZerosAt, deskZerosSize, openedAt, deskCount}
+use Rattle.ledger_sheet.specs.Sheet.{lengthAt, rowCountAt, rowsStartAt, deskCountAt, desksStartAt, headerNumber, used}
 
 -- ---- sizes and offsets
 
--- A row of 140 bytes: 8 of key, 4 of first number, 128 of ticks. There are 32, and the first stands at 24.
-abbrev pub keySize : ℕ
-keySize = 8
-
+-- A row of 140 bytes has no word that says whether it is used: 8 of key, 4 of first number, 128 of ticks. There are 32, and the first
+-- stands at 24, behind a header of the same six numbers.
 abbrev pub firstAt : ℕ
 firstAt = keySize
-
-abbrev pub firstSize : ℕ
-firstSize = 4
 
 abbrev pub ticksAt : ℕ
 ticksAt = firstAt + firstSize
 
-abbrev pub ticksSize : ℕ
-ticksSize = 128
-
 abbrev pub rowSize : ℕ
 rowSize = ticksAt + ticksSize
 
-abbrev pub rowCount : ℕ
-rowCount = 32
-
-abbrev pub rowsStart : ℕ
-rowsStart = 24
-
--- A tick byte has eight positions.
-abbrev pub byteBits : ℕ
-byteBits = 8
-
 -- A desk of 284 bytes: whether it is open, its row, two zeros, and two copies of the row of 140 each, as opened and as worked on. There
 -- are eight, and they stand behind the rows.
-abbrev pub deskRowAt : ℕ
-deskRowAt = 1
-
-abbrev pub deskZerosAt : ℕ
-deskZerosAt = 2
-
-abbrev pub deskZerosSize : ℕ
-deskZerosSize = 2
-
-abbrev pub openedAt : ℕ
-openedAt = deskZerosAt + deskZerosSize
-
 abbrev pub workedAt : ℕ
 workedAt = openedAt + rowSize
 
 abbrev pub deskSize : ℕ
 deskSize = workedAt + rowSize
-
-abbrev pub deskCount : ℕ
-deskCount = 8
 
 abbrev pub desksStart : ℕ
 desksStart = rowsStart + rowSize * rowCount
@@ -70,29 +40,6 @@ desksStart = rowsStart + rowSize * rowCount
 -- The whole sheet: 6,776 bytes.
 abbrev pub sheetSize : ℕ
 sheetSize = desksStart + deskSize * deskCount
-
--- The header, six numbers of 4 bytes: the sheet's length, how many rows are used, how many there can be, where they begin, and how many
--- desks there are and where those begin.
-abbrev pub headerNumberSize : ℕ
-headerNumberSize = 4
-
-abbrev pub lengthAt : ℕ
-lengthAt = 0
-
-abbrev pub usedAt : ℕ
-usedAt = 4
-
-abbrev pub rowCountAt : ℕ
-rowCountAt = 8
-
-abbrev pub rowsStartAt : ℕ
-rowsStartAt = 12
-
-abbrev pub deskCountAt : ℕ
-deskCountAt = 16
-
-abbrev pub desksStartAt : ℕ
-desksStartAt = 20
 
 -- ---- what stands there
 
@@ -102,14 +49,6 @@ rowAt i = rowsStart + rowSize * i
 
 abbrev pub deskAt : ℕ → ℕ
 deskAt d = desksStart + deskSize * d
-
--- A number of the header.
-abbrev pub headerNumber : List ℕ → ℕ → ℕ
-headerNumber s at = numberAt s at headerNumberSize
-
--- How many rows are used.
-abbrev pub used : List ℕ → ℕ
-used s = headerNumber s usedAt
 
 -- The key and the first number of the row, or of the copy of one, at offset a.
 abbrev pub keyAt : List ℕ → ℕ → ℕ

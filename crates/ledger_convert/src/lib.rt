@@ -18,6 +18,7 @@ ghost use Rattle.ledger_sheet.specs.Words.{answerWords};
 ghost use Rattle.ledger_changes.specs.Rows.{rowBytes};
 ghost use Rattle.ledger_changes.specs.Bytes.{openDesk};
 ghost use Rattle.ledger_layout.specs.Layout.{layout};
+ghost use Rattle.ledger_sheet.specs.Sheet as Sheet;
 ghost use Rattle.ledger_convert.specs.Old as Old;
 ghost use Rattle.ledger_convert.specs.Convert.{oldBookOf, convertOn};
 ghost use Rattle.ledger_convert.specs.inner.Laid.{Laid};
@@ -50,7 +51,7 @@ fn lay_out(old: &[u8], new: &mut [u8])
 
 // Lays out the used rows.
 fn write_rows(old: &[u8], new: &mut [u8], used: usize)
-    requires { ⌜ (Old.right (now old) ≡ true) × (used ≡ Old.used (now old)) ⌝ }
+    requires { ⌜ (Old.right (now old) ≡ true) × (used ≡ Sheet.used (now old)) ⌝ }
     requires { ⌜ Laid (now old) (now new) 0 0 ⌝ }
     ensures { λ _. ⌜ Laid (now (old .entry)) (now (new .exit)) rowCount 0 ⌝ }
 {

@@ -3,6 +3,7 @@ use Prim.Native.Nat.{_≤_, _-_}
 use mathlib.Core.Path.{_≡_}
 use native.Mathlib.Omega.{arith}
 use Rattle.ledger_sheet.specs.Sheet.{keyStart}
+use Rattle.ledger_sheet.specs.Sheet.{used}
 use Rattle.ledger_convert.specs.Old as Old
 use Rattle.ledger_convert.specs.inner.Laid.{Laid}
 use Rattle.ledger_convert.proofs.Read.{few, long, value-ticks}
@@ -75,7 +76,7 @@ same-length c = search needs
 returns : tie.Need-returns Inv-loop μ-loop
 returns c =
     let start = c .before .before .before .before in
-    let e : c .before .loop .i ≡ Old.used (start .args .old .now) = omega (arith, start .pre .0 .1) in
+    let e : c .before .loop .i ≡ used (start .args .old .now) = omega (arith, start .pre .0 .1) in
     rows-laid _ _ 0 (rw e at (c .before .loop .inv .1))
 
 pub write-rows-spec : {M : Type 1} → statement M

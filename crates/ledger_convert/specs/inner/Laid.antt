@@ -9,13 +9,14 @@ use Rattle.octets.specs.Octets.{part}
 use Rattle.ledger_sheet.specs.Sheet.{sheetSize, rowSize, rowCount, rowsStart, deskSize, deskCount, rowAt, deskAt}
 use Rattle.ledger_changes.specs.Bytes.{headerBytes}
 use Rattle.ledger_layout.specs.Layout.{placeBytes, deskBytes}
+use Rattle.ledger_sheet.specs.Sheet.{used}
 use Rattle.ledger_convert.specs.Old as Old
 use Rattle.ledger_convert.specs.Convert.{oldPlaceIn, oldDeskIn, oldBookOf}
 
 -- Of the new sheet the header, the first k rows and the first d desks are laid out, and the rest is zero.
 pub record Laid (old new : List ℕ) (k d : ℕ) : Type 0 where
   pub long : length new ≡ sheetSize
-  pub header : part new 0 rowsStart ≡ headerBytes (Old.used old)
+  pub header : part new 0 rowsStart ≡ headerBytes (used old)
   pub rows : (j : ℕ) → j < rowCount → part new (rowAt j) rowSize ≡ cond (ltb j k) (placeBytes (oldPlaceIn old j)) (replicate rowSize 0)
   pub desks : (e : ℕ) → e < deskCount
       → part new (deskAt e) deskSize ≡ cond (ltb e d) (deskBytes (oldBookOf old .places) (oldDeskIn old e)) (replicate deskSize 0)

@@ -11,7 +11,8 @@ use Rattle.octets.specs.Octets.{all}
 use Rattle.octets.proofs.Laws.{all-none, all-next}
 use Rattle.keys.specs.Key.{validKey}
 use Rattle.keys.specs.Numbers.{isNumber}
-use Rattle.ledger_convert.specs.Old.{rowCount, rowAt, keyAt, firstNumberAt, validKeys, differentKeys, firstNumbers}
+use Rattle.ledger_sheet.specs.Sheet.{rowCount}
+use Rattle.ledger_convert.specs.Old.{rowAt, keyAt, firstNumberAt, validKeys, differentKeys, firstNumbers}
 use Rattle.ledger_convert.proofs.old.are_rows.Statement.{statement}
 use Rattle.ledger_convert.proofs.old.are_rows.Tie as tie
 

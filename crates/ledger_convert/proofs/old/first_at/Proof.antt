@@ -1,7 +1,8 @@
 -- `old::first_at` meets its contract: four bytes fit 32 bits. Assumes nothing.
 use Prim.Native.Nat.{_+_}
 use Rattle.octets.proofs.Laws.{number-lt}
-use Rattle.ledger_convert.specs.Old.{firstAt, firstSize}
+use Rattle.ledger_sheet.specs.Sheet.{firstSize}
+use Rattle.ledger_convert.specs.Old.{firstAt}
 use borrow.Author.Needs.{needs}
 use Rattle.ledger_convert.proofs.old.first_at.Statement.{statement}
 use Rattle.ledger_convert.proofs.old.first_at.Tie as tie

@@ -1,6 +1,6 @@
 -- `old::is_open_desk` meets its contract. Assumes nothing.
-use Rattle.ledger_convert.specs.Old.{deskRowAt}
 use Rattle.octets.proofs.Laws.{and-false, and-assoc}
+use Rattle.ledger_sheet.specs.Sheet.{deskRowAt}
 use Rattle.ledger_convert.proofs.Clauses.{open-desk}
 use Prim.Native.Nat.{_+_}
 use native.Mathlib.Omega.{arith}

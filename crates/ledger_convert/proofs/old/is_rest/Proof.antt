@@ -5,7 +5,8 @@ use mathlib.Core.Path.{_≡_}
 use mathlib.Core.Logic.{⊎-elim}
 use native.Mathlib.Omega.{arith}
 use borrow.Author.Needs.{needs}
-use Rattle.ledger_convert.specs.Old.{deskCount, deskAt}
+use Rattle.ledger_sheet.specs.Sheet.{deskCount}
+use Rattle.ledger_convert.specs.Old.{deskAt}
 use Rattle.ledger_convert.proofs.Clauses.{Judged, none-judged, closed-judged, open-judged}
 use Rattle.ledger_convert.proofs.old.is_rest.Statement.{statement}
 use Rattle.ledger_convert.proofs.old.is_rest.Tie as tie
