@@ -1,12 +1,9 @@
 // The numbers of an answer, for whoever exports, prints or times it (document 02, Req 06): the refusal's number, or 0 and the answer's
 // numbers in the papers' order; zeros behind them. Most answers have a few numbers, which are handed out without the zeros.
 pub mod agreements;
-pub mod ledgers;
-pub mod nights;
 pub mod places;
 pub mod receivers;
 pub mod records;
-pub mod seasons;
 pub mod tapes;
 
 use dates::DateAnswer;

@@ -7,6 +7,7 @@ mod missions;
 mod seasons;
 mod sheets;
 
+use arguments::Asked;
 use call_lines::Frame;
 use call_lines::line;
 use call_lines::ops;
@@ -42,6 +43,27 @@ struct State {
 }
 
 fn main() {
+    let count = os::arg_count();
+    if count < 2 {
+        make_calls();
+        return;
+    }
+    let wanted = arguments::first_option(count);
+    match wanted {
+        Asked::Help => tell_usage(libc::STDOUT_FILENO),
+        _ => tell_usage(libc::STDERR_FILENO),
+    }
+}
+
+fn tell_usage(fd: i32) {
+    io::write_all(fd, b"usage: call_script < SCRIPT\n");
+    io::write_all(
+        fd,
+        b"Makes the calls of a script, docs/call-script.md, and writes a line for each: 0 and the answer, or the refusal's number.\n",
+    );
+}
+
+fn make_calls() {
     let mut runs = [0u8; frame::MOST_RUNS];
     let mut sheet = [0u8; MOST_SHEET];
     let mut settings = [0u8; MOST_SETTINGS];

@@ -1,11 +1,11 @@
 // The lines of the calls on the ledger sheet.
-use answers::ledgers;
-use answers::nights;
 use answers::places;
 use call_lines::Frame;
 use call_lines::crc;
 use call_lines::line;
 use call_lines::ops;
+use ledger_answers::ledgers;
+use ledger_answers::nights;
 use ledger_sheet::Answer;
 
 // How many numbers the answers have where they are accepted.

@@ -1,6 +1,6 @@
 // A night's calls in a trace, played again.
 use crate::write;
-use answers::nights;
+use ledger_answers::nights;
 ghost use mathlib.Core.Path.{_≡_};
 ghost use Rattle.ledger_replay.specs.Replay.{replayOn};
 ghost use Rattle.answers.specs.Numbers.{withNone};

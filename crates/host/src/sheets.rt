@@ -1,6 +1,6 @@
 // The ledger sheet.
 use crate::write;
-use answers::ledgers;
+use ledger_answers::ledgers;
 ghost use mathlib.Core.Path.{_≡_};
 ghost use Rattle.ledger_model.specs.Step.{Enrol, Ask, Find, RowReport, FirstGap, Open, Tick, Untick, Save, Drop, Strike};
 ghost use Rattle.ledger_layout.specs.Layout.{call, onSheet, freshOn};

@@ -1,10 +1,10 @@
 -- `answers::nights::replayed` meets its contract. Assumes nothing.
 use Rattle.answers.proofs.Told.{told-few, refused-whole}
 use Rattle.answers.specs.Numbers.{withNone}
 use Rattle.ledger_replay.specs.Replay.{replayedWords}
 use borrow.Author.Needs.{needs}
-use Rattle.answers.proofs.nights.replayed.Statement.{statement}
-use Rattle.answers.proofs.nights.replayed.Tie as tie
+use Rattle.ledger_answers.proofs.nights.replayed.Statement.{statement}
+use Rattle.ledger_answers.proofs.nights.replayed.Tie as tie
 
 enum-told : tie.Need-enum-told
 enum-told c = search needs

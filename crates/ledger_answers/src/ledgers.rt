@@ -1,23 +1,22 @@
 // The numbers of the ledger's answers.
-use crate::FEW;
-use crate::NONE;
-use crate::places;
-use crate::refused;
+use answers::FEW;
+use answers::NONE;
+use answers::places;
 use ledger_sheet::Answer;
 use ledger_sheet::GapAnswer;
 use ledger_sheet::ReportAnswer;
 use ledger_sheet::RowAnswer;
 ghost use mathlib.Core.List.{[], _∷_};
 ghost use Rattle.ledger_sheet.specs.Words.{answerWords, rowWords, reportAnswerWords, gapWords};
 ghost use Rattle.answers.specs.Numbers.{plain, withNone};
 ghost use Rattle.answers.specs.inner.Numbers.{Few};
 
 pub fn answer(answer: Answer) -> [u64; FEW]
     ensures { λ r. ⌜ Few r (plain (answerWords answer)) ⌝ }
 {
     match answer {
         Answer::Done => [0u64; FEW],
-        Answer::Refused(why) => refused(why),
+        Answer::Refused(why) => answers::refused(why),
     }
 }
 
@@ -30,7 +29,7 @@ pub fn row(answer: RowAnswer) -> [u64; FEW]
             numbers[places::ROW] = row as u64;
             numbers
         }
-        RowAnswer::Refused(why) => refused(why),
+        RowAnswer::Refused(why) => answers::refused(why),
     }
 }
 
@@ -56,7 +55,7 @@ pub fn report(answer: ReportAnswer) -> [u64; FEW]
             numbers[places::LOWEST] = lowest as u64;
             numbers
         }
-        ReportAnswer::Refused(why) => refused(why),
+        ReportAnswer::Refused(why) => answers::refused(why),
     }
 }
 
@@ -66,7 +65,7 @@ pub fn gap(answer: GapAnswer) -> [u64; FEW]
     match answer {
         GapAnswer::Nothing => gap_at(NONE, NONE),
         GapAnswer::Gap { number, row } => gap_at(number as u64, row as u64),
-        GapAnswer::Refused(why) => refused(why),
+        GapAnswer::Refused(why) => answers::refused(why),
     }
 }
 

@@ -1,13 +1,12 @@
 // The numbers of a replay's answer.
-use crate::FEW;
-use crate::NONE;
-use crate::places;
-use crate::refused;
+use answers::FEW;
+use answers::NONE;
+use answers::places;
 use ledger_replay::Replayed;
 ghost use mathlib.Core.List.{[], _∷_};
 ghost use Rattle.ledger_replay.specs.Replay.{replayedWords};
 ghost use Rattle.answers.specs.Numbers.{plain, withNone};
 ghost use Rattle.answers.specs.inner.Numbers.{Few};
 
 // Where every call answers as written, no entry differs.
 pub fn replayed(answer: Replayed) -> [u64; FEW]
@@ -18,7 +17,7 @@ pub fn replayed(answer: Replayed) -> [u64; FEW]
         Replayed::Differs { entry, number, row } => {
             differing(entry as u64, number as u64, row as u64)
         }
-        Replayed::Refused(why) => refused(why),
+        Replayed::Refused(why) => answers::refused(why),
     }
 }
 

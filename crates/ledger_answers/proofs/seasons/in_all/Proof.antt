@@ -1,9 +1,9 @@
 -- `answers::seasons::in_all` meets its contract. Assumes nothing.
-use Rattle.answers.specs.Seasons.{inAllCount}
+use Rattle.ledger_answers.specs.Seasons.{inAllCount}
 use Rattle.answers.proofs.Told.{refused-all}
 use borrow.Author.Needs.{needs}
-use Rattle.answers.proofs.seasons.in_all.Statement.{statement}
-use Rattle.answers.proofs.seasons.in_all.Tie as tie
+use Rattle.ledger_answers.proofs.seasons.in_all.Statement.{statement}
+use Rattle.ledger_answers.proofs.seasons.in_all.Tie as tie
 
 enum-told : tie.Need-enum-told
 enum-told c = search needs

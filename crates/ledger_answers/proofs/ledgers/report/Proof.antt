@@ -1,10 +1,10 @@
 -- `answers::ledgers::report` meets its contract. Assumes nothing.
 use Rattle.answers.proofs.Told.{told-few, refused-whole}
 use Rattle.answers.specs.Numbers.{plain, withNone}
 use Rattle.ledger_sheet.specs.Words.{answerWords, rowWords, reportAnswerWords, gapWords}
 use borrow.Author.Needs.{needs}
-use Rattle.answers.proofs.ledgers.report.Statement.{statement}
-use Rattle.answers.proofs.ledgers.report.Tie as tie
+use Rattle.ledger_answers.proofs.ledgers.report.Statement.{statement}
+use Rattle.ledger_answers.proofs.ledgers.report.Tie as tie
 
 enum-known-answer : tie.Need-enum-known-answer
 enum-known-answer c = search needs

@@ -1,8 +1,8 @@
 -- `answers::seasons::counted` meets its contract. Assumes nothing.
 use lib.Dec.{lit<}
 use borrow.Author.Needs.{needs}
-use Rattle.answers.proofs.seasons.counted.Statement.{statement}
-use Rattle.answers.proofs.seasons.counted.Tie as tie
+use Rattle.ledger_answers.proofs.seasons.counted.Statement.{statement}
+use Rattle.ledger_answers.proofs.seasons.counted.Tie as tie
 
 enum-told : tie.Need-enum-told
 enum-told c = search needs

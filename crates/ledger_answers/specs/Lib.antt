@@ -1,0 +1,3 @@
+-- What the contracts of `ledger_answers` cite.
+pub mod Seasons
+pub mod inner
