@@ -2,11 +2,20 @@
 use ledger_convert::old;
 use ledger_sheet::Answer;
 use ledger_sheet::right;
+ghost use Prim.Native.Nat.{_≤_};
+ghost use lib.ListN.{length};
+ghost use Rattle.io.specs.Counts.{Counts};
 
 // What a file was: a sheet, as it stands or converted, or none.
 pub struct File {
     pub is_sheet: bool,
     pub converted: bool,
+}
+
+// The same with the length of the file's name.
+pub struct Named {
+    pub file: File,
+    pub size: usize,
 }
 
 // How many bytes came; or a read failed.
@@ -22,18 +31,22 @@ fn no_sheet() -> File {
     }
 }
 
-// Reads the file that argument i names into the slot, and says what is wrong with one that is no sheet.
-pub(crate) fn load(i: usize, slot: &mut [u8]) -> File {
-    let mut path = io::buffer();
-    let opened = arguments::open_at(i, &mut path);
+// Reads the file that argument i names into the slot, its name into the name's, and says what is wrong with one that is no sheet.
+pub(crate) fn load(i: usize, name: &mut [u8], slot: &mut [u8]) -> Named
+    ensures { λ r. ⌜ r .size ≤ length (now (name .entry)) ⌝ }
+{
+    let opened = arguments::open_at(i, name);
     let fd = opened.fd;
+    let size = opened.size;
     if fd < 0 {
-        return no_sheet();
+        return Named {
+            file: no_sheet(),
+            size,
+        };
     }
-    let n = opened.size;
-    let file = load_open(fd, &path[..n], slot);
+    let file = load_open(fd, &name[..size], slot);
     libc::close(fd);
-    file
+    Named { file, size }
 }
 
 fn load_open(fd: i32, name: &[u8], slot: &mut [u8]) -> File {
@@ -44,7 +57,7 @@ fn load_open(fd: i32, name: &[u8], slot: &mut [u8]) -> File {
         return no_sheet();
     }
     let n = got.count;
-    let file = place(first(&room, n), slot);
+    let file = place(&room[..n], slot);
     if !file.is_sheet {
         io::write_all(libc::STDERR_FILENO, name);
         io::write_all(libc::STDERR_FILENO, b": not a ledger sheet (20)\n");
@@ -53,7 +66,9 @@ fn load_open(fd: i32, name: &[u8], slot: &mut [u8]) -> File {
 }
 
 // Reads until the file ends, a read fails or the room is full: no sheet is as long.
-fn read_all(fd: i32, room: &mut [u8]) -> Got {
+fn read_all(fd: i32, room: &mut [u8]) -> Got
+    ensures { λ r. ⌜ Counts (r .count) (now (room .exit)) ⌝ }
+{
     let mut have = 0;
     while have < room.len() {
         let part = &mut room[have..];
@@ -77,14 +92,6 @@ fn read_all(fd: i32, room: &mut [u8]) -> Got {
         count: have,
         failed: false,
     }
-}
-
-// The first n bytes of s, or all where it has fewer.
-pub(crate) fn first(s: &[u8], n: usize) -> &[u8] {
-    if s.len() < n {
-        return s;
-    }
-    &s[..n]
 }
 
 // Puts a sheet into the slot, converted where it has the length of an old one.
