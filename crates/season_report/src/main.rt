@@ -49,45 +49,28 @@ fn load_all(names: &mut [u8], sheets: &mut [u8], count: usize) -> Loaded
     requires { ⌜ (length (now names) ≡ nameSize * mostSheets) × (length (now sheets) ≡ sheetSize * mostSheets) ⌝ }
     ensures { λ r. ⌜ Named (now (names .exit)) (r .files) ⌝ }
 {
-    let mut sizes = [0usize; ledger_season::MOST_SHEETS];
-    let mut converted = [false; ledger_season::MOST_SHEETS];
+    let mut files = Files {
+        count: 0,
+        sizes: [0; ledger_season::MOST_SHEETS],
+        converted: [false; ledger_season::MOST_SHEETS],
+    };
     for i in 0..ledger_season::MOST_SHEETS {
         if count <= i {
-            return Loaded {
-                files: Files {
-                    count: i,
-                    sizes,
-                    converted,
-                },
-                ok: true,
-            };
+            return Loaded { files, ok: true };
         }
         let b = season_page::NAME * i;
         let f = b + season_page::NAME;
         let a = sheet::SHEET * i;
         let e = a + sheet::SHEET;
-        let named = files::load(i + 1, &mut names[b..f], &mut sheets[a..e]);
-        if !named.file.is_sheet {
-            return Loaded {
-                files: Files {
-                    count: i,
-                    sizes,
-                    converted,
-                },
-                ok: false,
-            };
+        let file = files::load(i + 1, &mut names[b..f], &mut sheets[a..e]);
+        if !file.is_sheet {
+            return Loaded { files, ok: false };
         }
-        sizes[i] = named.size;
-        converted[i] = named.file.converted;
+        files.count = i + 1;
+        files.sizes[i] = file.size;
+        files.converted[i] = file.converted;
     }
-    Loaded {
-        files: Files {
-            count: ledger_season::MOST_SHEETS,
-            sizes,
-            converted,
-        },
-        ok: true,
-    }
+    Loaded { files, ok: true }
 }
 
 // The files are sheets, and not too many, so that a key in two of them is all that is left to refuse.

@@ -1,24 +1,25 @@
--- `season_report::load_all` meets its contract. The invariant: the names loaded so far are at most a slot long. Assumes nothing.
+-- `season_report::load_all` meets its contract. The invariant: so many files are named as were loaded. Assumes nothing.
 use Prim.Native.Nat.{_+_, _*_, _-_, _≤_}
 use native.Mathlib.Omega.{arith}
 use mathlib.Core.Path.{_≡_, refl}
-use lib.ListN.{length, drop, length-take}
+use lib.ListN.{length, drop, length-take, length-set}
 use borrow.Author.Needs.{needs}
 use Rattle.ledger_season.specs.Report.{mostSheets}
 use Rattle.season_page.specs.Page.{nameSize}
-use Rattle.season_report.proofs.Names.{Short, short-none, short-more}
+use Rattle.season_page.specs.inner.Room.{Named}
+use Rattle.season_report.proofs.Names.{short-none, short-more}
 use Rattle.season_report.proofs.load_all.Statement.{statement}
 use Rattle.season_report.proofs.load_all.Tie as tie
 
 abbrev Inv-loop : tie.InvT-loop
-Inv-loop names₀ sheets₀ count sizes₀ converted₀ i₀ names sheets sizes converted i =
-    (i ≤ mostSheets) × (length names ≡ length names₀) × (length sheets ≡ length sheets₀) × (length sizes ≡ mostSheets) × Short sizes
+Inv-loop names₀ sheets₀ count files₀ i₀ names sheets files i =
+    (i ≤ mostSheets) × (length sheets ≡ length sheets₀) × Named names files
 
 abbrev μ-loop : tie.MeasureT-loop
-μ-loop names₀ sheets₀ count sizes₀ converted₀ i₀ names sheets sizes converted i = mostSheets - i
+μ-loop names₀ sheets₀ count files₀ i₀ names sheets files i = mostSheets - i
 
 loop-holds : tie.Need-loop-holds Inv-loop μ-loop
-loop-holds c = (omega arith, refl, refl, refl, short-none 16)
+loop-holds c = (omega arith, refl, record { few = omega arith; slots = omega arith; all = refl; short = short-none 16 })
 
 same-length : tie.Need-same-length Inv-loop μ-loop
 same-length c = search needs
@@ -27,9 +28,7 @@ same-length-2 : tie.Need-same-length-2 Inv-loop μ-loop
 same-length-2 c = search needs
 
 returns : tie.Need-returns Inv-loop μ-loop
-returns c =
-    let at = c .before .before .loop .inv in
-    record { few = omega arith; slots = omega arith; all = at .3; short = at .4 }
+returns c = c .before .before .loop .inv .2
 
 mul-b : tie.Need-mul-b Inv-loop μ-loop
 mul-b c = search needs
@@ -76,17 +75,20 @@ same-length-4 c = search needs
 returns-2 : tie.Need-returns-2 Inv-loop μ-loop
 returns-2 c =
     let load = c .before .before .before .before .before .before in
-    let at = load .before .before .before .before .before .loop .inv in
-    record { few = omega arith; slots = search needs; all = at .3; short = at .4 }
+    let named = load .before .before .before .before .before .loop .inv .2 in
+    record { few = named .few; slots = search needs; all = named .all; short = named .short }
 
-mul-sizes : tie.Need-mul-sizes Inv-loop μ-loop
-mul-sizes c = search needs
+add-files : tie.Need-add-files Inv-loop μ-loop
+add-files c = search needs
 
-array-write-sizes : tie.Need-array-write-sizes Inv-loop μ-loop
-array-write-sizes c = search needs
+mul-files : tie.Need-mul-files Inv-loop μ-loop
+mul-files c = search needs
 
-array-write-converted : tie.Need-array-write-converted Inv-loop μ-loop
-array-write-converted c = search needs
+element-write-files : tie.Need-element-write-files Inv-loop μ-loop
+element-write-files c = search needs
+
+element-write-files-2 : tie.Need-element-write-files-2 Inv-loop μ-loop
+element-write-files-2 c = search needs
 
 add-i : tie.Need-add-i Inv-loop μ-loop
 add-i c = search needs
@@ -97,16 +99,18 @@ loop-less c = search needs
 loop-again : tie.Need-loop-again Inv-loop μ-loop
 loop-again c =
     let load = c .before .before .before .before .before .before in
-    let turn = load .before .before .before .before .before in
-    let at = turn .loop .inv in
-    let size = load .load .ensures in
-    let few = length-take (nameSize * turn .loop .i + nameSize - nameSize * turn .loop .i) (drop (nameSize * turn .loop .i) (turn .loop .names)) in
-    let short : load .load .result .size ≤ nameSize = omega (arith, few, size) in (
+    let turn = load .before .before .before .before .before .loop in
+    let few = length-take (nameSize * turn .i + nameSize - nameSize * turn .i) (drop (nameSize * turn .i) (turn .names)) in
+    let short : load .load .result .size ≤ nameSize = omega (arith, few, load .load .ensures) in
+    let named = turn .inv .2 in (
       omega arith,
       search needs,
-      search needs,
-      search needs,
-      short-more (turn .loop .sizes) (turn .loop .i) (load .load .result .size) (at .4) (omega arith) short,
+      record {
+        few = omega arith;
+        slots = search needs;
+        all = search needs;
+        short = short-more (turn .files .sizes) (turn .i) (load .load .result .size) (named .short) (omega (arith, named .all)) short;
+      },
     )
 
 same-length-5 : tie.Need-same-length-5 Inv-loop μ-loop
@@ -116,9 +120,7 @@ same-length-6 : tie.Need-same-length-6 Inv-loop μ-loop
 same-length-6 c = search needs
 
 returns-3 : tie.Need-returns-3 Inv-loop μ-loop
-returns-3 c =
-    let at = c .before .loop .inv in
-    record { few = omega arith; slots = omega arith; all = at .3; short = at .4 }
+returns-3 c = c .before .loop .inv .2
 
 pub load-all-spec : {M : Type 1} → statement M
 load-all-spec =
@@ -145,9 +147,10 @@ load-all-spec =
     same-length-3
     same-length-4
     returns-2
-    mul-sizes
-    array-write-sizes
-    array-write-converted
+    add-files
+    mul-files
+    element-write-files
+    element-write-files-2
     add-i
     loop-less
     loop-again
