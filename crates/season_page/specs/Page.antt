@@ -34,6 +34,7 @@ convertedText = 99 ∷ 111 ∷ 110 ∷ 118 ∷ 101 ∷ 114 ∷ 116 ∷ 101 ∷ 1
 unfoldable pub rate : (perMillion : ℕ) (converted : Bool) → List ℕ
 rate perMillion converted = cond converted (word perMillion space ++ convertedText) (word perMillion lineEnd)
 
+--  3 130 3 22556 converted
 unfoldable pub numbers : (rows : ℕ) → SheetCounts → (converted : Bool) → List ℕ
 numbers rows c converted = counts rows c ++ rate (c .«per_million») converted
 
@@ -89,6 +90,7 @@ gapText = 102 ∷ 105 ∷ 114 ∷ 115 ∷ 116 ∷ space ∷ 103 ∷ 97 ∷ 112 �
 abbrev pub noneText : List ℕ
 noneText = 110 ∷ 111 ∷ 110 ∷ 101 ∷ lineEnd ∷ []
 
+-- ,
 abbrev pub comma : ℕ
 comma = 44
 
@@ -105,15 +107,15 @@ unfoldable pub found : (name : List ℕ) (row number : ℕ) → List ℕ
 found name row number = name ++ rowText ++ word row comma ++ numberText ++ word number lineEnd
 
 -- The gap's sheet by the name of its file, or none.
-unfoldable pub place : (names : List ℕ) → Files → SeasonGap → List ℕ
-place names files G.Nothing = noneText
-place names files (G.Gap sheet row number) = found (nameOf names files sheet) row number
+unfoldable pub gapPlace : (names : List ℕ) → Files → SeasonGap → List ℕ
+gapPlace names files G.Nothing = noneText
+gapPlace names files (G.Gap sheet row number) = found (nameOf names files sheet) row number
 
 -- first gap: may, row 2, number 7
 unfoldable pub gapLine : (names : List ℕ) → Files → SeasonGap → List ℕ
-gapLine names files gap = gapText ++ place names files gap
+gapLine names files gap = gapText ++ gapPlace names files gap
 
--- ---- the page
+-- ---- the page: the heading, a line for each sheet, the total, the gap
 
 unfoldable pub page : (names sheets : List ℕ) → Files → SeasonReport → List ℕ
 page names sheets files r =

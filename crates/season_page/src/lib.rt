@@ -4,12 +4,12 @@ mod lines;
 mod sheets;
 
 use ledger_season::SeasonReport;
+ghost use mathlib.Core.Path.{_≡_};
+ghost use Prim.Native.Nat.{_≤_};
+ghost use lib.ListN.{length};
 ghost use Rattle.text.specs.Text.{Puts};
 ghost use Rattle.season_page.specs.Page.{page};
 ghost use Rattle.season_page.specs.inner.Room.{mostPage, Ready};
-ghost use Prim.Native.Nat.{_≤_};
-ghost use mathlib.Core.Path.{_≡_};
-ghost use lib.ListN.{length};
 
 // The bytes of a name's slot.
 pub const NAME: usize = 4096;
@@ -30,7 +30,7 @@ pub struct Laid {
     pub rows: u64,
 }
 
-// Room for the longest page. (Its contract says only how long it is, which lending it as a slice needs.)
+// Room for the longest page.
 pub fn room() -> [u8; PAGE]
     ensures { λ r. ⌜ mostPage ≡ length r ⌝ }
 {

@@ -12,7 +12,7 @@ ghost use lib.ListN.{length};
 ghost use Rattle.text.specs.Text.{Puts};
 ghost use Rattle.ledger_sheet.specs.Sheet.{sheetSize};
 ghost use Rattle.ledger_season.specs.Report.{mostSheets};
-ghost use Rattle.season_page.specs.Page.{nameSize, nameOf, rowsOf, found, place, gapLine};
+ghost use Rattle.season_page.specs.Page.{nameSize, nameOf, rowsOf, found, gapPlace, gapLine};
 ghost use Rattle.season_page.specs.inner.Room.{mostLine, mostPlace, mostGap, Named, Lines};
 
 const COMMA: u8 = b',';
@@ -84,7 +84,7 @@ pub(crate) fn put_gap(
 // Where it is: the sheet by its name.
 fn put_place(out: &mut [u8], at: usize, names: &[u8], files: Files, gap: SeasonGap) -> usize
     requires { ⌜ (at + mostPlace ≤ length (now out)) × Named (now names) files ⌝ }
-    ensures { λ r. ⌜ Puts (now (out .entry)) (now (out .exit)) at r (place (now (names .entry)) files gap) ⌝ }
+    ensures { λ r. ⌜ Puts (now (out .entry)) (now (out .exit)) at r (gapPlace (now (names .entry)) files gap) ⌝ }
     ensures { λ r. ⌜ r ≤ at + mostPlace ⌝ }
 {
     match gap {

@@ -1,5 +1,5 @@
 // The season's gap report as a table: the files that its arguments name are its ledger sheets, in their order. Old sheets are converted
-// first. The report is `ledger_season`'s; here are the calls of the system and the text.
+// first. The report is `ledger_season`'s and the text `season_page`'s; here are the calls of the system.
 mod files;
 
 use arguments::Asked;
@@ -7,7 +7,7 @@ use ledger_sheet as sheet;
 use ledger_sheet::Answer;
 use refusals::Refusal;
 use season_page::Files;
-ghost use Prim.Native.Nat.{_*_, _≤_};
+ghost use Prim.Native.Nat.{_*_};
 ghost use mathlib.Core.Path.{_≡_};
 ghost use lib.ListN.{length};
 ghost use Rattle.ledger_sheet.specs.Sheet.{sheetSize};
@@ -108,7 +108,7 @@ fn lay_out(out: &mut [u8], names: &[u8], sheets: &[u8], files: Files) -> Told
 
 // Writes it, or says why there is none.
 fn tell(names: &[u8], sheets: &[u8], files: Files)
-    requires { ⌜ Named (now names) files × (sheetSize * files .count ≤ length (now sheets)) ⌝ }
+    requires { ⌜ Named (now names) files × (length (now sheets) ≡ sheetSize * files .count) ⌝ }
 {
     let mut page = season_page::room();
     let told = lay_out(&mut page, names, sheets, files);

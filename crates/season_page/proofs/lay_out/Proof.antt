@@ -14,7 +14,7 @@ put-lines-requires : tie.Need-put-lines-requires
 unfolding heading
 put-lines-requires c κs =
     let start = c .before .before .before .before .before .before .before .before in
-    (omega arith, (start .pre .named, start .pre .whole))
+    (omega arith, (start .pre .named, omega (arith, start .pre .whole)))
 
 put-total-requires : tie.Need-put-total-requires
 unfolding heading

@@ -48,7 +48,7 @@ pub record Named (names : List ℕ) (files : Files) : Type 0 where
 pub record Ready (out names sheets : List ℕ) (files : Files) : Type 0 where
   pub room : mostPage ≤ length out
   pub named : Named names files
-  pub whole : sheetSize * files .count ≤ length sheets
+  pub whole : length sheets ≡ sheetSize * files .count
 
 -- The lines of the sheets are put, and their rows added up.
 pub record Lines (old new : List ℕ) (at : ℕ) (names sheets : List ℕ) (files : Files) (r : SeasonReport) (laid : Laid) : Type 0 where

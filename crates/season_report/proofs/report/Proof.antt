@@ -1,7 +1,6 @@
 -- `season_report::report` is safe: as many sheets are loaded as are told of. Assumes nothing.
 use native.Mathlib.Omega.{arith}
 use mathlib.Core.Path.{sym}
-use lib.ListN.{length-take}
 use lib.Seq.{length-take-le}
 use borrow.Author.Needs.{needs}
 use Rattle.season_report.proofs.report.Statement.{statement}
@@ -36,7 +35,7 @@ slice-aggregate-tell-2 c =
 tell-requires : tie.Need-tell-requires
 tell-requires c κs =
     let named = c .before .before .before .before .before .before .before .before .load-all .ensures in
-    (named, rw length-take (omega (arith, named .few)))
+    (named, length-take-le _ _ (omega (arith, named .few)))
 
 returns-2 : tie.Need-returns-2
 returns-2 c = search needs

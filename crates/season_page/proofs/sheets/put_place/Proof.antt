@@ -1,6 +1,6 @@
--- `put_place` meets its contract: the cases are those of `place`. Assumes nothing.
+-- `put_place` meets its contract: the cases are those of `gapPlace`. Assumes nothing.
 use native.Mathlib.Omega.{arith}
-use Rattle.season_page.specs.Page.{place}
+use Rattle.season_page.specs.Page.{gapPlace}
 use borrow.Author.Needs.{needs}
 use Rattle.season_page.proofs.sheets.put_place.Statement.{statement}
 use Rattle.season_page.proofs.sheets.put_place.Tie as tie
@@ -18,7 +18,7 @@ same-length : tie.Need-same-length
 same-length c = search needs
 
 returns : tie.Need-returns
-unfolding place
+unfolding gapPlace
 returns c =
     let text = c .before .before in
     (rw (text .before .before .before .enum-told .given .1) (text .put-text .ensures), omega arith)
@@ -36,7 +36,7 @@ same-length-2 : tie.Need-same-length-2
 same-length-2 c = search needs
 
 returns-2 : tie.Need-returns-2
-unfolding place
+unfolding gapPlace
 returns-2 c =
     let text = c .before .before in
     (rw (text .before .before .before .gap .given .1) (text .put-found .ensures .0), omega arith)
