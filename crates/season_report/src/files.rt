@@ -2,11 +2,21 @@
 use ledger_convert::old;
 use ledger_sheet::Answer;
 use ledger_sheet::right;
+ghost use Prim.Native.Nat.{_≤_};
+ghost use lib.ListN.{length};
+ghost use Rattle.io.specs.Counts.{Counts};
 
 // What a file was: a sheet, as it stands or converted, or none.
+struct Found {
+    is_sheet: bool,
+    converted: bool,
+}
+
+// The same with the length of the file's name.
 pub struct File {
     pub is_sheet: bool,
     pub converted: bool,
+    pub size: usize,
 }
 
 // How many bytes came; or a read failed.
@@ -15,28 +25,37 @@ struct Got {
     failed: bool,
 }
 
-fn no_sheet() -> File {
-    File {
+fn no_sheet() -> Found {
+    Found {
         is_sheet: false,
         converted: false,
     }
 }
 
-// Reads the file that argument i names into the slot, and says what is wrong with one that is no sheet.
-pub(crate) fn load(i: usize, slot: &mut [u8]) -> File {
-    let mut path = io::buffer();
-    let opened = arguments::open_at(i, &mut path);
+// Reads the file that argument i names into the slot, its name into the name's, and says what is wrong with one that is no sheet.
+pub(crate) fn load(i: usize, name: &mut [u8], slot: &mut [u8]) -> File
+    ensures { λ r. ⌜ r .size ≤ length (now (name .entry)) ⌝ }
+{
+    let opened = arguments::open_at(i, name);
     let fd = opened.fd;
+    let size = opened.size;
     if fd < 0 {
-        return no_sheet();
+        return File {
+            is_sheet: false,
+            converted: false,
+            size,
+        };
     }
-    let n = opened.size;
-    let file = load_open(fd, &path[..n], slot);
+    let found = load_open(fd, &name[..size], slot);
     libc::close(fd);
-    file
+    File {
+        is_sheet: found.is_sheet,
+        converted: found.converted,
+        size,
+    }
 }
 
-fn load_open(fd: i32, name: &[u8], slot: &mut [u8]) -> File {
+fn load_open(fd: i32, name: &[u8], slot: &mut [u8]) -> Found {
     let mut room = io::large_buffer();
     let got = read_all(fd, &mut room);
     if got.failed {
@@ -44,16 +63,18 @@ fn load_open(fd: i32, name: &[u8], slot: &mut [u8]) -> File {
         return no_sheet();
     }
     let n = got.count;
-    let file = place(first(&room, n), slot);
-    if !file.is_sheet {
+    let found = place(&room[..n], slot);
+    if !found.is_sheet {
         io::write_all(libc::STDERR_FILENO, name);
         io::write_all(libc::STDERR_FILENO, b": not a ledger sheet (20)\n");
     }
-    file
+    found
 }
 
 // Reads until the file ends, a read fails or the room is full: no sheet is as long.
-fn read_all(fd: i32, room: &mut [u8]) -> Got {
+fn read_all(fd: i32, room: &mut [u8]) -> Got
+    ensures { λ r. ⌜ Counts (r .count) (now (room .exit)) ⌝ }
+{
     let mut have = 0;
     while have < room.len() {
         let part = &mut room[have..];
@@ -79,18 +100,10 @@ fn read_all(fd: i32, room: &mut [u8]) -> Got {
     }
 }
 
-// The first n bytes of s, or all where it has fewer.
-pub(crate) fn first(s: &[u8], n: usize) -> &[u8] {
-    if s.len() < n {
-        return s;
-    }
-    &s[..n]
-}
-
 // Puts a sheet into the slot, converted where it has the length of an old one.
-fn place(file: &[u8], slot: &mut [u8]) -> File {
+fn place(file: &[u8], slot: &mut [u8]) -> Found {
     if file.len() == old::SHEET {
-        return File {
+        return Found {
             is_sheet: is_done(ledger_convert::convert(file, slot)),
             converted: true,
         };
@@ -99,7 +112,7 @@ fn place(file: &[u8], slot: &mut [u8]) -> File {
         return no_sheet();
     }
     bytes::copy(file, slot);
-    File {
+    Found {
         is_sheet: right::is_sheet(slot),
         converted: false,
     }

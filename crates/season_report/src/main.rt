@@ -1,25 +1,35 @@
 // The season's gap report as a table: the files that its arguments name are its ledger sheets, in their order. Old sheets are converted
-// first. The report is `ledger_season`'s; here are the calls of the system and the text.
+// first. The report is `ledger_season`'s and the text `season_page`'s; here are the calls of the system.
 mod files;
-mod page;
 
 use arguments::Asked;
-use ledger_season::SeasonReport;
 use ledger_sheet as sheet;
 use ledger_sheet::Answer;
 use refusals::Refusal;
-ghost use Prim.Native.Nat.{_*_, _≤_};
+use season_page::Files;
+ghost use Prim.Native.Nat.{_*_};
+ghost use mathlib.Core.Path.{_≡_};
 ghost use lib.ListN.{length};
 ghost use Rattle.ledger_sheet.specs.Sheet.{sheetSize};
 ghost use Rattle.ledger_season.specs.Report.{mostSheets};
+ghost use Rattle.season_page.specs.Page.{nameSize};
+ghost use Rattle.season_page.specs.inner.Room.{Named, Ready};
+ghost use Rattle.season_report.specs.Told.{Tells};
+
+const MOST_NAMES: usize = ledger_season::MOST_SHEETS * season_page::NAME;
 
 const MOST_BYTES: usize = ledger_season::MOST_SHEETS * sheet::SHEET;
 
-// The sheets that are loaded: how many, which of them were converted, and whether all files were sheets.
+// The sheets that are loaded, and whether all files were sheets.
 struct Loaded {
-    count: usize,
-    converted: [bool; ledger_season::MOST_SHEETS],
+    files: Files,
     ok: bool,
+}
+
+// What is told of them: where the season's page ends, or why there is none. (Public for the prover's sake.)
+pub enum Told {
+    Page { end: usize },
+    Refused(Refusal),
 }
 
 fn tell_usage(fd: i32) {
@@ -34,37 +44,33 @@ fn tell_usage(fd: i32) {
     );
 }
 
-// Loads the sheets that the arguments name, up to the first that is none.
-fn load_all(sheets: &mut [u8], files: usize) -> Loaded
-    requires { ⌜ mostSheets * sheetSize ≤ length (now sheets) ⌝ }
-    ensures { λ r. ⌜ r .count ≤ mostSheets ⌝ }
+// Loads the sheets that the arguments name, and these names, up to the first that is none.
+fn load_all(names: &mut [u8], sheets: &mut [u8], count: usize) -> Loaded
+    requires { ⌜ (length (now names) ≡ nameSize * mostSheets) × (length (now sheets) ≡ sheetSize * mostSheets) ⌝ }
+    ensures { λ r. ⌜ Named (now (names .exit)) (r .files) ⌝ }
 {
-    let mut converted = [false; ledger_season::MOST_SHEETS];
+    let mut files = Files {
+        count: 0,
+        sizes: [0; ledger_season::MOST_SHEETS],
+        converted: [false; ledger_season::MOST_SHEETS],
+    };
     for i in 0..ledger_season::MOST_SHEETS {
-        if files <= i {
-            return Loaded {
-                count: i,
-                converted,
-                ok: true,
-            };
+        if count <= i {
+            return Loaded { files, ok: true };
         }
+        let b = season_page::NAME * i;
+        let f = b + season_page::NAME;
         let a = sheet::SHEET * i;
         let e = a + sheet::SHEET;
-        let file = files::load(i + 1, &mut sheets[a..e]);
+        let file = files::load(i + 1, &mut names[b..f], &mut sheets[a..e]);
         if !file.is_sheet {
-            return Loaded {
-                count: i,
-                converted,
-                ok: false,
-            };
+            return Loaded { files, ok: false };
         }
-        converted[i] = file.converted;
+        files.count = i + 1;
+        files.sizes[i] = file.size;
+        files.converted[i] = file.converted;
     }
-    Loaded {
-        count: ledger_season::MOST_SHEETS,
-        converted,
-        ok: true,
-    }
+    Loaded { files, ok: true }
 }
 
 // The files are sheets, and not too many, so that a key in two of them is all that is left to refuse.
@@ -82,25 +88,50 @@ fn tell_refusal(why: Refusal) {
     }
 }
 
-fn tell(sheets: &[u8], converted: [bool; ledger_season::MOST_SHEETS], report: SeasonReport) {
+// The page of the season's report.
+fn lay_out(out: &mut [u8], names: &[u8], sheets: &[u8], files: Files) -> Told
+    requires { ⌜ Ready (now out) (now names) (now sheets) files ⌝ }
+    ensures { λ r. ⌜ Tells (now (names .entry)) (now (sheets .entry)) files (now (out .entry)) (now (out .exit)) r ⌝ }
+{
+    let report = ledger_season::season(sheets);
     let answer = report.answer;
     match answer {
-        Answer::Done => page::write(sheets, converted, report),
-        Answer::Refused(why) => tell_refusal(why),
+        Answer::Done => {
+            let end = season_page::lay_out(out, names, sheets, files, report);
+            return Told::Page { end };
+        }
+        Answer::Refused(why) => {
+            return Told::Refused(why);
+        }
     }
 }
 
-fn report(files: usize) {
-    let mut room = [0u8; MOST_BYTES];
-    let sheets: &mut [u8] = &mut room;
-    let loaded = load_all(sheets, files);
+// Writes it, or says why there is none.
+fn tell(names: &[u8], sheets: &[u8], files: Files)
+    requires { ⌜ Named (now names) files × (length (now sheets) ≡ sheetSize * files .count) ⌝ }
+{
+    let mut page = season_page::room();
+    let told = lay_out(&mut page, names, sheets, files);
+    match told {
+        Told::Page { end } => {
+            if !io::write_all(libc::STDOUT_FILENO, &page[..end]) {
+                os::fail(b"standard output");
+            }
+        }
+        Told::Refused(why) => tell_refusal(why),
+    }
+}
+
+fn report(count: usize) {
+    let mut names = [0u8; MOST_NAMES];
+    let mut sheets = [0u8; MOST_BYTES];
+    let loaded = load_all(&mut names, &mut sheets, count);
     if !loaded.ok {
         return;
     }
-    let n = sheet::SHEET * loaded.count;
-    let converted = loaded.converted;
-    let report = ledger_season::season(files::first(sheets, n));
-    tell(sheets, converted, report);
+    let files = loaded.files;
+    let n = sheet::SHEET * files.count;
+    tell(&names, &sheets[..n], files);
 }
 
 fn main() {

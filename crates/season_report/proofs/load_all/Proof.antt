@@ -1,25 +1,40 @@
--- `season_report::load_all` meets its contract. Assumes nothing.
-use Prim.Native.Nat.{_≤_, _-_}
-use mathlib.Core.Path.{_≡_}
-use lib.ListN.{length}
+-- `season_report::load_all` meets its contract. The invariant: so many files are named as were loaded. Assumes nothing.
+use Prim.Native.Nat.{_+_, _*_, _-_, _≤_}
+use native.Mathlib.Omega.{arith}
+use mathlib.Core.Path.{_≡_, refl}
+use lib.ListN.{length, drop, length-take}
 use borrow.Author.Needs.{needs}
+use Rattle.ledger_season.specs.Report.{mostSheets}
+use Rattle.season_page.specs.Page.{nameSize}
+use Rattle.season_page.specs.inner.Room.{Named}
+use Rattle.season_report.proofs.Names.{short-none, short-more}
 use Rattle.season_report.proofs.load_all.Statement.{statement}
 use Rattle.season_report.proofs.load_all.Tie as tie
 
 abbrev Inv-loop : tie.InvT-loop
-Inv-loop sheets₀ files converted₀ i₀ sheets converted i = (i ≤ 16) × (length sheets ≡ length sheets₀)
+Inv-loop names₀ sheets₀ count files₀ i₀ names sheets files i =
+    (i ≤ mostSheets) × (length sheets ≡ length sheets₀) × Named names files
 
 abbrev μ-loop : tie.MeasureT-loop
-μ-loop sheets₀ files converted₀ i₀ sheets converted i = 16 - i
+μ-loop names₀ sheets₀ count files₀ i₀ names sheets files i = mostSheets - i
 
 loop-holds : tie.Need-loop-holds Inv-loop μ-loop
-loop-holds c = search needs
+loop-holds c = (omega arith, refl, record { few = omega arith; slots = omega arith; all = refl; short = short-none 16 })
 
 same-length : tie.Need-same-length Inv-loop μ-loop
 same-length c = search needs
 
+same-length-2 : tie.Need-same-length-2 Inv-loop μ-loop
+same-length-2 c = search needs
+
 returns : tie.Need-returns Inv-loop μ-loop
-returns c = search needs
+returns c = c .before .before .loop .inv .2
+
+mul-b : tie.Need-mul-b Inv-loop μ-loop
+mul-b c = search needs
+
+add-f : tie.Need-add-f Inv-loop μ-loop
+add-f c = search needs
 
 mul-a : tie.Need-mul-a Inv-loop μ-loop
 mul-a c = search needs
@@ -39,17 +54,41 @@ part-load-start c = search needs
 part-load-end : tie.Need-part-load-end Inv-loop μ-loop
 part-load-end c = search needs
 
+sub-load-2 : tie.Need-sub-load-2 Inv-loop μ-loop
+sub-load-2 c = search needs
+
+part-load-start-2 : tie.Need-part-load-start-2 Inv-loop μ-loop
+part-load-start-2 c = search needs
+
+part-load-end-2 : tie.Need-part-load-end-2 Inv-loop μ-loop
+part-load-end-2 c = search needs
+
 load-requires : tie.Need-load-requires Inv-loop μ-loop
 load-requires c κs = search needs
 
-same-length-2 : tie.Need-same-length-2 Inv-loop μ-loop
-same-length-2 c = search needs
+same-length-3 : tie.Need-same-length-3 Inv-loop μ-loop
+same-length-3 c = search needs
+
+same-length-4 : tie.Need-same-length-4 Inv-loop μ-loop
+same-length-4 c = search needs
 
 returns-2 : tie.Need-returns-2 Inv-loop μ-loop
-returns-2 c = search needs
+returns-2 c =
+    let load = c .before .before .before .before .before .before in
+    let named = load .before .before .before .before .before .loop .inv .2 in
+    record { few = named .few; slots = search needs; all = named .all; short = named .short }
 
-array-write-converted : tie.Need-array-write-converted Inv-loop μ-loop
-array-write-converted c = search needs
+add-files : tie.Need-add-files Inv-loop μ-loop
+add-files c = search needs
+
+mul-files : tie.Need-mul-files Inv-loop μ-loop
+mul-files c = search needs
+
+element-write-files : tie.Need-element-write-files Inv-loop μ-loop
+element-write-files c = search needs
+
+element-write-files-2 : tie.Need-element-write-files-2 Inv-loop μ-loop
+element-write-files-2 c = search needs
 
 add-i : tie.Need-add-i Inv-loop μ-loop
 add-i c = search needs
@@ -58,13 +97,30 @@ loop-less : tie.Need-loop-less Inv-loop μ-loop
 loop-less c = search needs
 
 loop-again : tie.Need-loop-again Inv-loop μ-loop
-loop-again c = search needs
+loop-again c =
+    let load = c .before .before .before .before .before .before in
+    let turn = load .before .before .before .before .before .loop in
+    let few = length-take (nameSize * turn .i + nameSize - nameSize * turn .i) (drop (nameSize * turn .i) (turn .names)) in
+    let short : load .load .result .size ≤ nameSize = omega (arith, few, load .load .ensures) in
+    let named = turn .inv .2 in (
+      omega arith,
+      search needs,
+      record {
+        few = omega arith;
+        slots = search needs;
+        all = search needs;
+        short = short-more (turn .files .sizes) (turn .i) (load .load .result .size) (named .short) (omega (arith, named .all)) short;
+      },
+    )
 
-same-length-3 : tie.Need-same-length-3 Inv-loop μ-loop
-same-length-3 c = search needs
+same-length-5 : tie.Need-same-length-5 Inv-loop μ-loop
+same-length-5 c = search needs
+
+same-length-6 : tie.Need-same-length-6 Inv-loop μ-loop
+same-length-6 c = search needs
 
 returns-3 : tie.Need-returns-3 Inv-loop μ-loop
-returns-3 c = search needs
+returns-3 c = c .before .loop .inv .2
 
 pub load-all-spec : {M : Type 1} → statement M
 load-all-spec =
@@ -74,19 +130,30 @@ load-all-spec =
     μ-loop
     loop-holds
     same-length
+    same-length-2
     returns
+    mul-b
+    add-f
     mul-a
     add-e
     add-load
     sub-load
     part-load-start
     part-load-end
+    sub-load-2
+    part-load-start-2
+    part-load-end-2
     load-requires
-    same-length-2
+    same-length-3
+    same-length-4
     returns-2
-    array-write-converted
+    add-files
+    mul-files
+    element-write-files
+    element-write-files-2
     add-i
     loop-less
     loop-again
-    same-length-3
+    same-length-5
+    same-length-6
     returns-3)

@@ -1,7 +1,9 @@
--- `season_report::files::read_all` is safe and ends: each turn leaves less room. Assumes nothing.
+-- `season_report::files::read_all` meets its contract, and ends: each turn leaves less room. Assumes nothing.
 use Prim.Native.Nat.{_≤_, _-_}
-use mathlib.Core.Path.{_≡_}
+use native.Mathlib.Omega.{arith}
+use mathlib.Core.Path.{_≡_, sym}
 use lib.ListN.{length}
+use lib.Seq.{length-take-le}
 use borrow.Author.Needs.{needs}
 use Rattle.season_report.proofs.files.read_all.Statement.{statement}
 use Rattle.season_report.proofs.files.read_all.Tie as tie
@@ -31,7 +33,7 @@ same-length : tie.Need-same-length Inv-loop μ-loop
 same-length c = search needs
 
 returns : tie.Need-returns Inv-loop μ-loop
-returns c = search needs
+returns c = (omega arith, sym (length-take-le _ _ (omega arith)))
 
 count-requires : tie.Need-count-requires Inv-loop μ-loop
 count-requires c κs = search needs
@@ -40,7 +42,7 @@ same-length-2 : tie.Need-same-length-2 Inv-loop μ-loop
 same-length-2 c = search needs
 
 returns-2 : tie.Need-returns-2 Inv-loop μ-loop
-returns-2 c = search needs
+returns-2 c = (omega arith, sym (length-take-le _ _ (omega arith)))
 
 add-have : tie.Need-add-have Inv-loop μ-loop
 add-have c = search needs
@@ -55,7 +57,7 @@ same-length-3 : tie.Need-same-length-3 Inv-loop μ-loop
 same-length-3 c = search needs
 
 returns-3 : tie.Need-returns-3 Inv-loop μ-loop
-returns-3 c = search needs
+returns-3 c = (omega arith, sym (length-take-le _ _ (omega arith)))
 
 pub read-all-spec : {M : Type 1} → statement M
 read-all-spec =

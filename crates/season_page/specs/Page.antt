@@ -1,0 +1,125 @@
+-- The page of a season's gap report (document 02, request 13). Bytes are ASCII. Assumes nothing.
+-- The manual, docs/INTERFACE.md: "The season's report".
+use Prim.Native.Nat.{ℕ, zero, suc, _+_, _*_}
+use mathlib.Core.Bool.{Bool, false, cond}
+use mathlib.Core.List.{List, [], _∷_, _++_}
+use lib.ListN.{getD}
+use Rattle.octets.specs.Octets.{part}
+use Rattle.text.specs.Text.{space, lineEnd, word}
+use Rattle.ledger_sheet.specs.Sheet.{used}
+use Rattle.ledger_season.specs.Season.{sheetAt}
+use Rattle.ledger_season.specs.declared.SheetCounts.{SheetCounts}
+use Rattle.ledger_season.specs.declared.SeasonGap.{SeasonGap}
+use Rattle.ledger_season.specs.declared.SeasonGap.the-variants as G
+use Rattle.ledger_season.specs.declared.SeasonReport.{SeasonReport}
+use Rattle.season_page.specs.declared.Files.{Files}
+
+-- sheet rows ticked missing per-million
+unfoldable pub heading : List ℕ
+heading =
+    115 ∷ 104 ∷ 101 ∷ 101 ∷ 116 ∷ space ∷ 114 ∷ 111 ∷ 119 ∷ 115 ∷ space ∷ 116 ∷ 105 ∷ 99 ∷ 107 ∷ 101 ∷ 100 ∷ space ∷ 109 ∷ 105 ∷ 115 ∷ 115 ∷ 105
+    ∷ 110 ∷ 103 ∷ space ∷ 112 ∷ 101 ∷ 114 ∷ 45 ∷ 109 ∷ 105 ∷ 108 ∷ 108 ∷ 105 ∷ 111 ∷ 110 ∷ lineEnd ∷ []
+
+-- ---- the numbers of a line
+
+-- The rows used, what is ticked, and what is missing.
+unfoldable pub counts : (rows : ℕ) → SheetCounts → List ℕ
+counts rows c = (space ∷ []) ++ word rows space ++ word (c .ticked) space ++ word (c .missing) space
+
+-- converted
+abbrev pub convertedText : List ℕ
+convertedText = 99 ∷ 111 ∷ 110 ∷ 118 ∷ 101 ∷ 114 ∷ 116 ∷ 101 ∷ 100 ∷ lineEnd ∷ []
+
+-- What is missing per million, and whether the sheet was converted.
+unfoldable pub rate : (perMillion : ℕ) (converted : Bool) → List ℕ
+rate perMillion converted = cond converted (word perMillion space ++ convertedText) (word perMillion lineEnd)
+
+--  3 130 3 22556 converted
+unfoldable pub numbers : (rows : ℕ) → SheetCounts → (converted : Bool) → List ℕ
+numbers rows c converted = counts rows c ++ rate (c .«per_million») converted
+
+-- ---- a line for each sheet, by the name of its file
+
+-- The bytes of a name's slot.
+abbrev pub nameSize : ℕ
+nameSize = 4096
+
+-- The name of file i, in its slot; none where there is no such file.
+unfoldable pub nameOf : (names : List ℕ) → Files → ℕ → List ℕ
+nameOf names files i = part names (nameSize * i) (getD (files .sizes) i 0)
+
+-- How many rows sheet i uses.
+abbrev pub rowsOf : (sheets : List ℕ) → ℕ → ℕ
+rowsOf sheets i = used (sheetAt sheets i)
+
+-- What is counted in sheet i.
+abbrev pub countsOf : SeasonReport → ℕ → SheetCounts
+countsOf r i = getD (r .sheets) i (record { ticked = 0; missing = 0; «per_million» = 0 })
+
+-- may 3 130 3 22556 converted
+unfoldable pub line : (names sheets : List ℕ) → Files → SeasonReport → ℕ → List ℕ
+line names sheets files r i = nameOf names files i ++ numbers (rowsOf sheets i) (countsOf r i) (getD (files .converted) i false)
+
+-- Of the first n sheets.
+unfoldable pub linesTo : (names sheets : List ℕ) → Files → SeasonReport → ℕ → List ℕ
+linesTo names sheets files r zero = []
+linesTo names sheets files r (suc n) = linesTo names sheets files r n ++ line names sheets files r n
+
+-- ---- the total
+
+-- The rows used of the first n sheets.
+unfoldable pub rowsTo : (sheets : List ℕ) → ℕ → ℕ
+rowsTo sheets zero = 0
+rowsTo sheets (suc n) = rowsTo sheets n + rowsOf sheets n
+
+-- total
+abbrev pub totalText : List ℕ
+totalText = 116 ∷ 111 ∷ 116 ∷ 97 ∷ 108 ∷ []
+
+-- total 7 388 4 10204
+unfoldable pub totalLine : (rows : ℕ) → SheetCounts → List ℕ
+totalLine rows total = totalText ++ numbers rows total false
+
+-- ---- the first gap
+
+-- first gap:
+abbrev pub gapText : List ℕ
+gapText = 102 ∷ 105 ∷ 114 ∷ 115 ∷ 116 ∷ space ∷ 103 ∷ 97 ∷ 112 ∷ 58 ∷ space ∷ []
+
+-- none
+abbrev pub noneText : List ℕ
+noneText = 110 ∷ 111 ∷ 110 ∷ 101 ∷ lineEnd ∷ []
+
+-- ,
+abbrev pub comma : ℕ
+comma = 44
+
+-- , row
+abbrev pub rowText : List ℕ
+rowText = comma ∷ space ∷ 114 ∷ 111 ∷ 119 ∷ space ∷ []
+
+-- number
+abbrev pub numberText : List ℕ
+numberText = space ∷ 110 ∷ 117 ∷ 109 ∷ 98 ∷ 101 ∷ 114 ∷ space ∷ []
+
+-- may, row 2, number 7
+unfoldable pub found : (name : List ℕ) (row number : ℕ) → List ℕ
+found name row number = name ++ rowText ++ word row comma ++ numberText ++ word number lineEnd
+
+-- The gap's sheet by the name of its file, or none.
+unfoldable pub gapPlace : (names : List ℕ) → Files → SeasonGap → List ℕ
+gapPlace names files G.Nothing = noneText
+gapPlace names files (G.Gap sheet row number) = found (nameOf names files sheet) row number
+
+-- first gap: may, row 2, number 7
+unfoldable pub gapLine : (names : List ℕ) → Files → SeasonGap → List ℕ
+gapLine names files gap = gapText ++ gapPlace names files gap
+
+-- ---- the page: the heading, a line for each sheet, the total, the gap
+
+unfoldable pub page : (names sheets : List ℕ) → Files → SeasonReport → List ℕ
+page names sheets files r =
+    heading
+    ++ linesTo names sheets files r (files .count)
+    ++ totalLine (rowsTo sheets (files .count)) (r .total)
+    ++ gapLine names files (r .gap)

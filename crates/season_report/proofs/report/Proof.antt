@@ -1,0 +1,56 @@
+-- `season_report::report` is safe: as many sheets are loaded as are told of. Assumes nothing.
+use native.Mathlib.Omega.{arith}
+use mathlib.Core.Path.{sym}
+use lib.Seq.{length-take-le}
+use borrow.Author.Needs.{needs}
+use Rattle.season_report.proofs.report.Statement.{statement}
+use Rattle.season_report.proofs.report.Tie as tie
+
+slice-aggregate-load-all : tie.Need-slice-aggregate-load-all
+slice-aggregate-load-all c = search needs
+
+slice-aggregate-load-all-2 : tie.Need-slice-aggregate-load-all-2
+slice-aggregate-load-all-2 c = search needs
+
+load-all-requires : tie.Need-load-all-requires
+load-all-requires c κs = search needs
+
+returns : tie.Need-returns
+returns c = search needs
+
+mul-n : tie.Need-mul-n
+mul-n c = search needs
+
+slice-aggregate-tell : tie.Need-slice-aggregate-tell
+slice-aggregate-tell c = search needs
+
+array-share-prefix-sheets : tie.Need-array-share-prefix-sheets
+array-share-prefix-sheets c = search needs
+
+slice-aggregate-tell-2 : tie.Need-slice-aggregate-tell-2
+slice-aggregate-tell-2 c =
+    let named = c .before .before .before .before .before .before .before .before .load-all .ensures in
+    sym (length-take-le _ _ (omega (arith, named .few)))
+
+tell-requires : tie.Need-tell-requires
+tell-requires c κs =
+    let named = c .before .before .before .before .before .before .before .before .load-all .ensures in
+    (named, length-take-le _ _ (omega (arith, named .few)))
+
+returns-2 : tie.Need-returns-2
+returns-2 c = search needs
+
+pub report-spec : {M : Type 1} → statement M
+report-spec =
+    tie.close
+    (tie.spec
+    slice-aggregate-load-all
+    slice-aggregate-load-all-2
+    load-all-requires
+    returns
+    mul-n
+    slice-aggregate-tell
+    array-share-prefix-sheets
+    slice-aggregate-tell-2
+    tell-requires
+    returns-2)

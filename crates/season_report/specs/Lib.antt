@@ -1,0 +1,2 @@
+-- What the contracts of `season_report` cite.
+pub mod Told
