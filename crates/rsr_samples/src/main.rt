@@ -91,6 +91,12 @@ fn tell_refusal(number: u32, beside: u64) {
     io::print_decimal(libc::STDERR_FILENO, number as u64);
     io::write_all(libc::STDERR_FILENO, b" ");
     io::print_decimal(libc::STDERR_FILENO, beside);
+    tell_why(number);
+}
+
+fn tell_why(number: u32) {
+    io::write_all(libc::STDERR_FILENO, b" ");
+    refusal_words::tell(libc::STDERR_FILENO, number);
     io::write_all(libc::STDERR_FILENO, b"\n");
 }
 
