@@ -62,7 +62,7 @@ fn tell_label(fd: i32, number: u32) -> bool {
         return io::write_all(fd, b"kind of record not known");
     }
     if number == LABEL_LENGTH {
-        return io::write_all(fd, b"no length of such a record");
+        return io::write_all(fd, b"length not one of its kind");
     }
     io::write_all(fd, b"record cut off")
 }
@@ -70,13 +70,13 @@ fn tell_label(fd: i32, number: u32) -> bool {
 // The blocks in a record.
 fn tell_block(fd: i32, number: u32) -> bool {
     if number == AGGREGATION_LABEL {
-        return io::write_all(fd, b"wrong type or length of the header block");
+        return io::write_all(fd, b"wrong type or length of the aggregation block");
     }
     if number == PRIMARY_LABEL {
-        return io::write_all(fd, b"wrong type or length of the primary header");
+        return io::write_all(fd, b"wrong type or length of the primary block");
     }
     if number == SECONDARY_LABEL {
-        return io::write_all(fd, b"wrong type or length of the secondary header");
+        return io::write_all(fd, b"wrong type or length of the secondary block");
     }
     if number == DATA_TYPE {
         return io::write_all(fd, b"wrong type of the data block");
