@@ -1,18 +1,25 @@
--- What the program's loop over the samples of a record keeps. No contract can say what the system writes; this says which calls laid out
--- what it was handed. Assumes nothing.
-use Prim.Native.Nat.{ℕ}
-use mathlib.Core.Bool.{Bool, true}
+-- What the program keeps of a record. No contract can say what the system writes; this says which calls laid out what it was handed.
+-- Assumes nothing.
+-- The manual, docs/INTERFACE.md: "Samples".
+use Prim.Native.Nat.{ℕ, _<_}
+use mathlib.Core.Bool.{Bool}
 use mathlib.Core.List.{List}
-use mathlib.Core.Path.{_≡_}
 use lib.IntN.{ℤ}
-use lib.ListN.{length}
+use lib.ListN.{length, take}
+use Rattle.sfdu.specs.Read.{dataPart}
+use Rattle.sfdu_samples.specs.Calls.{sizeOf}
+use Rattle.sfdu_samples.specs.Packing.{unpacked}
 use Rattle.sfdu_sample_text.specs.Part.{Calls}
 
--- Calls one after the other came to a place of the list. At its end their texts are the list's: `Promise` of `sfdu_sample_text`.
+-- Calls one after the other came to a place of a list. At its end their texts are the list's: `Promise` of `sfdu_sample_text`.
 pub record Came (raw : Bool) (zs : List ℤ) (upto : ℕ) : Type 0 where
   pub text : List ℕ
   pub calls : Calls raw zs upto text
 
--- Where all could be written, that is to the end.
-abbrev pub Ends : Bool → List ℤ → (written : Bool) → Type 0
-Ends raw zs written = written ≡ true → Came raw zs (length zs)
+-- The numbers of a record s.
+abbrev pub numbersOf : List ℕ → List ℤ
+numbersOf s = unpacked (sizeOf s) (dataPart s)
+
+-- Where a record's size is answered, it is the window's first so many bytes, and calls came to the end of its numbers.
+abbrev pub Takes : Bool → (window : List ℕ) → (size : ℕ) → Type 0
+Takes raw window size = 0 < size → Came raw (numbersOf (take size window)) (length (numbersOf (take size window)))

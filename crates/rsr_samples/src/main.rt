@@ -3,6 +3,9 @@
 mod input;
 mod output;
 
+ghost use mathlib.Core.Path.{_≡_};
+ghost use Rattle.rsr_samples.specs.Parts.{Takes};
+ghost use Rattle.rsr_samples.specs.inner.Written.{Writes};
 use arguments::Asked;
 use refusals::Refusal;
 use sfdu::Fault;
@@ -18,14 +21,9 @@ const NUMBERS: usize = 524288;
 const RECORDS: u64 = 140737488355328;
 
 // Writes the samples of the next record. Answers its size, or 0 where the stream has ended or cannot go on.
-fn take_record(
-    fd: i32,
-    name: &[u8],
-    place: u64,
-    raw: bool,
-    w: &mut [u8],
-    list: &mut [i32],
-) -> usize {
+fn take_record(fd: i32, name: &[u8], place: u64, raw: bool, w: &mut [u8], list: &mut [i32]) -> usize
+    ensures { λ r. ⌜ Takes raw (now (w .exit)) r ⌝ }
+{
     let filled = input::next_record(fd, w);
     if filled.failed {
         os::fail(name);
@@ -47,7 +45,9 @@ fn take_record(
 }
 
 // The record's size, or 0 where its samples could not be written.
-fn written(list: &[i32], n: usize, raw: bool, size: usize) -> usize {
+fn written(list: &[i32], n: usize, raw: bool, size: usize) -> usize
+    ensures { λ r. ⌜ Writes raw (now (list .entry)) n size r ⌝ }
+{
     if list.len() < n {
         return 0;
     }
@@ -59,7 +59,9 @@ fn written(list: &[i32], n: usize, raw: bool, size: usize) -> usize {
 }
 
 // A record that is cut where the window is full is too long for it: 17, as the listing says.
-fn stopped_in(name: &[u8], place: u64, fault: Fault, have: usize) -> usize {
+fn stopped_in(name: &[u8], place: u64, fault: Fault, have: usize) -> usize
+    ensures { λ r. ⌜ r ≡ 0 ⌝ }
+{
     let why = fault.refusal;
     let number = refusals::number(why);
     let cut = refusals::number(Refusal::Truncated);
@@ -78,7 +80,9 @@ fn stopped_in(name: &[u8], place: u64, fault: Fault, have: usize) -> usize {
     )
 }
 
-fn stopped(name: &[u8], place: u64, number: u32, beside: u64) -> usize {
+fn stopped(name: &[u8], place: u64, number: u32, beside: u64) -> usize
+    ensures { λ r. ⌜ r ≡ 0 ⌝ }
+{
     io::write_all(libc::STDERR_FILENO, name);
     io::write_all(libc::STDERR_FILENO, b": stopped at byte ");
     io::print_decimal(libc::STDERR_FILENO, place);

@@ -2,7 +2,7 @@
 ghost use Prim.Native.Nat.{_≤_};
 ghost use lib.ListN.{length};
 ghost use Rattle.sfdu_sample_text.specs.inner.Room.{mostNumber};
-ghost use Rattle.rsr_samples.specs.Parts.{Ends};
+ghost use Rattle.rsr_samples.specs.inner.Written.{Ends};
 
 // Whether all could be written.
 pub(crate) fn write_samples(list: &[i32], raw: bool) -> bool

@@ -1,8 +1,9 @@
--- `rsr_samples::take_record` is safe. Assumes nothing.
+-- `rsr_samples::take_record` meets its contract: the numbers that are written are those that unpack found in the window. Assumes nothing.
 use native.Mathlib.Omega.{arith}
 use mathlib.Core.Path.{sym}
 use lib.Seq.{length-take-le}
 use borrow.Author.Needs.{needs}
+use Rattle.rsr_samples.proofs.Numbers.{numbers-are}
 use Rattle.rsr_samples.proofs.take_record.Statement.{statement}
 use Rattle.rsr_samples.proofs.take_record.Tie as tie
 
@@ -16,19 +17,19 @@ same-length : tie.Need-same-length
 same-length c = search needs
 
 returns : tie.Need-returns
-returns c = search needs
+returns c = λ h. absurd (omega arith)
 
 same-length-2 : tie.Need-same-length-2
 same-length-2 c = search needs
 
 returns-2 : tie.Need-returns-2
-returns-2 c = search needs
+returns-2 c = λ h. absurd (omega arith)
 
 same-length-3 : tie.Need-same-length-3
 same-length-3 c = search needs
 
 returns-3 : tie.Need-returns-3
-returns-3 c = search needs
+returns-3 c = λ h. absurd (omega arith)
 
 slice-reshare-prefix-unpack : tie.Need-slice-reshare-prefix-unpack
 slice-reshare-prefix-unpack c = search needs
@@ -67,7 +68,12 @@ same-length-5 : tie.Need-same-length-5
 same-length-5 c = search needs
 
 returns-4 : tie.Need-returns-4
-returns-4 c = search needs
+returns-4 c =
+    λ h. let wrote = c .written .ensures h in
+    let told = c .before .before .before in
+    let call = told .before .before .before in
+    let numbers = numbers-are _ _ _ (call .unpack .result) (told .answer .given .0 .0) (call .unpack .ensures) (told .answer .given .1) in
+    rw (wrote .0, ← numbers) (wrote .1)
 
 same-length-6 : tie.Need-same-length-6
 same-length-6 c = search needs
@@ -76,7 +82,7 @@ same-length-7 : tie.Need-same-length-7
 same-length-7 c = search needs
 
 returns-5 : tie.Need-returns-5
-returns-5 c = search needs
+returns-5 c = λ h. absurd (omega (arith, c .stopped-in .ensures))
 
 same-length-8 : tie.Need-same-length-8
 same-length-8 c = search needs
@@ -85,7 +91,7 @@ same-length-9 : tie.Need-same-length-9
 same-length-9 c = search needs
 
 returns-6 : tie.Need-returns-6
-returns-6 c = search needs
+returns-6 c = λ h. absurd (omega (arith, c .stopped .ensures))
 
 pub take-record-spec : {M : Type 1} → statement M
 take-record-spec =

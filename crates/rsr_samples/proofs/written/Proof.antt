@@ -1,13 +1,13 @@
--- `rsr_samples::written` is safe. Assumes nothing.
+-- `rsr_samples::written` meets its contract. Assumes nothing.
 use native.Mathlib.Omega.{arith}
-use mathlib.Core.Path.{sym}
+use mathlib.Core.Path.{refl, sym}
 use lib.Seq.{length-take-le}
 use borrow.Author.Needs.{needs}
 use Rattle.rsr_samples.proofs.written.Statement.{statement}
 use Rattle.rsr_samples.proofs.written.Tie as tie
 
 returns : tie.Need-returns
-returns c = search needs
+returns c = λ h. absurd (omega arith)
 
 slice-aggregate-write-samples : tie.Need-slice-aggregate-write-samples
 slice-aggregate-write-samples c = sym (length-take-le _ _ (omega arith))
@@ -16,7 +16,7 @@ write-samples-requires : tie.Need-write-samples-requires
 write-samples-requires c κs = search needs
 
 returns-2 : tie.Need-returns-2
-returns-2 c = search needs
+returns-2 c = λ h. (refl, c .before .write-samples .ensures (c .if2 .taken))
 
 slice-aggregate-fail : tie.Need-slice-aggregate-fail
 slice-aggregate-fail c = search needs
@@ -25,7 +25,7 @@ fail-requires : tie.Need-fail-requires
 fail-requires c κs = search needs
 
 returns-3 : tie.Need-returns-3
-returns-3 c = search needs
+returns-3 c = λ h. absurd (omega arith)
 
 pub written-spec : {M : Type 1} → statement M
 written-spec =
