@@ -40,7 +40,7 @@ unfoldable pub textAt : (raw : Bool) → (i : ℕ) → List ℤ → List ℕ
 textAt raw i [] = []
 textAt raw i (z ∷ zs) = numberText raw i z ++ textAt raw (suc i) zs
 
--- What is written of a list: all its numbers.
+-- What is written of a list: all its numbers. Those of 201, 1, -199 and 1 are the lines `201 1` and `-199 1`.
 unfoldable pub samplesText : (raw : Bool) → List ℤ → List ℕ
 samplesText raw zs = textAt raw 0 zs
 
