@@ -4,6 +4,9 @@ mod input;
 mod output;
 
 ghost use mathlib.Core.Path.{_≡_};
+ghost use Prim.Native.Nat.{_≤_};
+ghost use lib.ListN.{length};
+ghost use Rattle.sfdu_sample_text.specs.inner.Room.{mostNumber};
 ghost use Rattle.rsr_samples.specs.Parts.{Takes};
 ghost use Rattle.rsr_samples.specs.inner.Written.{Writes};
 use arguments::Asked;
@@ -21,8 +24,17 @@ const NUMBERS: usize = 524288;
 const RECORDS: u64 = 140737488355328;
 
 // Writes the samples of the next record. Answers its size, or 0 where the stream has ended or cannot go on.
-fn take_record(fd: i32, name: &[u8], place: u64, raw: bool, w: &mut [u8], list: &mut [i32]) -> usize
-    ensures { λ r. ⌜ Takes raw (now (w .exit)) r ⌝ }
+fn take_record(
+    fd: i32,
+    name: &[u8],
+    place: u64,
+    raw: bool,
+    w: &mut [u8],
+    list: &mut [i32],
+    out: &mut [u8],
+) -> usize
+    requires { ⌜ mostNumber ≤ length (now out) ⌝ }
+    ensures { λ r. ⌜ Takes raw (now (w .exit)) (now (out .exit)) r ⌝ }
 {
     let filled = input::next_record(fd, w);
     if filled.failed {
@@ -38,20 +50,21 @@ fn take_record(fd: i32, name: &[u8], place: u64, raw: bool, w: &mut [u8], list: 
     }
     let answer = sfdu_samples::unpack(&w[..have], list);
     match answer {
-        Answer::Count(n) => written(list, n, raw, have),
+        Answer::Count(n) => written(list, n, raw, have, out),
         Answer::Header(fault) => stopped_in(name, place, fault, have),
         Answer::Refused(why) => stopped(name, place, refusals::number(why), 0),
     }
 }
 
 // The record's size, or 0 where its samples could not be written.
-fn written(list: &[i32], n: usize, raw: bool, size: usize) -> usize
-    ensures { λ r. ⌜ Writes raw (now (list .entry)) n size r ⌝ }
+fn written(list: &[i32], n: usize, raw: bool, size: usize, out: &mut [u8]) -> usize
+    requires { ⌜ mostNumber ≤ length (now out) ⌝ }
+    ensures { λ r. ⌜ Writes raw (now (list .entry)) n size (now (out .exit)) r ⌝ }
 {
     if list.len() < n {
         return 0;
     }
-    if output::write_samples(&list[..n], raw) {
+    if output::write_parts(&list[..n], raw, out) {
         return size;
     }
     os::fail(b"standard output");
@@ -104,11 +117,13 @@ fn tell_why(number: u32) {
     io::write_all(libc::STDERR_FILENO, b"\n");
 }
 
-fn write_stream(fd: i32, name: &[u8], raw: bool, w: &mut [u8], list: &mut [i32]) {
+fn write_stream(fd: i32, name: &[u8], raw: bool, w: &mut [u8], list: &mut [i32], out: &mut [u8])
+    requires { ⌜ mostNumber ≤ length (now out) ⌝ }
+{
     let mut place: u64 = 0;
     let mut left = RECORDS;
     while 0 < left {
-        let size = take_record(fd, name, place, raw, w, list);
+        let size = take_record(fd, name, place, raw, w, list, out);
         if size == 0 {
             return;
         }
@@ -120,7 +135,8 @@ fn write_stream(fd: i32, name: &[u8], raw: bool, w: &mut [u8], list: &mut [i32])
 fn stream(fd: i32, name: &[u8], raw: bool) {
     let mut window = io::large_buffer();
     let mut numbers = [0i32; NUMBERS];
-    write_stream(fd, name, raw, &mut window, &mut numbers);
+    let mut text = io::large_buffer();
+    write_stream(fd, name, raw, &mut window, &mut numbers, &mut text);
 }
 
 // The samples of the file that argument i names.

@@ -4,18 +4,10 @@ ghost use lib.ListN.{length};
 ghost use Rattle.sfdu_sample_text.specs.inner.Room.{mostNumber};
 ghost use Rattle.rsr_samples.specs.inner.Written.{Ends};
 
-// Whether all could be written.
-pub(crate) fn write_samples(list: &[i32], raw: bool) -> bool
-    ensures { λ r. ⌜ Ends raw (now (list .entry)) r ⌝ }
-{
-    let mut buffer = io::large_buffer();
-    write_parts(list, raw, &mut buffer)
-}
-
-// Each part begins where the one before ended, so that together they are the text of the whole list.
-fn write_parts(list: &[i32], raw: bool, out: &mut [u8]) -> bool
+// Whether all could be written. Each part begins where the one before ended, so that together they are the text of the whole list.
+pub(crate) fn write_parts(list: &[i32], raw: bool, out: &mut [u8]) -> bool
     requires { ⌜ mostNumber ≤ length (now out) ⌝ }
-    ensures { λ r. ⌜ Ends raw (now (list .entry)) r ⌝ }
+    ensures { λ r. ⌜ Ends raw (now (list .entry)) (now (out .exit)) r ⌝ }
 {
     let mut from = 0;
     while from < list.len() {

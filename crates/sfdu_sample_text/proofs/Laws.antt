@@ -48,10 +48,10 @@ part-more raw zs from i h l = rw (← part-one raw zs i l) (parts-join raw zs fr
 
 -- ---- calls
 
-so-far : {raw : Bool} {zs : List ℤ} {upto : ℕ} {text : List ℕ} → Calls raw zs upto text → text ≡ partText raw zs 0 upto
+so-far : {raw : Bool} {zs : List ℤ} {upto : ℕ} {text out : List ℕ} → Calls raw zs upto text out → text ≡ partText raw zs 0 upto
 so-far {raw} {zs} begins = sym (part-none raw zs 0)
 so-far {raw} {zs} (lays {from} {text} {old} {new} {r} calls one) =
     rw (so-far calls, grown (one .puts)) (parts-join raw zs 0 from (r .upto) (omega arith) (one .least) (omega (arith, one .least, one .most)))
 
 pub promise : Promise
-promise raw zs text calls = so-far calls ∙ whole-part raw zs
+promise raw zs text out calls = so-far calls ∙ whole-part raw zs

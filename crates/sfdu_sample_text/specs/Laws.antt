@@ -21,4 +21,4 @@ WholePart = (raw : Bool) (zs : List ℤ) → partText raw zs 0 (length zs) ≡ s
 
 -- What calls that came to the end laid out, in parts of whatever size, is the text of the list.
 abbrev pub Promise : Type 0
-Promise = (raw : Bool) (zs : List ℤ) (text : List ℕ) → Calls raw zs (length zs) text → text ≡ samplesText raw zs
+Promise = (raw : Bool) (zs : List ℤ) (text out : List ℕ) → Calls raw zs (length zs) text out → text ≡ samplesText raw zs

@@ -18,9 +18,9 @@ pub record LaysOut (raw : Bool) (zs : List ℤ) (from : ℕ) (old new : List ℕ
   pub most : r .upto ≤ length zs
   pub goes : from < length zs → from < r .upto
 
--- Calls on one list, the first from its start and each other from where the one before ended: how far they came, and the texts that
--- they laid out, one behind the other.
-pub data Calls (raw : Bool) (zs : List ℤ) : (upto : ℕ) (text : List ℕ) → Type 0 where
-  begins : Calls raw zs 0 []
-  lays : {from : ℕ} {text old new : List ℕ} {r : Laid} → Calls raw zs from text → LaysOut raw zs from old new r
-      → Calls raw zs (r .upto) (text ++ take (r .end) new)
+-- Calls on one list, the first from its start, each other from where the one before ended and with the slice as that left it: how far
+-- they came, the texts that they laid out, one behind the other, and the slice at the end.
+pub data Calls (raw : Bool) (zs : List ℤ) : (upto : ℕ) (text out : List ℕ) → Type 0 where
+  begins : {out : List ℕ} → Calls raw zs 0 [] out
+  lays : {from : ℕ} {text old new : List ℕ} {r : Laid} → Calls raw zs from text old → LaysOut raw zs from old new r
+      → Calls raw zs (r .upto) (text ++ take (r .end) new) new

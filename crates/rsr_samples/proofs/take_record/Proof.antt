@@ -2,8 +2,8 @@
 use native.Mathlib.Omega.{arith}
 use mathlib.Core.Path.{sym}
 use lib.Seq.{length-take-le}
-use borrow.Author.Needs.{needs}
 use Rattle.rsr_samples.proofs.Numbers.{numbers-are}
+use borrow.Author.Needs.{needs}
 use Rattle.rsr_samples.proofs.take_record.Statement.{statement}
 use Rattle.rsr_samples.proofs.take_record.Tie as tie
 
@@ -67,28 +67,32 @@ same-length-4 c = search needs
 same-length-5 : tie.Need-same-length-5
 same-length-5 c = search needs
 
-returns-4 : tie.Need-returns-4
-returns-4 c =
-    λ h. let wrote = c .written .ensures h in
-    let told = c .before .before .before in
-    let call = told .before .before .before in
-    let numbers = numbers-are _ _ _ (call .unpack .result) (told .answer .given .0 .0) (call .unpack .ensures) (told .answer .given .1) in
-    rw (wrote .0, ← numbers) (wrote .1)
-
 same-length-6 : tie.Need-same-length-6
 same-length-6 c = search needs
+
+returns-4 : tie.Need-returns-4
+returns-4 c =
+    λ h. let write = c .before .before in
+    let told = write .before .before .before .before in
+    let read = told .before .before .before in
+    let wrote = write .written .ensures h in
+    let numbers = numbers-are _ _ _ (read .unpack .result) (told .answer .given .0 .0) (read .unpack .ensures) (told .answer .given .1) in
+    rw (wrote .0, ← numbers) (wrote .1)
 
 same-length-7 : tie.Need-same-length-7
 same-length-7 c = search needs
 
-returns-5 : tie.Need-returns-5
-returns-5 c = λ h. absurd (omega (arith, c .stopped-in .ensures))
-
 same-length-8 : tie.Need-same-length-8
 same-length-8 c = search needs
 
+returns-5 : tie.Need-returns-5
+returns-5 c = λ h. absurd (omega (arith, c .stopped-in .ensures))
+
 same-length-9 : tie.Need-same-length-9
 same-length-9 c = search needs
+
+same-length-10 : tie.Need-same-length-10
+same-length-10 c = search needs
 
 returns-6 : tie.Need-returns-6
 returns-6 c = λ h. absurd (omega (arith, c .stopped .ensures))
@@ -117,10 +121,11 @@ take-record-spec =
     stopped-requires
     same-length-4
     same-length-5
-    returns-4
     same-length-6
+    returns-4
     same-length-7
-    returns-5
     same-length-8
+    returns-5
     same-length-9
+    same-length-10
     returns-6)

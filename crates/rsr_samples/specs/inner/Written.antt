@@ -8,9 +8,9 @@ use lib.ListN.{length, take}
 use Rattle.rsr_samples.specs.Parts.{Came, Takes}
 
 -- Where all could be written, calls came to the list's end.
-abbrev pub Ends : Bool → List ℤ → (written : Bool) → Type 0
-Ends raw zs written = written ≡ true → Came raw zs (length zs)
+abbrev pub Ends : Bool → List ℤ → (out : List ℕ) → (written : Bool) → Type 0
+Ends raw zs out written = written ≡ true → Came raw zs (length zs) out
 
 -- The same of a list's first n numbers: then the record's size is answered.
-abbrev pub Writes : Bool → List ℤ → (n size r : ℕ) → Type 0
-Writes raw zs n size r = 0 < r → (r ≡ size) × Came raw (take n zs) (length (take n zs))
+abbrev pub Writes : Bool → List ℤ → (n size : ℕ) → (out : List ℕ) → (r : ℕ) → Type 0
+Writes raw zs n size out r = 0 < r → (r ≡ size) × Came raw (take n zs) (length (take n zs)) out

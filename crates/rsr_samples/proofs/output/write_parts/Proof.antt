@@ -13,7 +13,7 @@ use Rattle.rsr_samples.proofs.output.write_parts.Statement.{statement}
 use Rattle.rsr_samples.proofs.output.write_parts.Tie as tie
 
 abbrev Inv-loop : tie.InvT-loop
-Inv-loop list raw out₀ from₀ out from = (from ≤ length list) × (length out ≡ length out₀) × Came raw list from
+Inv-loop list raw out₀ from₀ out from = (from ≤ length list) × (length out ≡ length out₀) × Came raw list from out
 
 abbrev μ-loop : tie.MeasureT-loop
 μ-loop list raw out₀ from₀ out from = length list - from
