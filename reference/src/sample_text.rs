@@ -4,6 +4,30 @@ use crate::iq::unpack;
 use crate::list::Window;
 use std::io::{self, Read, Write};
 
+/// What a refusal means, in the message of a stop.
+pub fn reason(number: u32) -> &'static str {
+    match number {
+        1 => "no whole label",
+        2 => "does not begin with NJPL",
+        3 => "version and class not 2I00",
+        4 => "kind of record not known",
+        5 => "length not one of its kind",
+        6 => "record cut off",
+        7 => "wrong type or length of the aggregation block",
+        8 => "wrong type or length of the primary block",
+        9 => "wrong type or length of the secondary block",
+        10 => "wrong type of the data block",
+        11 => "wrong length of the data block",
+        12 => "field out of range",
+        15 => "record of another kind",
+        17 => "record over 65536 bytes",
+        19 => "sample size and rate are not a listed pair",
+        34 => "data not in whole words of 4 bytes",
+        35 => "no room for the samples",
+        _ => "refused",
+    }
+}
+
 /// Writes the samples of every record: `I Q` a line, or raw as 32-bit little-endian integers, I before Q. The outer failure
 /// is that of `out`, the inner one a read that failed or a record that is refused: the samples so far are written.
 pub fn write_samples(input: impl Read, raw: bool, out: &mut impl Write) -> io::Result<io::Result<()>> {
@@ -26,7 +50,8 @@ pub fn write_samples(input: impl Read, raw: bool, out: &mut impl Write) -> io::R
         let (length, count) = match unpacked {
             Ok(unpacked) => unpacked,
             Err(refused) => {
-                let stop = format!("stopped at byte {place}: {} {}", refused.number(), refused.detail(place));
+                let (number, detail) = (refused.number(), refused.detail(place));
+                let stop = format!("stopped at byte {place}: {number} {detail} {}", reason(number));
                 return Ok(Err(io::Error::other(stop)));
             }
         };

@@ -3,6 +3,12 @@
 mod input;
 mod output;
 
+ghost use mathlib.Core.Path.{_≡_};
+ghost use Prim.Native.Nat.{_≤_};
+ghost use lib.ListN.{length};
+ghost use Rattle.sfdu_sample_text.specs.inner.Room.{mostNumber};
+ghost use Rattle.rsr_samples.specs.Parts.{Takes};
+ghost use Rattle.rsr_samples.specs.inner.Written.{Writes};
 use arguments::Asked;
 use refusals::Refusal;
 use sfdu::Fault;
@@ -25,7 +31,11 @@ fn take_record(
     raw: bool,
     w: &mut [u8],
     list: &mut [i32],
-) -> usize {
+    out: &mut [u8],
+) -> usize
+    requires { ⌜ mostNumber ≤ length (now out) ⌝ }
+    ensures { λ r. ⌜ Takes raw (now (w .exit)) (now (out .exit)) r ⌝ }
+{
     let filled = input::next_record(fd, w);
     if filled.failed {
         os::fail(name);
@@ -40,18 +50,21 @@ fn take_record(
     }
     let answer = sfdu_samples::unpack(&w[..have], list);
     match answer {
-        Answer::Count(n) => written(list, n, raw, have),
+        Answer::Count(n) => written(list, n, raw, have, out),
         Answer::Header(fault) => stopped_in(name, place, fault, have),
         Answer::Refused(why) => stopped(name, place, refusals::number(why), 0),
     }
 }
 
 // The record's size, or 0 where its samples could not be written.
-fn written(list: &[i32], n: usize, raw: bool, size: usize) -> usize {
+fn written(list: &[i32], n: usize, raw: bool, size: usize, out: &mut [u8]) -> usize
+    requires { ⌜ mostNumber ≤ length (now out) ⌝ }
+    ensures { λ r. ⌜ Writes raw (now (list .entry)) n size (now (out .exit)) r ⌝ }
+{
     if list.len() < n {
         return 0;
     }
-    if output::write_samples(&list[..n], raw) {
+    if output::write_parts(&list[..n], raw, out) {
         return size;
     }
     os::fail(b"standard output");
@@ -59,7 +72,9 @@ fn written(list: &[i32], n: usize, raw: bool, size: usize) -> usize {
 }
 
 // A record that is cut where the window is full is too long for it: 17, as the listing says.
-fn stopped_in(name: &[u8], place: u64, fault: Fault, have: usize) -> usize {
+fn stopped_in(name: &[u8], place: u64, fault: Fault, have: usize) -> usize
+    ensures { λ r. ⌜ r ≡ 0 ⌝ }
+{
     let why = fault.refusal;
     let number = refusals::number(why);
     let cut = refusals::number(Refusal::Truncated);
@@ -78,7 +93,9 @@ fn stopped_in(name: &[u8], place: u64, fault: Fault, have: usize) -> usize {
     )
 }
 
-fn stopped(name: &[u8], place: u64, number: u32, beside: u64) -> usize {
+fn stopped(name: &[u8], place: u64, number: u32, beside: u64) -> usize
+    ensures { λ r. ⌜ r ≡ 0 ⌝ }
+{
     io::write_all(libc::STDERR_FILENO, name);
     io::write_all(libc::STDERR_FILENO, b": stopped at byte ");
     io::print_decimal(libc::STDERR_FILENO, place);
@@ -91,14 +108,22 @@ fn tell_refusal(number: u32, beside: u64) {
     io::print_decimal(libc::STDERR_FILENO, number as u64);
     io::write_all(libc::STDERR_FILENO, b" ");
     io::print_decimal(libc::STDERR_FILENO, beside);
+    tell_why(number);
+}
+
+fn tell_why(number: u32) {
+    io::write_all(libc::STDERR_FILENO, b" ");
+    refusal_words::tell(libc::STDERR_FILENO, number);
     io::write_all(libc::STDERR_FILENO, b"\n");
 }
 
-fn write_stream(fd: i32, name: &[u8], raw: bool, w: &mut [u8], list: &mut [i32]) {
+fn write_stream(fd: i32, name: &[u8], raw: bool, w: &mut [u8], list: &mut [i32], out: &mut [u8])
+    requires { ⌜ mostNumber ≤ length (now out) ⌝ }
+{
     let mut place: u64 = 0;
     let mut left = RECORDS;
     while 0 < left {
-        let size = take_record(fd, name, place, raw, w, list);
+        let size = take_record(fd, name, place, raw, w, list, out);
         if size == 0 {
             return;
         }
@@ -110,7 +135,8 @@ fn write_stream(fd: i32, name: &[u8], raw: bool, w: &mut [u8], list: &mut [i32])
 fn stream(fd: i32, name: &[u8], raw: bool) {
     let mut window = io::large_buffer();
     let mut numbers = [0i32; NUMBERS];
-    write_stream(fd, name, raw, &mut window, &mut numbers);
+    let mut text = io::large_buffer();
+    write_stream(fd, name, raw, &mut window, &mut numbers, &mut text);
 }
 
 // The samples of the file that argument i names.

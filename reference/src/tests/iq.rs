@@ -187,13 +187,19 @@ fn the_tone() {
     // What came before a stop is written.
     let (lines, stop) = text(&tone[..4_000], false);
     assert_eq!(lines.split(|byte| *byte == b'\n').count(), 1_001);
-    assert_eq!(stop.as_deref(), Some("stopped at byte 2260: 6 1740"));
+    assert_eq!(stop.as_deref(), Some("stopped at byte 2260: 6 1740 record cut off"));
     let mut unlisted = tone.clone();
     unlisted[2_260 + 68] = 3;
-    assert_eq!(text(&unlisted, false).1.as_deref(), Some("stopped at byte 2260: 19 0"));
+    assert_eq!(
+        text(&unlisted, false).1.as_deref(),
+        Some("stopped at byte 2260: 19 0 sample size and rate are not a listed pair")
+    );
     unlisted[2_260 + 52] = 0;
-    assert_eq!(text(&unlisted, false).1.as_deref(), Some("stopped at byte 2260: 12 2312"));
-    assert_eq!(text(&telemetry_by_hand(100, &[]), false).1.as_deref(), Some("stopped at byte 0: 15 0"));
+    assert_eq!(text(&unlisted, false).1.as_deref(), Some("stopped at byte 2260: 12 2312 field out of range"));
+    assert_eq!(
+        text(&telemetry_by_hand(100, &[]), false).1.as_deref(),
+        Some("stopped at byte 0: 15 0 record of another kind")
+    );
 }
 
 #[test]

@@ -1,7 +1,8 @@
--- `rsr_samples::take_record` is safe. Assumes nothing.
+-- `rsr_samples::take_record` meets its contract: the numbers that are written are those that unpack found in the window. Assumes nothing.
 use native.Mathlib.Omega.{arith}
 use mathlib.Core.Path.{sym}
 use lib.Seq.{length-take-le}
+use Rattle.rsr_samples.proofs.Numbers.{numbers-are}
 use borrow.Author.Needs.{needs}
 use Rattle.rsr_samples.proofs.take_record.Statement.{statement}
 use Rattle.rsr_samples.proofs.take_record.Tie as tie
@@ -16,19 +17,19 @@ same-length : tie.Need-same-length
 same-length c = search needs
 
 returns : tie.Need-returns
-returns c = search needs
+returns c = λ h. absurd (omega arith)
 
 same-length-2 : tie.Need-same-length-2
 same-length-2 c = search needs
 
 returns-2 : tie.Need-returns-2
-returns-2 c = search needs
+returns-2 c = λ h. absurd (omega arith)
 
 same-length-3 : tie.Need-same-length-3
 same-length-3 c = search needs
 
 returns-3 : tie.Need-returns-3
-returns-3 c = search needs
+returns-3 c = λ h. absurd (omega arith)
 
 slice-reshare-prefix-unpack : tie.Need-slice-reshare-prefix-unpack
 slice-reshare-prefix-unpack c = search needs
@@ -66,26 +67,35 @@ same-length-4 c = search needs
 same-length-5 : tie.Need-same-length-5
 same-length-5 c = search needs
 
-returns-4 : tie.Need-returns-4
-returns-4 c = search needs
-
 same-length-6 : tie.Need-same-length-6
 same-length-6 c = search needs
+
+returns-4 : tie.Need-returns-4
+returns-4 c =
+    λ h. let write = c .before .before in
+    let told = write .before .before .before .before in
+    let read = told .before .before .before in
+    let wrote = write .written .ensures h in
+    let numbers = numbers-are _ _ _ (read .unpack .result) (told .answer .given .0 .0) (read .unpack .ensures) (told .answer .given .1) in
+    rw (wrote .0, ← numbers) (wrote .1)
 
 same-length-7 : tie.Need-same-length-7
 same-length-7 c = search needs
 
-returns-5 : tie.Need-returns-5
-returns-5 c = search needs
-
 same-length-8 : tie.Need-same-length-8
 same-length-8 c = search needs
+
+returns-5 : tie.Need-returns-5
+returns-5 c = λ h. absurd (omega (arith, c .stopped-in .ensures))
 
 same-length-9 : tie.Need-same-length-9
 same-length-9 c = search needs
 
+same-length-10 : tie.Need-same-length-10
+same-length-10 c = search needs
+
 returns-6 : tie.Need-returns-6
-returns-6 c = search needs
+returns-6 c = λ h. absurd (omega (arith, c .stopped .ensures))
 
 pub take-record-spec : {M : Type 1} → statement M
 take-record-spec =
@@ -111,10 +121,11 @@ take-record-spec =
     stopped-requires
     same-length-4
     same-length-5
-    returns-4
     same-length-6
+    returns-4
     same-length-7
-    returns-5
     same-length-8
+    returns-5
     same-length-9
+    same-length-10
     returns-6)

@@ -4,12 +4,14 @@ use lib.ListN.{length}
 use borrow.Author.Needs.{needs}
 use Rattle.rsr_samples.proofs.write_stream.Statement.{statement}
 use Rattle.rsr_samples.proofs.write_stream.Tie as tie
+use Rattle.std.proofs.num.wrapping_add_u64.Reads as wrapping-add-u64-reads
 
 abbrev Inv-loop : tie.InvT-loop
-Inv-loop fd name raw w₀ list₀ place₀ left₀ w list place left = (length w ≡ length w₀) × (length list ≡ length list₀)
+Inv-loop fd name raw w₀ list₀ out₀ place₀ left₀ w list out place left =
+    (length w ≡ length w₀) × (length list ≡ length list₀) × (length out ≡ length out₀)
 
 abbrev μ-loop : tie.MeasureT-loop
-μ-loop fd name raw w₀ list₀ place₀ left₀ w list place left = left
+μ-loop fd name raw w₀ list₀ out₀ place₀ left₀ w list out place left = left
 
 loop-holds : tie.Need-loop-holds Inv-loop μ-loop
 loop-holds c = search needs
@@ -22,6 +24,9 @@ same-length c = search needs
 
 same-length-2 : tie.Need-same-length-2 Inv-loop μ-loop
 same-length-2 c = search needs
+
+same-length-3 : tie.Need-same-length-3 Inv-loop μ-loop
+same-length-3 c = search needs
 
 returns : tie.Need-returns Inv-loop μ-loop
 returns c = search needs
@@ -38,11 +43,14 @@ loop-less c = search needs
 loop-again : tie.Need-loop-again Inv-loop μ-loop
 loop-again c = search needs
 
-same-length-3 : tie.Need-same-length-3 Inv-loop μ-loop
-same-length-3 c = search needs
-
 same-length-4 : tie.Need-same-length-4 Inv-loop μ-loop
 same-length-4 c = search needs
+
+same-length-5 : tie.Need-same-length-5 Inv-loop μ-loop
+same-length-5 c = search needs
+
+same-length-6 : tie.Need-same-length-6 Inv-loop μ-loop
+same-length-6 c = search needs
 
 returns-2 : tie.Need-returns-2 Inv-loop μ-loop
 returns-2 c = search needs
@@ -57,11 +65,13 @@ write-stream-spec =
     take-record-requires
     same-length
     same-length-2
+    same-length-3
     returns
     wrapping-add-u64-requires
     sub-left
     loop-less
     loop-again
-    same-length-3
     same-length-4
+    same-length-5
+    same-length-6
     returns-2)

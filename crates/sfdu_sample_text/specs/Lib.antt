@@ -1,0 +1,4 @@
+pub mod Text
+pub mod Part
+pub mod Laws
+pub mod inner
