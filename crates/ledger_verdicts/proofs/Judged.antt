@@ -40,23 +40,25 @@ given (n when c) = n
 abbrev holds : Rule ℕ → Bool
 holds (n when c) = c
 
--- where neither holds, the sheet is right
+-- where neither holds, the sheet is right, and the others decide
 pub record Begun (s : List ℕ) (rule : Rule ℕ) : Type 0 where
   pub right-is : right s ≡ true
   pub long : length s ≡ sheetSize
   pub passed : holds rule ≡ false
+  pub rest : (more : List (Rule ℕ)) → verdict (notSheet (right s) ∷ rule ∷ more) ≡ verdict more
 
 module _ (s : List ℕ) {fine : Bool} (is : fine ≡ right s) (rule : Rule ℕ) {v : Verdict} (e : verdictNumber v ≡ verdict (notSheet fine ∷ rule ∷ [])) where
   pub begun : 0 < given rule → v ≡ Case.Fine → Begun s rule
+  unfolding judge
   begun p g = by rule e p
     where
       by : (rule : Rule ℕ) → verdictNumber v ≡ verdict (notSheet fine ∷ rule ∷ []) → 0 < given rule → Begun s rule
       by (n when c) e p =
           let h = none-holds (notSheet fine ∷ (n when c) ∷ []) e (omega arith, (p, tt)) g in
           let r = sym is ∙ not-false fine (h .0) in
-          record { right-is = r; long = right-parts s r .long; passed = h .1 .0 }
+          record { right-is = r; long = right-parts s r .long; passed = h .1 .0; rest = λ more. rw (r, h .1 .0) }
 
-  -- a refusal by these two is one by the whole list; where they refuse nothing, the others decide
+  -- a refusal by these two is one by the whole list
   pub refused-first : (q : Refusal) → v ≡ Case.Refused q → (more : List (Rule ℕ)) → verdictNumber v ≡ verdict (notSheet (right s) ∷ rule ∷ more)
   unfolding judge
   refused-first q g more = rw (← is) (e ∙ by fine rule (λ z. number-positive q (number-is (notSheet fine ∷ rule ∷ []) e q g ∙ z)))
@@ -65,13 +67,6 @@ module _ (s : List ℕ) {fine : Bool} (is : fine ≡ right s) (rule : Rule ℕ) 
       by false rule l = refl
       by true (n when true) l = refl
       by true (n when false) l = absurd (l refl)
-
-  pub accepted-first : 0 < given rule → v ≡ Case.Fine → (more : List (Rule ℕ)) → verdict (notSheet (right s) ∷ rule ∷ more) ≡ verdict more
-  unfolding judge
-  accepted-first p g more = let h = begun p g in rw (h .right-is) (by rule (h .passed))
-    where
-      by : (rule : Rule ℕ) → holds rule ≡ false → verdict (rule ∷ more) ≡ verdict more
-      by (n when c) l = rw l
 
 -- one rule more
 module _ (n : ℕ) {c : Bool} (more : List (Rule ℕ)) where

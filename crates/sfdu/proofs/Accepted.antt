@@ -1,20 +1,22 @@
 -- What is known of a slice that read one accepts. Assumes nothing.
 use Prim.Native.Nat.{ℕ, _+_, _-_, _≤_, _<_}
 use native.Mathlib.Omega.{arith}
-use mathlib.Core.Bool.{Bool, true, false, not, _&&_, _||_}
+use mathlib.Core.Bool.{Bool, true, false, not, _||_}
 use mathlib.Core.List.{List, [], _∷_}
 use mathlib.Core.Path.{_≡_, refl, sym, ap, _∙_}
 use borrow.Author.Tests.{leb-true, ltb-false, eqb-true, not-false}
-use lib.Dec.{eqb, leb, lit<}
+use lib.Dec.{eqb, lit<}
 use lib.ListN.{length}
+use Rattle.refusals.specs.Table.{numberOf}
 use Rattle.refusals.proofs.Judged.{NoneHolds, AllGive, Outcome, none, first, outcome, none-judge, none-hold, none-applies, first-judge, first-gives}
 use Rattle.octets.specs.Octets.{sameAt}
 use Rattle.octets.proofs.Laws.{and-split}
 use Rattle.sfdu.specs.declared.Kind.{Kind}
 use Rattle.sfdu.specs.declared.Kind.the-variants.{Telemetry, Rsr}
+use Rattle.sfdu.specs.declared.Fault.{Fault}
 use Rattle.sfdu.specs.declared.Primary.{Primary}
 use Rattle.sfdu.specs.declared.Read.{Read}
-use Rattle.sfdu.specs.declared.Read.the-variants.{Record}
+use Rattle.sfdu.specs.declared.Read.the-variants.{Record, Refused}
 use Rattle.sfdu.specs.Nesting.{
   kindNumber,
   authority,
@@ -59,12 +61,6 @@ pub in-range : (k : Kind) (s : List ℕ) → lengthInRange k s ≡ true
     → (leastLabelLength k ≤ labelLength s) × (labelLength s ≤ mostLabelLength k)
 unfolding lengthInRange
 in-range k s e = let p = and-split _ _ e in (leb-true _ _ (p .0), leb-true _ _ (p .1))
-
--- What a test of the length that was read says.
-pub say-range : (k : Kind) (s : List ℕ) (n : ℕ) {r : Bool} → n ≡ labelLength s → r ≡ (leb (leastLabelLength k) n && leb n (mostLabelLength k))
-    → r ≡ lengthInRange k s
-unfolding lengthInRange
-say-range k s n e h = h ∙ rw e
 
 pub record-length : (s : List ℕ) (n : ℕ) → n ≡ labelLength s → labelSize + n ≡ recordLength s
 unfolding recordLength
@@ -192,6 +188,10 @@ found s k n rest e =
 pub record-found : (s : List ℕ) {answer : Read} {k : Kind} {n : ℕ} {p : Primary} → answer ≡ Record k n p → wordsOf answer ≡ readOne s
     → Found s k n (primaryWords p)
 record-found s {answer} {k} {n} {p} is read = found s k n (primaryWords p) (sym (ap wordsOf is) ∙ read)
+
+-- The same of the answer itself, a refusal.
+pub refusal-found : (s : List ℕ) {answer : Read} {f : Fault} → answer ≡ Refused f → wordsOf answer ≡ readOne s → accepts s ≡ false
+refusal-found s {answer} {f} is read = words-refused s (numberOf (f .refusal)) (f .at) (sym read ∙ ap wordsOf is)
 
 pub primary-found : {s : List ℕ} {k : Kind} {n : ℕ} {rest : List ℕ} → Found s k n rest → rest ≡ primaryOf s
 primary-found f = let w = f .words in cc

@@ -3,6 +3,7 @@ pub mod Accepted
 pub mod Labels
 pub mod Within
 pub mod Nested
+pub mod Lengths
 pub mod Parts
 pub mod Words
 pub mod Wholes

@@ -7,7 +7,7 @@ use mathlib.Core.Path.{_≡_, sym, subst}
 use lib.ListN.{length}
 use Rattle.octets.specs.Octets.{part}
 use Rattle.sfdu.specs.declared.Kind.{Kind}
-use Rattle.sfdu.specs.Nesting.{secondaryValueAt, dataValueAt, secondaryLength}
+use Rattle.sfdu.specs.Nesting.{secondaryValueAt, dataAt, dataValueAt, secondaryLength}
 use Rattle.sfdu.specs.Read.{kindOf, accepts, secondaryStart, secondaryPart, dataStart, dataPart}
 use Rattle.sfdu.proofs.Placed.{placed}
 use Rattle.sfdu.proofs.Accepted.{Found, Accepted, accepted}
@@ -19,6 +19,9 @@ module _ (s : List ℕ) (k : Kind) (n : ℕ) (rest : List ℕ) (f : Found s k n 
       let p = placed (kindOf s) in
       let low : dataValueAt (kindOf s) ≤ n = omega arith in
       (subst (λ (l : Kind). dataValueAt l ≤ n) (sym (f .kind)) low, omega arith)
+
+  pub secondary-room : (secondaryValueAt ≤ dataAt k) × (dataAt k ≤ length s)
+  secondary-room = let p = placed k in (omega arith, omega (arith, room .0, room .1))
 
   pub secondary-start : secondaryStart s ≡ secondaryValueAt
   unfolding secondaryStart

@@ -10,8 +10,8 @@ use Rattle.refusals.proofs.Judged.{Outcome, none, first, outcome, none-judge, f
 use lib.ListN.{length}
 use Rattle.sfdu.specs.declared.Kind.{Kind}
 use Rattle.sfdu.specs.Nesting.{kindNumber, dataValueAt}
-use Rattle.sfdu.specs.Read.{kindOf, readRules, accepts, recordWords, readOne}
-use Rattle.sfdu.proofs.Accepted.{Found, none-holds}
+use Rattle.sfdu.specs.Read.{kindOf, recordLength, primaryOf, readRules, accepts, recordWords, readOne}
+use Rattle.sfdu.proofs.Accepted.{Found, none-holds, primary-found}
 use Rattle.sfdu.proofs.Parts.{room}
 use Rattle.sfdu_headers.specs.Words.{number}
 use Rattle.sfdu_headers.specs.Headers.{wrongKind, judgedFields, readHeaders}
@@ -34,13 +34,22 @@ module _ (wanted : ℕ) (s : List ℕ) where
   unfolding readHeaders judge
   right-kind a e = none-judge (map number) (readRules s) _ (none-holds s a) ∙ rw (eq-eqb _ _ e)
 
--- ---- an arm of the call: read one answers a record, of the kind k
+-- ---- an arm of the call: read one answers a record, of the wanted kind k
 
-module _ (s : List ℕ) {kind : Kind} {size : ℕ} {rest : List ℕ} (f : Found s kind size rest) (k : Kind) (e : kind ≡ k) where
-  pub arm-room : dataValueAt k ≤ length s
-  arm-room = let long = room s _ _ _ f in omega (arith, ap dataValueAt e, long .0, long .1)
+pub record Arm (wanted : ℕ) (s : List ℕ) (k : Kind) (size : ℕ) (rest : List ℕ) : Type 0 where
+  pub size-is : size ≡ recordLength s
+  pub primary-is : rest ≡ primaryOf s
+  pub room : dataValueAt k ≤ length s
+  pub reads : judgedFields k s ≡ readHeaders wanted s
 
-  pub arm-reads : (wanted : ℕ) → wanted ≡ kindNumber kind → judgedFields k s ≡ readHeaders wanted s
-  arm-reads wanted w =
-      let same = right-kind wanted s (f .accepted) (w ∙ ap kindNumber (f .kind)) in
-      sym (same ∙ ap (λ (x : Kind). judgedFields x s) (sym (f .kind) ∙ e))
+pub arm-is : (s : List ℕ) {wanted : ℕ} {kind : Kind} {size : ℕ} {rest : List ℕ} → Found s kind size rest → (k : Kind) → kind ≡ k → wanted ≡ kindNumber kind
+    → Arm wanted s k size rest
+arm-is s {wanted} f k e w =
+    let long = room s _ _ _ f in
+    let same = right-kind wanted s (f .accepted) (w ∙ ap kindNumber (f .kind)) in
+    record {
+      size-is = f .size;
+      primary-is = primary-found f;
+      room = omega (arith, ap dataValueAt e, long .0, long .1);
+      reads = sym (same ∙ ap (λ (x : Kind). judgedFields x s) (sym (f .kind) ∙ e));
+    }

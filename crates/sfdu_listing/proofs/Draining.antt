@@ -26,23 +26,27 @@ there w at = rw (← length-drop at w, take-length)
 pub part-length : (w : List ℕ) (at : ℕ) → length (take (length w - at) (drop at w)) ≡ length w - at
 part-length w at = rw (there w at) (length-drop at w)
 
+-- A record there, its bounds, and that the window has it whole.
+pub record RecordThere (w : List ℕ) (at : ℕ) (k : Kind) (n m : ℕ) : Type 0 where
+  pub found : FoundRecord (drop at w) k n m
+  pub least : 120 ≤ n
+  pub most : n ≤ bufferSize
+  pub within : at + n ≤ length w
+
 module _ (place : ℕ) (w : List ℕ) (at : ℕ) (last : Bool) where
   pub record-there : (k : Kind) (n m : ℕ) → 0 ∷ kindNumber k ∷ n ∷ m ∷ [] ≡ foundIn place (take (length w - at) (drop at w)) last
-      → FoundRecord (drop at w) k n m
-  record-there k n m e = found-record place (drop at w) last k n m (e ∙ ap (λ (x : List ℕ). foundIn place x last) (there w at))
+      → RecordThere w at k n m
+  record-there k n m e =
+      let f = found-record place (drop at w) last k n m (e ∙ ap (λ (x : List ℕ). foundIn place x last) (there w at)) in
+      let r = whole-record (drop at w) (f .is-whole) in
+      let l = length-drop at w in
+      record { found = f; least = omega (arith, f .size); most = omega (arith, f .size); within = omega (arith, f .size) }
 
   pub stop-there : (n m : ℕ) → n ∷ m ∷ [] ≡ foundIn place (take (length w - at) (drop at w)) last → FoundStop place (drop at w) last n m
   stop-there n m e = found-stop place (drop at w) last n m (e ∙ ap (λ (x : List ℕ). foundIn place x last) (there w at))
 
   pub more-there : [] ≡ foundIn place (take (length w - at) (drop at w)) last → (last ≡ false) × (cutShort (drop at w) ≡ true)
   more-there e = found-more place (drop at w) last (e ∙ ap (λ (x : List ℕ). foundIn place x last) (there w at))
-
-module _ (w : List ℕ) (at : ℕ) where
-  pub record-bounds : (k : Kind) (n m : ℕ) → FoundRecord (drop at w) k n m → (120 ≤ n) × (n ≤ bufferSize) × (at + n ≤ length w)
-  record-bounds k n m f =
-      let r = whole-record (drop at w) (f .is-whole) in
-      let l = length-drop at w in
-      (omega (arith, f .size), omega (arith, f .size), omega (arith, f .size))
 
 -- ---- the loop
 
@@ -72,21 +76,20 @@ module _ (w : List ℕ) (place : ℕ) (last : Bool) (out₀ : List ℕ) (start :
 
   module _ (out : List ℕ) (at end : ℕ) (r : Round w place last out₀ start out at end) where
     -- room for a line, and for the last one
-    pub line-room : (k : Kind) (n m : ℕ) → FoundRecord (drop at w) k n m → end + lineRoom ≤ length out
-    line-room k n m f = let b = record-bounds w at k n m f in omega (arith, r .few, r .fits, r .room, r .same)
+    pub line-room : (k : Kind) (n m : ℕ) → RecordThere w at k n m → end + lineRoom ≤ length out
+    line-room k n m f = omega (arith, r .few, r .fits, r .room, r .same)
 
     pub last-room : end + mostLast ≤ length out
     last-room = omega (arith, r .few, r .fits, r .room, r .same, r .under .within)
 
-    pub round-goes : (k : Kind) (n m : ℕ) (new : List ℕ) (q : ℕ) → FoundRecord (drop at w) k n m
+    pub round-goes : (k : Kind) (n m : ℕ) (new : List ℕ) (q : ℕ) → RecordThere w at k n m
         → Puts out new end q (line (place + at) n (kindNumber k) m) → q ≤ end + 40 → length new ≡ length out
         → Round w place last out₀ start new (at + n) q
     round-goes k n m new q f p short same =
-        let b = record-bounds w at k n m f in
         let l = line-room k n m f in
         record {
           t = r .t ++ line (place + at) n (kindNumber k) m;
-          under = goes w place last at (r .t) (r .under) k n m f;
+          under = goes w place last at (r .t) (r .under) k n m (f .found);
           puts = then (r .puts) p (omega (arith, r .same));
           same = same ∙ r .same;
           few = omega (arith, r .few);

@@ -68,17 +68,27 @@ headers-there s at k n r =
 
 -- ---- the size of the record there, 0 where none is whole
 
+-- The place n bytes on is the one past a whole record.
+pub record OnePast (s : List ℕ) (at n : ℕ) : Type 0 where
+  pub is-whole : whole s at ≡ true
+  pub next : at + n ≡ past s at
+  pub further : at < at + n
+  pub within : at + n ≤ length s
+
 module _ (s : List ℕ) (at n : ℕ) (e : n ≡ wholeSize (take (length s - at) (drop at s))) where
   size-there : n ≡ cond (whole s at) (recordLength (drop at s)) 0
   unfolding wholeSize whole wholeBy accepts
   size-there = e ∙ ap wholeSize (from-there s at)
 
-  pub size-whole : (n ≡ 0 → ⊥) → (whole s at ≡ true) × (at + n ≡ past s at)
+  pub size-whole : (n ≡ 0 → ⊥) → OnePast s at n
   unfolding past
   size-whole h = by (whole s at) refl
     where
-      by : (b : Bool) → whole s at ≡ b → (whole s at ≡ true) × (at + n ≡ at + recordLength (drop at s))
-      by true w = (w, ap (λ (m : ℕ). at + m) (size-there ∙ rw w))
+      by : (b : Bool) → whole s at ≡ b → OnePast s at n
+      by true w =
+          let m : at + n ≡ past s at = ap (λ (m : ℕ). at + m) (size-there ∙ rw w) in
+          let r = whole-record s at w in
+          record { is-whole = w; next = m; further = omega (arith, m, r .further); within = omega (arith, m, r .within) }
       by false w = absurd (h (size-there ∙ rw w))
 
   pub size-none : n ≡ 0 → whole s at ≡ false

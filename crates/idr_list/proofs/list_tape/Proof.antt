@@ -35,8 +35,7 @@ same-length-2 c = search needs
 returns : tie.Need-returns Inv-loop μ-loop
 returns c =
     let turned = c .before .before .before .before .before .before .before .before in
-    let k = turned .before .before .before .before .loop in
-    round-ends (k .w) (k .out) (k .s) (k .left) (k .inv) _ _ _ (turned .take-turn .ensures) (c .if1 .taken)
+    round-ends _ _ _ _ (turned .before .before .before .before .loop .inv) _ _ _ (turned .take-turn .ensures) (c .if1 .taken)
 
 sub-left : tie.Need-sub-left Inv-loop μ-loop
 sub-left c = search needs
@@ -47,8 +46,7 @@ loop-less c = search needs
 loop-again : tie.Need-loop-again Inv-loop μ-loop
 loop-again c =
     let turned = c .before .before .before .before .before .before .before .before in
-    let k = turned .before .before .before .before .loop in
-    round-goes (k .w) (k .out) (k .s) (k .left) (k .inv) _ _ _ (search needs) (search needs) (turned .take-turn .ensures) (c .if1 .left) _
+    round-goes _ _ _ _ (turned .before .before .before .before .loop .inv) _ _ _ (search needs) (search needs) (turned .take-turn .ensures) (c .if1 .left) _
     (search needs) (lit≤ tt)
 
 give-up-requires : tie.Need-give-up-requires Inv-loop μ-loop
@@ -61,7 +59,7 @@ same-length-4 : tie.Need-same-length-4 Inv-loop μ-loop
 same-length-4 c = search needs
 
 returns-2 : tie.Need-returns-2 Inv-loop μ-loop
-returns-2 c = let k = c .before .before .loop in round-gives-up (k .w) (k .out) (k .s) (k .left) (k .inv)
+returns-2 c = round-gives-up _ _ _ _ (c .before .before .loop .inv)
 
 pub list-tape-spec : {M : Type 1} → statement M
 list-tape-spec =

@@ -3,7 +3,8 @@ use mathlib.Core.Path.{sym, _∙_}
 use borrow.Author.Tests.{not-false, ltb-true}
 use native.Mathlib.Omega.{arith}
 use borrow.Author.Needs.{needs}
-use Rattle.ledger_verdicts.proofs.Judged.{begun, refused-first, accepted-first, stops, passes, none-left}
+use Rattle.ledger_verdicts.specs.inner.Verdicts.{noDesk}
+use Rattle.ledger_verdicts.proofs.Judged.{Begun, begun, refused-first, stops, passes, none-left}
 use Rattle.ledger_verdicts.proofs.desk_verdict.Statement.{statement}
 use Rattle.ledger_verdicts.proofs.desk_verdict.Tie as tie
 
@@ -21,25 +22,18 @@ returns c =
 enum-told-2 : tie.Need-enum-told-2
 enum-told-2 c = search needs
 
+-- Where the first two rules pass.
+begins : (c : tie.After-enum-told2) → let a = c .before .before .before .before .args in Begun (a .s .now) (noDesk (a .desk))
+begins c = begun _ (c .before .before .before .before .pre) _ (c .before .before .desk-number-verdict .ensures) (omega arith) (c .enum-told2 .given .1)
+
 is-closed-requires : tie.Need-is-closed-requires
-is-closed-requires c κs =
-    let judged = c .before .before in
-    let fine = begun _ (judged .before .before .pre) _ (judged .desk-number-verdict .ensures) (omega arith) (c .enum-told2 .given .1) in
-    (fine .long, ltb-true _ _ (not-false _ (fine .passed)))
+is-closed-requires c κs = (begins c .long, ltb-true _ _ (not-false _ (begins c .passed)))
 
 returns-2 : tie.Need-returns-2
-returns-2 c =
-    let told = c .before .before in
-    let judged = told .before .before in
-    sym (accepted-first _ (judged .before .before .pre) _ (judged .desk-number-verdict .ensures) (omega arith) (told .enum-told2 .given .1) _
-    ∙ stops _ _ (rw (c .before .is-closed .ensures) at (c .if1 .taken)))
+returns-2 c = sym (begins (c .before .before) .rest _ ∙ stops _ _ (rw (c .before .is-closed .ensures) at (c .if1 .taken)))
 
 returns-3 : tie.Need-returns-3
-returns-3 c =
-    let told = c .before .before in
-    let judged = told .before .before in
-    sym (accepted-first _ (judged .before .before .pre) _ (judged .desk-number-verdict .ensures) (omega arith) (told .enum-told2 .given .1) _
-    ∙ passes _ _ (rw (c .before .is-closed .ensures) at (c .if1 .left)) ∙ none-left)
+returns-3 c = sym (begins (c .before .before) .rest _ ∙ passes _ _ (rw (c .before .is-closed .ensures) at (c .if1 .left)) ∙ none-left)
 
 pub desk-verdict-spec : {M : Type 1} → statement M
 desk-verdict-spec = tie.close (tie.spec desk-number-verdict-requires enum-told returns enum-told-2 is-closed-requires returns-2 returns-3)

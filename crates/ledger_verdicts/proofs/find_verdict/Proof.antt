@@ -2,7 +2,8 @@
 use mathlib.Core.Path.{sym, _∙_}
 use native.Mathlib.Omega.{arith}
 use borrow.Author.Needs.{needs}
-use Rattle.ledger_verdicts.proofs.Judged.{begun, refused-first, accepted-first, stops, passes, none-left}
+use Rattle.ledger_verdicts.specs.inner.Verdicts.{badKey}
+use Rattle.ledger_verdicts.proofs.Judged.{Begun, begun, refused-first, stops, passes, none-left}
 use Rattle.ledger_verdicts.proofs.find_verdict.Statement.{statement}
 use Rattle.ledger_verdicts.proofs.find_verdict.Tie as tie
 
@@ -20,24 +21,18 @@ returns c =
 enum-told-2 : tie.Need-enum-told-2
 enum-told-2 c = search needs
 
+-- Where the first two rules pass.
+begins : (c : tie.After-enum-told2) → let a = c .before .before .before .before .args in Begun (a .s .now) (badKey (a .key))
+begins c = begun _ (c .before .before .before .before .pre) _ (c .before .before .key-verdict .ensures) (omega arith) (c .enum-told2 .given .1)
+
 has-key-requires : tie.Need-has-key-requires
-has-key-requires c κs =
-    let judged = c .before .before in
-    begun _ (judged .before .before .pre) _ (judged .key-verdict .ensures) (omega arith) (c .enum-told2 .given .1) .long
+has-key-requires c κs = begins c .long
 
 returns-2 : tie.Need-returns-2
-returns-2 c =
-    let told = c .before .before in
-    let judged = told .before .before in
-    sym (accepted-first _ (judged .before .before .pre) _ (judged .key-verdict .ensures) (omega arith) (told .enum-told2 .given .1) _
-    ∙ stops _ _ (rw (c .before .has-key .ensures) at (c .if1 .taken)))
+returns-2 c = sym (begins (c .before .before) .rest _ ∙ stops _ _ (rw (c .before .has-key .ensures) at (c .if1 .taken)))
 
 returns-3 : tie.Need-returns-3
-returns-3 c =
-    let told = c .before .before in
-    let judged = told .before .before in
-    sym (accepted-first _ (judged .before .before .pre) _ (judged .key-verdict .ensures) (omega arith) (told .enum-told2 .given .1) _
-    ∙ passes _ _ (rw (c .before .has-key .ensures) at (c .if1 .left)) ∙ none-left)
+returns-3 c = sym (begins (c .before .before) .rest _ ∙ passes _ _ (rw (c .before .has-key .ensures) at (c .if1 .left)) ∙ none-left)
 
 pub find-verdict-spec : {M : Type 1} → statement M
 find-verdict-spec = tie.close (tie.spec key-verdict-requires enum-told returns enum-told-2 has-key-requires returns-2 returns-3)

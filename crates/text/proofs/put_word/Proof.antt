@@ -1,4 +1,5 @@
 -- `text::put_word` meets its contract: what `io::decimal` makes is `decimal`, and a byte stands behind it. Assumes nothing.
+use Prim.Native.Nat.{_+_, _≤_}
 use mathlib.Core.Path.{_∙_, subst}
 use Rattle.text.specs.Text.{word, Puts}
 use Rattle.text.proofs.Decimals.{decimal-is, word-length}
@@ -17,26 +18,22 @@ array-share-prefix-digits c = search needs
 slice-aggregate-put-text : tie.Need-slice-aggregate-put-text
 slice-aggregate-put-text c = search needs
 
+-- There are 20 digits at most.
+few : (c : tie.After-decimal) → c .decimal .result ≤ 20
+few c = word-length _ _ 0 (c .before .before .before .fits .n) (c .decimal .ensures .1 .0) .1
+
 put-text-requires : tie.Need-put-text-requires
-put-text-requires c κs =
-    let start = c .before .before .before .before .before in
-    let d = c .before .before .decimal in
-    let l = word-length (d .result) (start .args .n) (start .args .after) (start .fits .n) (d .ensures .1 .0) in
-    omega (arith, d .ensures .0 .1)
+put-text-requires c κs = omega (arith, few (c .before .before), c .before .before .decimal .ensures .0 .1)
+
+-- So there is room for the byte behind them.
+room : (c : tie.After-put-text) → c .put-text .result ≤ c .before .before .before .before .before .before .args .at + 20
+room c = let d = c .before .before .before in omega (arith, few d, d .decimal .ensures .0 .1, c .put-text .ensures .end)
 
 slice-write-out : tie.Need-slice-write-out
-slice-write-out c =
-    let d = c .before .before .before .before .before .decimal in
-    let start = c .before .before .before .before .before .before .before .before in
-    let l = word-length (d .result) (start .args .n) (start .args .after) (start .fits .n) (d .ensures .1 .0) in
-    omega (arith, d .ensures .0 .1, c .before .before .put-text .ensures .end)
+slice-write-out c = omega (arith, room (c .before .before))
 
 add-result : tie.Need-add-result
-add-result c =
-    let d = c .before .before .before .before .before .decimal in
-    let start = c .before .before .before .before .before .before .before .before in
-    let l = word-length (d .result) (start .args .n) (start .args .after) (start .fits .n) (d .ensures .1 .0) in
-    omega (arith, d .ensures .0 .1, c .before .before .put-text .ensures .end)
+add-result c = omega (arith, room (c .before .before))
 
 same-length : tie.Need-same-length
 same-length c = search needs
@@ -45,12 +42,9 @@ returns : tie.Need-returns
 unfolding word
 returns c =
     let d = c .before .before .before .before .before .decimal in
-    let start = c .before .before .before .before .before .before .before .before in
-    let l = word-length (d .result) (start .args .n) (start .args .after) (start .fits .n) (d .ensures .1 .0) in
-    let e = d .ensures .1 .1 ∙ decimal-is (d .result) (start .args .n) (d .ensures .1 .0) in
+    let e = d .ensures .1 .1 ∙ decimal-is (d .result) _ (d .ensures .1 .0) in
     let p = subst (Puts _ _ _ _) e (c .before .before .put-text .ensures) in
-    let q = then-byte (start .args .after) p (omega (arith, d .ensures .0 .1, c .before .before .put-text .ensures .end)) in
-    (q, omega (arith, d .ensures .0 .1, c .before .before .put-text .ensures .end))
+    (then-byte _ p (omega (arith, room (c .before .before))), omega (arith, room (c .before .before)))
 
 pub put-word-spec : {M : Type 1} → statement M
 put-word-spec =

@@ -1,5 +1,5 @@
 -- `answers::records::two` meets its contract. A number below zero is turned to -1 less it, which is its distance from -1. Assumes nothing.
-use Prim.Native.Nat.{ℕ, suc, _-_, _<_}
+use Prim.Native.Nat.{suc, _-_}
 use native.Mathlib.Omega.{arith}
 use mathlib.Core.Bool.{true, false, false≢true}
 use mathlib.Core.Path.{_≡_, refl, sym, ap, _∙_}
@@ -36,47 +36,37 @@ tested e t = ap (λ (x : ℤ). ltZ x (pos 0)) (sym e) ∙ t
 distance : (z : ℤ) → SFits w8 z → SFits w8 (pos (mag z))
 distance z h = sfits-of (h .sfits)
 
+-- Below zero: what the code turns the number to, and what the local then holds.
+below : (c : tie.Then1) → ltZ (c .before .args .z) (pos 0) ≡ true
+below c = tested (held _ (c .before .fits .z)) (c .if1 .taken)
+
+turns : (c : tie.Then1) → let z = c .before .args .z in negsuc 0 -ℤ toZ w8 (ofZ w8 z) ≡ pos (mag z)
+turns c = rw (held _ (c .before .fits .z)) (turned (c .before .args .z) (below c))
+
+holds : (c : tie.Then1) → let z = c .before .args .z in toZ w8 (ofZ w8 (negsuc 0 -ℤ toZ w8 (ofZ w8 z))) ≡ pos (mag z)
+holds c = rw (turns c) (held _ (distance _ (c .before .fits .z)))
+
 sub-result : tie.Need-sub-result
-sub-result c =
-    let z = c .before .args .z in
-    let fits = c .before .fits .z in
-    let neg = tested (held z fits) (c .if1 .taken) in
-    rw (held z fits, turned z neg) (distance z fits)
+sub-result c = rw (turns c) (distance _ (c .before .fits .z))
 
 cast-result : tie.Need-cast-result
-cast-result c =
-    let z = c .before .args .z in
-    let fits = c .before .fits .z in
-    let neg = tested (held z fits) (c .if1 .taken) in
-    rw (held z fits, turned z neg, held (pos (mag z)) (distance z fits)) (tt, omega (arith, fits .sfits))
+cast-result c = rw (holds c) (tt, omega (arith, c .before .fits .z .sfits))
 
 sub-result-2 : tie.Need-sub-result-2
-sub-result-2 c =
-    let z = c .before .args .z in
-    let fits = c .before .fits .z in
-    let neg = tested (held z fits) (c .if1 .taken) in
-    rw (held z fits, turned z neg, held (pos (mag z)) (distance z fits)) (omega (arith, fits .sfits))
+sub-result-2 c = rw (holds c) (omega (arith, c .before .fits .z .sfits))
 
 returns : tie.Need-returns
-returns c =
-    let z = c .before .args .z in
-    let fits = c .before .fits .z in
-    let neg = tested (held z fits) (c .if1 .taken) in
-    rw (held z fits, turned z neg, held (pos (mag z)) (distance z fits)) (sym (low z neg))
+returns c = rw (holds c) (sym (low (c .before .args .z) (below c)))
+
+-- Not below: it is its distance.
+above : (c : tie.Else1) → let z = c .before .args .z in z ≡ pos (mag z)
+above c = high (c .before .args .z) (tested (held _ (c .before .fits .z)) (c .if1 .left))
 
 cast-result-2 : tie.Need-cast-result-2
-cast-result-2 c =
-    let z = c .before .args .z in
-    let fits = c .before .fits .z in
-    let from = high z (tested (held z fits) (c .if1 .left)) in
-    rw (held z fits ∙ from) (tt, omega (arith, fits .sfits))
+cast-result-2 c = rw (held _ (c .before .fits .z) ∙ above c) (tt, omega (arith, c .before .fits .z .sfits))
 
 returns-2 : tie.Need-returns-2
-returns-2 c =
-    let z = c .before .args .z in
-    let fits = c .before .fits .z in
-    let from = high z (tested (held z fits) (c .if1 .left)) in
-    rw (held z fits) (rw from refl)
+returns-2 c = rw (held _ (c .before .fits .z)) (rw (above c) refl)
 
 pub two-spec : {M : Type 1} → statement M
 two-spec = tie.close (tie.spec sub-result cast-result sub-result-2 returns cast-result-2 returns-2)

@@ -1,6 +1,6 @@
 -- `idr_listing::lines::put_why` meets its contract: the tests stand in the order of the numbers. Assumes nothing.
 use native.Mathlib.Omega.{arith}
-use borrow.Author.Tests.{eq-eqb, ne-eqb}
+use borrow.Author.Tests.{ne-eqb}
 use Rattle.idr_listing.specs.Text.{why}
 use borrow.Author.Needs.{needs}
 use Rattle.idr_listing.proofs.lines.put_why.Statement.{statement}
@@ -18,9 +18,8 @@ same-length c = search needs
 returns : tie.Need-returns
 unfolding why
 returns c =
-    let text = c .before .before in
-    let test = text .before .before .before in
-    (rw (eq-eqb _ _ (test .if1 .taken)) (text .put-text .ensures), omega (arith, text .put-text .ensures .end))
+    let p = c .before .before .put-text .ensures in
+    (rw (c .before .before .before .before .before .if1 .taken) p, omega (arith, p .end))
 
 slice-aggregate-put-text-2 : tie.Need-slice-aggregate-put-text-2
 slice-aggregate-put-text-2 c = search needs
@@ -34,9 +33,8 @@ same-length-2 c = search needs
 returns-2 : tie.Need-returns-2
 unfolding why
 returns-2 c =
-    let text = c .before .before in
-    let test = text .before .before .before in
-    (rw (ne-eqb _ _ (test .before .if1 .left), eq-eqb _ _ (test .if2 .taken)) (text .put-text2 .ensures), omega (arith, text .put-text2 .ensures .end))
+    let p = c .before .before .put-text2 .ensures in
+    (rw (c .before .before .before .before .before .if2 .taken) p, omega (arith, p .end))
 
 slice-aggregate-put-text-3 : tie.Need-slice-aggregate-put-text-3
 slice-aggregate-put-text-3 c = search needs
@@ -50,16 +48,8 @@ same-length-3 c = search needs
 returns-3 : tie.Need-returns-3
 unfolding why
 returns-3 c =
-    let text = c .before .before in
-    let test = text .before .before .before in (
-      rw (
-        ne-eqb _ _ (test .before .before .if1 .left),
-        ne-eqb _ _ (test .before .if2 .left),
-        eq-eqb _ _ (test .if3 .taken),
-      )
-          (text .put-text3 .ensures),
-      omega (arith, text .put-text3 .ensures .end),
-    )
+    let p = c .before .before .put-text3 .ensures in
+    (rw (c .before .before .before .before .before .if3 .taken) p, omega (arith, p .end))
 
 slice-aggregate-put-text-4 : tie.Need-slice-aggregate-put-text-4
 slice-aggregate-put-text-4 c = search needs
@@ -73,17 +63,8 @@ same-length-4 c = search needs
 returns-4 : tie.Need-returns-4
 unfolding why
 returns-4 c =
-    let text = c .before .before in
-    let test = text .before .before .before in (
-      rw (
-        ne-eqb _ _ (test .before .before .before .if1 .left),
-        ne-eqb _ _ (test .before .before .if2 .left),
-        ne-eqb _ _ (test .before .if3 .left),
-        eq-eqb _ _ (test .if4 .taken),
-      )
-          (text .put-text4 .ensures),
-      omega (arith, text .put-text4 .ensures .end),
-    )
+    let p = c .before .before .put-text4 .ensures in
+    (rw (c .before .before .before .before .before .if4 .taken) p, omega (arith, p .end))
 
 slice-aggregate-put-text-5 : tie.Need-slice-aggregate-put-text-5
 slice-aggregate-put-text-5 c = search needs
@@ -97,18 +78,8 @@ same-length-5 c = search needs
 returns-5 : tie.Need-returns-5
 unfolding why
 returns-5 c =
-    let text = c .before .before in
-    let test = text .before .before .before in (
-      rw (
-        ne-eqb _ _ (test .before .before .before .before .if1 .left),
-        ne-eqb _ _ (test .before .before .before .if2 .left),
-        ne-eqb _ _ (test .before .before .if3 .left),
-        ne-eqb _ _ (test .before .if4 .left),
-        eq-eqb _ _ (test .if5 .taken),
-      )
-          (text .put-text5 .ensures),
-      omega (arith, text .put-text5 .ensures .end),
-    )
+    let p = c .before .before .put-text5 .ensures in
+    (rw (c .before .before .before .before .before .if5 .taken) p, omega (arith, p .end))
 
 slice-aggregate-put-text-6 : tie.Need-slice-aggregate-put-text-6
 slice-aggregate-put-text-6 c = search needs

@@ -1,10 +1,11 @@
 -- `sfdu::reader::data_part` meets its contract. Assumes nothing.
-use mathlib.Core.Path.{refl, ap, sym, _∙_}
+use Prim.Native.Nat.{_≤_}
+use mathlib.Core.Path.{refl, sym}
 use native.Mathlib.Omega.{arith}
-use Rattle.refusals.specs.Table.{numberOf}
+use lib.ListN.{length}
 use Rattle.octets.specs.Octets.{part}
-use Rattle.sfdu.specs.Read.{wordsOf}
-use Rattle.sfdu.proofs.Accepted.{record-found, words-refused}
+use Rattle.sfdu.specs.Read.{primaryWords}
+use Rattle.sfdu.proofs.Accepted.{Found, record-found, refusal-found}
 use Rattle.sfdu.proofs.Parts.{room, data-start, data-part, no-parts}
 use borrow.Author.Needs.{needs}
 use Rattle.sfdu.proofs.reader.data_part.Statement.{statement}
@@ -19,29 +20,24 @@ enum-known-found c = search needs
 data-value-at-requires : tie.Need-data-value-at-requires
 data-value-at-requires c κs = search needs
 
+-- Where read one answers a record: what is known of it.
+found : (c : tie.After-found) → let g = c .found .given .0 in
+    Found (c .before .before .before .before .args .s .now) (g .0) (g .1 .0) (primaryWords (g .1 .1 .0))
+found c = record-found _ (c .found .given .1) (c .before .before .read-one .ensures)
+
+-- The data start in the record, and the record ends in the slice.
+lies : (c : tie.After-data-value-at) → let n = c .before .before .found .given .0 .1 .0 in
+    (c .data-value-at .result ≤ n) × (n ≤ length (c .before .before .before .before .before .before .args .s .now))
+lies c = rw (c .data-value-at .ensures) (room _ _ _ _ (found (c .before .before)))
+
 sub-result : tie.Need-sub-result
-sub-result c =
-    let s = c .before .before .before .before .before .before .args .s .now in
-    let g = c .before .before .found .given in
-    let f = record-found s (g .1) (c .before .before .before .before .read-one .ensures) in
-    let r = room s _ _ _ f in
-    omega (arith, c .data-value-at .ensures)
+sub-result c = omega (arith, lies c .0)
 
 part-result-start : tie.Need-part-result-start
-part-result-start c =
-    let s = c .before .before .before .before .before .before .args .s .now in
-    let g = c .before .before .found .given in
-    let f = record-found s (g .1) (c .before .before .before .before .read-one .ensures) in
-    let r = room s _ _ _ f in
-    omega (arith, c .data-value-at .ensures)
+part-result-start c = omega (arith, lies c .0)
 
 part-result-end : tie.Need-part-result-end
-part-result-end c =
-    let s = c .before .before .before .before .before .before .args .s .now in
-    let g = c .before .before .found .given in
-    let f = record-found s (g .1) (c .before .before .before .before .read-one .ensures) in
-    let r = room s _ _ _ f in
-    omega (arith, c .data-value-at .ensures)
+part-result-end c = omega (arith, lies c .0, lies c .1)
 
 enum-told : tie.Need-enum-told
 enum-told c = search needs
@@ -58,19 +54,13 @@ part-result-end-2 c = search needs
 returns : tie.Need-returns
 unfolding part
 returns c =
-    let told = c .before .before .before in
-    let read = told .before .before in
-    let start = read .before .before in
-    let s = start .args .s .now in
-    let g = told .found .given in
-    let f = record-found s (g .1) (read .read-one .ensures) in
-    (rw (data-part s _ _ _ f, c .before .data-value-at .ensures), refl, omega (arith, data-start s _ _ _ f, c .before .data-value-at .ensures))
+    let f = found (c .before .before .before) in
+    let at = c .before .data-value-at .ensures in
+    (rw (data-part _ _ _ _ f, at), refl, omega (arith, data-start _ _ _ _ f, at))
 
 returns-2 : tie.Need-returns-2
 returns-2 c =
-    let s = c .before .before .before .before .before .args .s .now in
-    let g = c .before .enum-told .given in
-    let e = no-parts s (words-refused s (numberOf (g .0 .0 .refusal)) (g .0 .0 .at) (sym (c .before .before .before .read-one .ensures) ∙ ap wordsOf (g .1))) in
+    let e = no-parts _ (refusal-found _ (c .before .enum-told .given .1) (c .before .before .before .read-one .ensures)) in
     (sym (e .no-data), refl, omega (arith, e .data-at))
 
 pub data-part-spec : {M : Type 1} → statement M

@@ -1,17 +1,13 @@
 -- `sfdu::reader::read_length` meets its contract. Assumes nothing.
 use Prim.Native.Nat.{_+_}
-use mathlib.Core.Bool.{true, false}
 use mathlib.Core.Path.{_≡_}
 use native.Mathlib.Omega.{arith}
-use borrow.Author.Tests.{lt-ltb, le-ltb}
-use lib.Dec.{ltb}
-use lib.ListN.{length}
 use Rattle.refusals.specs.Judge.{judge}
 use Rattle.octets.proofs.Laws.{failed, passed}
 use Rattle.sfdu.specs.Nesting.{labelSize}
-use Rattle.sfdu.specs.Read.{recordLength}
+use Rattle.sfdu.specs.Read.{lengthInRange}
 use Rattle.sfdu.proofs.Placed.{placed}
-use Rattle.sfdu.proofs.Accepted.{in-range, say-range, record-length}
+use Rattle.sfdu.proofs.Lengths.{say-range, Ranged, ranged}
 use borrow.Author.Needs.{needs}
 use Rattle.sfdu.proofs.reader.read_length.Statement.{statement}
 use Rattle.sfdu.proofs.reader.read_length.Tie as tie
@@ -25,63 +21,35 @@ length-in-range-requires c κs = search needs
 refused-requires : tie.Need-refused-requires
 refused-requires c κs = search needs
 
+-- What the test of the length says.
+said : (c : tie.After-length-in-range) → let a = c .before .before .before .args in c .length-in-range .result ≡ lengthInRange (a .kind) (a .s .now)
+said c = say-range _ _ _ (c .before .label-length .ensures) (c .length-in-range .ensures)
+
 returns : tie.Need-returns
 unfolding judge
-returns c =
-    let tested = c .before in
-    let judged = tested .before in
-    let read = judged .before in
-    let g = read .before .before .args in
-    let says = say-range (g .kind) (g .s .now) _ (read .label-length .ensures) (judged .length-in-range .ensures) in
-    rw (failed says (tested .if1 .taken)) (c .refused .ensures)
+returns c = rw (failed (said (c .before .before)) (c .before .if1 .taken)) (c .refused .ensures)
+
+-- Past it the length is in the kind's range.
+in-range : (c : tie.Else1) → let a = c .before .before .before .before .args in
+    Ranged (a .kind) (a .s .now) (labelSize + c .before .before .label-length .result)
+in-range c = ranged _ _ _ (c .before .before .label-length .ensures) (passed (said (c .before)) (c .if1 .left))
 
 add-size : tie.Need-add-size
-add-size c =
-    let judged = c .before in
-    let n = judged .before .label-length .ensures in
-    let g = judged .before .before .before .args in
-    let k = placed (g .kind) in
-    let r = in-range (g .kind) (g .s .now) (passed (say-range (g .kind) (g .s .now) _ n (judged .length-in-range .ensures)) (c .if1 .left)) in
-    omega (arith, n)
+add-size c = let p = placed (c .before .before .before .before .args .kind) in omega (arith, in-range c .most)
 
 refused-requires-2 : tie.Need-refused-requires-2
 refused-requires-2 c κs = search needs
 
 returns-2 : tie.Need-returns-2
 unfolding judge
-returns-2 c =
-    let ranged = c .before .before in
-    let judged = ranged .before in
-    let read = judged .before in
-    let g = read .before .before .args in
-    let s = g .s .now in
-    let n : labelSize + read .label-length .result ≡ recordLength s = record-length s _ (read .label-length .ensures) in
-    let cut : ltb (length s) (recordLength s) ≡ true = lt-ltb (length s) (recordLength s) (omega arith) in
-    let says = say-range (g .kind) s _ (read .label-length .ensures) (judged .length-in-range .ensures) in
-    rw (passed says (ranged .if1 .left), cut) (c .refused2 .ensures)
+returns-2 c = let r = in-range (c .before .before) in rw (r .in-its-range, r .cut (c .before .if2 .taken)) (c .refused2 .ensures)
 
 read-blocks-requires : tie.Need-read-blocks-requires
-read-blocks-requires c κs =
-    let ranged = c .before in
-    let judged = ranged .before in
-    let n = judged .before .label-length .ensures in
-    let g = judged .before .before .before .args in
-    let k = placed (g .kind) in
-    let r = in-range (g .kind) (g .s .now) (passed (say-range (g .kind) (g .s .now) _ n (judged .length-in-range .ensures)) (ranged .if1 .left)) in
-    (record-length _ _ n, omega (arith, n), omega arith)
+read-blocks-requires c κs = let r = in-range (c .before) in (r .size-is, r .least, c .if2 .left)
 
 returns-3 : tie.Need-returns-3
 unfolding judge
-returns-3 c =
-    let ranged = c .before .before in
-    let judged = ranged .before in
-    let read = judged .before in
-    let g = read .before .before .args in
-    let s = g .s .now in
-    let n : labelSize + read .label-length .result ≡ recordLength s = record-length s _ (read .label-length .ensures) in
-    let whole : ltb (length s) (recordLength s) ≡ false = le-ltb (length s) (recordLength s) (omega arith) in
-    let says = say-range (g .kind) s _ (read .label-length .ensures) (judged .length-in-range .ensures) in
-    rw (passed says (ranged .if1 .left), whole) (c .read-blocks .ensures)
+returns-3 c = let r = in-range (c .before .before) in rw (r .in-its-range, r .uncut (c .before .if2 .left)) (c .read-blocks .ensures)
 
 pub read-length-spec : {M : Type 1} → statement M
 read-length-spec =

@@ -1,17 +1,13 @@
 -- `sfdu::whole::size_as` meets its contract. Assumes nothing.
 use Prim.Native.Nat.{_+_}
-use mathlib.Core.Bool.{true, false}
 use mathlib.Core.Path.{_≡_, sym, _∙_}
 use native.Mathlib.Omega.{arith}
-use borrow.Author.Tests.{lt-ltb, le-ltb}
-use lib.Dec.{ltb}
-use lib.ListN.{length}
 use Rattle.refusals.specs.Judge.{judge}
 use Rattle.octets.proofs.Laws.{failed, passed}
 use Rattle.sfdu.specs.Nesting.{labelSize}
-use Rattle.sfdu.specs.Read.{recordLength}
+use Rattle.sfdu.specs.Read.{lengthInRange}
 use Rattle.sfdu.proofs.Placed.{placed}
-use Rattle.sfdu.proofs.Accepted.{in-range, say-range, record-length}
+use Rattle.sfdu.proofs.Lengths.{say-range, Ranged, ranged}
 use borrow.Author.Needs.{needs}
 use Rattle.sfdu.proofs.whole.size_as.Statement.{statement}
 use Rattle.sfdu.proofs.whole.size_as.Tie as tie
@@ -22,67 +18,42 @@ label-length-requires c κs = search needs
 length-in-range-requires : tie.Need-length-in-range-requires
 length-in-range-requires c κs = search needs
 
+-- What the test of the length says.
+said : (c : tie.After-length-in-range) → let a = c .before .before .before .args in c .length-in-range .result ≡ lengthInRange (a .kind) (a .s .now)
+said c = say-range _ _ _ (c .before .label-length .ensures) (c .length-in-range .ensures)
+
 returns : tie.Need-returns
 unfolding judge
-returns c =
-    let k = c .before .before .before .before in
-    rw (failed (say-range (k .args .kind) (k .args .s .now) _ (c .before .before .label-length .ensures) (c .before .length-in-range .ensures)) (c .if1 .taken))
+returns c = rw (failed (said (c .before)) (c .if1 .taken))
+
+-- Past it the length is in the kind's range.
+in-range : (c : tie.Else1) → let a = c .before .before .before .before .args in
+    Ranged (a .kind) (a .s .now) (labelSize + c .before .before .label-length .result)
+in-range c = ranged _ _ _ (c .before .before .label-length .ensures) (passed (said (c .before)) (c .if1 .left))
 
 add-size : tie.Need-add-size
-add-size c =
-    let k = c .before .before .before .before in
-    let n = c .before .before .label-length .ensures in
-    let p = placed (k .args .kind) in
-    let says = say-range (k .args .kind) (k .args .s .now) _ n (c .before .length-in-range .ensures) in
-    let r = in-range (k .args .kind) (k .args .s .now) (passed says (c .if1 .left)) in
-    omega (arith, n)
+add-size c = let p = placed (c .before .before .before .before .args .kind) in omega (arith, in-range c .most)
 
 returns-2 : tie.Need-returns-2
 unfolding judge
-returns-2 c =
-    let k = c .before .before .before .before .before in
-    let s = k .args .s .now in
-    let n = c .before .before .before .label-length .ensures in
-    let size : labelSize + c .before .before .before .label-length .result ≡ recordLength s = record-length s _ n in
-    let cut : ltb (length s) (recordLength s) ≡ true = lt-ltb (length s) (recordLength s) (omega arith) in
-    rw (passed (say-range (k .args .kind) s _ n (c .before .before .length-in-range .ensures)) (c .before .if1 .left), cut)
+returns-2 c = let r = in-range (c .before) in rw (r .in-its-range, r .cut (c .if2 .taken))
 
 has-blocks-requires : tie.Need-has-blocks-requires
-has-blocks-requires c κs =
-    let k = c .before .before .before .before .before in
-    let s = k .args .s .now in
-    let n = c .before .before .before .label-length .ensures in
-    let p = placed (k .args .kind) in
-    let r = in-range (k .args .kind) s (passed (say-range (k .args .kind) s _ n (c .before .before .length-in-range .ensures)) (c .before .if1 .left)) in
-    (record-length s _ n, omega (arith, n), omega (arith, n), omega arith)
+has-blocks-requires c κs = let r = in-range (c .before) in (r .size-is, r .least, r .most, c .if2 .left)
 
 returns-3 : tie.Need-returns-3
 unfolding judge
 returns-3 c =
-    let k = c .before .before .before .before .before .before .before in
-    let s = k .args .s .now in
-    let n = c .before .before .before .before .before .label-length .ensures in
-    let size : labelSize + c .before .before .before .before .before .label-length .result ≡ recordLength s = record-length s _ n in
-    let uncut : ltb (length s) (recordLength s) ≡ false = le-ltb (length s) (recordLength s) (omega arith) in
-    rw (
-      passed (say-range (k .args .kind) s _ n (c .before .before .before .before .length-in-range .ensures)) (c .before .before .before .if1 .left),
-      uncut,
-      sym (c .before .has-blocks .ensures) ∙ c .if3 .taken,
-    ) size
+    let whole = c .before .before in
+    let r = in-range (whole .before) in
+    rw (r .in-its-range, r .uncut (whole .if2 .left), sym (c .before .has-blocks .ensures) ∙ c .if3 .taken) (r .size-is)
 
 returns-4 : tie.Need-returns-4
 unfolding judge
 returns-4 c =
-    let k = c .before .before .before .before .before .before .before in
-    let s = k .args .s .now in
-    let n = c .before .before .before .before .before .label-length .ensures in
-    let size : labelSize + c .before .before .before .before .before .label-length .result ≡ recordLength s = record-length s _ n in
-    let uncut : ltb (length s) (recordLength s) ≡ false = le-ltb (length s) (recordLength s) (omega arith) in
-    rw (
-      passed (say-range (k .args .kind) s _ n (c .before .before .before .before .length-in-range .ensures)) (c .before .before .before .if1 .left),
-      uncut,
-      sym (c .before .has-blocks .ensures) ∙ c .if3 .left,
-    )
+    let whole = c .before .before in
+    let r = in-range (whole .before) in
+    rw (r .in-its-range, r .uncut (whole .if2 .left), sym (c .before .has-blocks .ensures) ∙ c .if3 .left)
 
 pub size-as-spec : {M : Type 1} → statement M
 size-as-spec =

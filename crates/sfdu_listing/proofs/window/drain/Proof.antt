@@ -2,15 +2,15 @@
 -- the stream goes on. The measure is what is left of the window. Assumes nothing.
 use borrow.Author.Needs.{needs}
 use native.Mathlib.Omega.{arith}
-use Prim.Native.Nat.{_+_, _-_}
+use Prim.Native.Nat.{_-_}
 use mathlib.Core.Path.{sym, ap, _∙_}
 use lib.ListN.{length}
 use Rattle.sfdu_listing.specs.inner.Window.{wordsOf}
 use Rattle.sfdu_listing.proofs.Draining.{
   part-length,
+  RecordThere,
   record-there,
   stop-there,
-  record-bounds,
   Round,
   round-begins,
   line-room,
@@ -52,61 +52,33 @@ judge-requires c κs =
 enum-known-found : tie.Need-enum-known-found Inv-loop μ-loop
 enum-known-found c = search needs
 
+-- Where a record stands at the place: what is known of it.
+record-known : (c : tie.After-found Inv-loop μ-loop) → let l = c .before .before .before .before in
+    let g = c .found .given .0 in
+    RecordThere (l .before .before .before .args .w .now) (l .loop .at) (g .0) (g .1 .0) (g .1 .1 .0)
+record-known c =
+    let g = c .found .given in
+    record-there _ _ _ _ (g .0 .0) (g .0 .1 .0) (g .0 .1 .1 .0) (sym (ap wordsOf (g .1)) ∙ c .before .before .judge .ensures)
+
 put-line-requires : tie.Need-put-line-requires Inv-loop μ-loop
 put-line-requires c κs =
-    let at-judge = c .before .before .before .before in
-    let at-loop = at-judge .before .before in
-    let start = at-loop .before .before .before in
-    let k = at-loop .loop in
-    let a = start .args in
-    let g = c .before .before .found .given in
-    let f = record-there (a .place + k .at) (a .w .now) (k .at) (a .last) (g .0 .0) (g .0 .1 .0) (g .0 .1 .1 .0)
-    (sym (ap wordsOf (g .1)) ∙ at-judge .judge .ensures) in
-    let b = record-bounds (a .w .now) (k .at) _ _ _ f in
-    (line-room (a .w .now) (a .place) (a .last) (a .out .now) (a .start) (k .out) (k .at) (k .end) (k .inv) _ _ _ f, b .1)
+    let found = c .before .before in
+    let f = record-known found in
+    (line-room _ _ _ _ _ _ _ _ (found .before .before .before .before .loop .inv) _ _ _ f, f .most)
 
 add-at : tie.Need-add-at Inv-loop μ-loop
 add-at c =
-    let at-found = c .before .before .before .before .before in
-    let at-judge = at-found .before .before in
-    let at-loop = at-judge .before .before in
-    let start = at-loop .before .before .before in
-    let k = at-loop .loop in
-    let a = start .args in
-    let g = at-found .found .given in
-    let f = record-there (a .place + k .at) (a .w .now) (k .at) (a .last) (g .0 .0) (g .0 .1 .0) (g .0 .1 .1 .0)
-    (sym (ap wordsOf (g .1)) ∙ at-judge .judge .ensures) in
-    let b = record-bounds (a .w .now) (k .at) _ _ _ f in
-    omega (arith, k .inv .fits)
+    let found = c .before .before .before .before .before in
+    omega (arith, record-known found .within, found .before .before .before .before .loop .inv .fits)
 
 loop-less : tie.Need-loop-less Inv-loop μ-loop
-loop-less c =
-    let at-found = c .before .before .before .before .before in
-    let at-judge = at-found .before .before in
-    let at-loop = at-judge .before .before in
-    let start = at-loop .before .before .before in
-    let k = at-loop .loop in
-    let a = start .args in
-    let g = at-found .found .given in
-    let f = record-there (a .place + k .at) (a .w .now) (k .at) (a .last) (g .0 .0) (g .0 .1 .0) (g .0 .1 .1 .0)
-    (sym (ap wordsOf (g .1)) ∙ at-judge .judge .ensures) in
-    let b = record-bounds (a .w .now) (k .at) _ _ _ f in
-    omega arith
+loop-less c = let f = record-known (c .before .before .before .before .before) in omega (arith, f .least, f .within)
 
 loop-again : tie.Need-loop-again Inv-loop μ-loop
 loop-again c =
-    let at-found = c .before .before .before .before .before in
-    let at-judge = at-found .before .before in
-    let at-loop = at-judge .before .before in
-    let start = at-loop .before .before .before in
-    let k = at-loop .loop in
-    let a = start .args in
-    let g = at-found .found .given in
-    let f = record-there (a .place + k .at) (a .w .now) (k .at) (a .last) (g .0 .0) (g .0 .1 .0) (g .0 .1 .1 .0)
-    (sym (ap wordsOf (g .1)) ∙ at-judge .judge .ensures) in
-    let b = record-bounds (a .w .now) (k .at) _ _ _ f in
+    let found = c .before .before .before .before .before in
     let p = c .before .before .put-line .ensures in
-    round-goes (a .w .now) (a .place) (a .last) (a .out .now) (a .start) (k .out) (k .at) (k .end) (k .inv) _ _ _ _ _ f (p .0) (p .1) (search needs)
+    round-goes _ _ _ _ _ _ _ _ (found .before .before .before .before .loop .inv) _ _ _ _ _ (record-known found) (p .0) (p .1) (search needs)
 
 enum-told : tie.Need-enum-told Inv-loop μ-loop
 enum-told c = search needs
@@ -116,37 +88,27 @@ same-length c = c .before .before .before .before .loop .inv .same
 
 returns : tie.Need-returns Inv-loop μ-loop
 returns c =
-    let at-loop = c .before .before .before .before in
-    let start = at-loop .before .before .before in
-    let k = at-loop .loop in
-    let a = start .args in
-    round-waits (a .w .now) (a .place) (a .last) (a .out .now) (a .start) (k .out) (k .at) (k .end) (k .inv) (sym (ap wordsOf (c .enum-told .given .1))
-    ∙ c .before .before .judge .ensures)
+    let judged = c .before .before in
+    round-waits _ _ _ _ _ _ _ _ (judged .before .before .loop .inv) (sym (ap wordsOf (c .enum-told .given .1)) ∙ judged .judge .ensures)
 
 enum-known-found-2 : tie.Need-enum-known-found-2 Inv-loop μ-loop
 enum-known-found-2 c = search needs
 
 put-last-requires : tie.Need-put-last-requires Inv-loop μ-loop
-put-last-requires c κs =
-    let k = c .before .before .before .before .before .before .loop in
-    let a = c .before .before .before .before .before .before .before .before .before .args in
-    last-room (a .w .now) (a .place) (a .last) (a .out .now) (a .start) (k .out) (k .at) (k .end) (k .inv)
+put-last-requires c κs = last-room _ _ _ _ _ _ _ _ (c .before .before .before .before .before .before .loop .inv)
 
 same-length-2 : tie.Need-same-length-2 Inv-loop μ-loop
 same-length-2 c = search needs
 
 returns-2 : tie.Need-returns-2 Inv-loop μ-loop
 returns-2 c =
-    let at-found2 = c .before .before .before .before .before in
-    let at-judge = at-found2 .before .before in
-    let at-loop = at-judge .before .before in
-    let start = at-loop .before .before .before in
-    let k = at-loop .loop in
-    let a = start .args in
-    let g = at-found2 .found2 .given in
-    let f = stop-there (a .place + k .at) (a .w .now) (k .at) (a .last) (g .0 .0) (g .0 .1 .0) (sym (ap wordsOf (g .1)) ∙ at-judge .judge .ensures) in
+    let found = c .before .before .before .before .before in
+    let judged = found .before .before in
+    let l = judged .before .before in
+    let g = found .found2 .given in
+    let f = stop-there _ (l .before .before .before .args .w .now) (l .loop .at) _ (g .0 .0) (g .0 .1 .0) (sym (ap wordsOf (g .1)) ∙ judged .judge .ensures) in
     let p = c .before .before .put-last .ensures in
-    round-stops (a .w .now) (a .place) (a .last) (a .out .now) (a .start) (k .out) (k .at) (k .end) (k .inv) _ _ _ _ f (p .0) (p .1) (search needs)
+    round-stops _ _ _ _ _ _ _ _ (l .loop .inv) _ _ _ _ f (p .0) (p .1) (search needs)
 
 pub drain-spec : {M : Type 1} → statement M
 drain-spec =

@@ -3,7 +3,8 @@
 use Prim.Native.Nat.{_-_}
 use native.Mathlib.Omega.{arith}
 use borrow.Author.Needs.{needs, scaled-fits}
-use Rattle.sfdu_stream.proofs.Columns.{Round, begins, stores, same, finished}
+use Rattle.sfdu_stream.specs.Listing.{Columns}
+use Rattle.sfdu_stream.proofs.Columns.{Round, begins, Stored, stores, same, finished}
 use Rattle.sfdu_stream.proofs.listing.list_numbers.Statement.{statement}
 use Rattle.sfdu_stream.proofs.listing.list_numbers.Tie as tie
 
@@ -30,72 +31,49 @@ loop-holds c = begins _ _ _ (rw (c .least3 .ensures, c .before .least2 .ensures,
 turn-at-requires : tie.Need-turn-at-requires Inv-loop μ-loop
 turn-at-requires c κs = search needs
 
+abbrev start : tie.Then1 Inv-loop μ-loop → tie.Start Inv-loop μ-loop
+start c = c .before .before .before .before .before .before .before .before .before .before .before
+
+-- Where the turn lists a record: there is room for it in each list, and with its numbers stored the next round holds.
+listed : (c : tie.Then1 Inv-loop μ-loop) → let l = c .before .before in
+    let a = start c .args in
+    let old : Columns = record { places = a .places .now; lengths = a .lengths .now; kinds = a .kinds .now; numbers = a .numbers .now } in
+    let new : Columns = record { places = l .loop .places; lengths = l .loop .lengths; kinds = l .loop .kinds; numbers = l .loop .numbers } in
+    Stored (a .s .now) old (l .before .least3 .result) (l .loop .i) new (c .before .turn-at .result)
+listed c = stores _ _ _ _ _ _ (c .before .before .loop .inv) _ (c .before .turn-at .ensures) (c .if1 .taken)
+
 mul-places : tie.Need-mul-places Inv-loop μ-loop
-mul-places c =
-    let d = c .before .before in
-    let x = stores _ _ _ _ _ _ (d .before .loop .inv) (d .turn-at .result) (d .turn-at .ensures) (c .before .if1 .taken) in
-    scaled-fits _ _ 8 (x .fits .places) (c .before .before .before .before .before .before .before .before .before .before .before .before .good .1 .0 .1)
+mul-places c = scaled-fits _ _ 8 (listed (c .before) .fits .places) (start (c .before) .good .1 .0 .1)
 
 slice-write-places : tie.Need-slice-write-places Inv-loop μ-loop
-slice-write-places c =
-    let d = c .before .before in
-    let x = stores _ _ _ _ _ _ (d .before .loop .inv) (d .turn-at .result) (d .turn-at .ensures) (c .before .if1 .taken) in
-    x .within .places
+slice-write-places c = listed (c .before) .within .places
 
 mul-lengths : tie.Need-mul-lengths Inv-loop μ-loop
-mul-lengths c =
-    let d = c .before .before in
-    let x = stores _ _ _ _ _ _ (d .before .loop .inv) (d .turn-at .result) (d .turn-at .ensures) (c .before .if1 .taken) in
-    scaled-fits _ _ 8 (x .fits .lengths) (c .before .before .before .before .before .before .before .before .before .before .before .before .good .1 .1 .0 .1)
+mul-lengths c = scaled-fits _ _ 8 (listed (c .before) .fits .lengths) (start (c .before) .good .1 .1 .0 .1)
 
 slice-write-lengths : tie.Need-slice-write-lengths Inv-loop μ-loop
-slice-write-lengths c =
-    let d = c .before .before in
-    let x = stores _ _ _ _ _ _ (d .before .loop .inv) (d .turn-at .result) (d .turn-at .ensures) (c .before .if1 .taken) in
-    x .within .lengths
+slice-write-lengths c = listed (c .before) .within .lengths
 
 mul-kinds : tie.Need-mul-kinds Inv-loop μ-loop
-mul-kinds c =
-    let d = c .before .before in
-    let x = stores _ _ _ _ _ _ (d .before .loop .inv) (d .turn-at .result) (d .turn-at .ensures) (c .before .if1 .taken) in
-    scaled-fits _ _ 4 (x .fits .kinds) (c .before .before .before .before .before .before .before .before .before .before .before .before .good .1 .1 .1 .0 .1)
+mul-kinds c = scaled-fits _ _ 4 (listed (c .before) .fits .kinds) (start (c .before) .good .1 .1 .1 .0 .1)
 
 slice-write-kinds : tie.Need-slice-write-kinds Inv-loop μ-loop
-slice-write-kinds c =
-    let d = c .before .before in
-    let x = stores _ _ _ _ _ _ (d .before .loop .inv) (d .turn-at .result) (d .turn-at .ensures) (c .before .if1 .taken) in
-    x .within .kinds
+slice-write-kinds c = listed (c .before) .within .kinds
 
 mul-numbers : tie.Need-mul-numbers Inv-loop μ-loop
-mul-numbers c =
-    let start = c .before .before .before .before .before .before .before .before .before .before .before .before in
-    let d = c .before .before in
-    let x = stores _ _ _ _ _ _ (d .before .loop .inv) (d .turn-at .result) (d .turn-at .ensures) (c .before .if1 .taken) in
-    scaled-fits _ _ 4 (x .fits .numbers) (start .good .1 .1 .1 .1 .0 .1)
+mul-numbers c = scaled-fits _ _ 4 (listed (c .before) .fits .numbers) (start (c .before) .good .1 .1 .1 .1 .0 .1)
 
 slice-write-numbers : tie.Need-slice-write-numbers Inv-loop μ-loop
-slice-write-numbers c =
-    let d = c .before .before in
-    let x = stores _ _ _ _ _ _ (d .before .loop .inv) (d .turn-at .result) (d .turn-at .ensures) (c .before .if1 .taken) in
-    x .within .numbers
+slice-write-numbers c = listed (c .before) .within .numbers
 
 add-i : tie.Need-add-i Inv-loop μ-loop
-add-i c =
-    let d = c .before .before in
-    let x = stores _ _ _ _ _ _ (d .before .loop .inv) (d .turn-at .result) (d .turn-at .ensures) (c .before .if1 .taken) in
-    omega (arith, x .less)
+add-i c = omega (arith, listed (c .before) .less)
 
 loop-less : tie.Need-loop-less Inv-loop μ-loop
-loop-less c =
-    let d = c .before .before in
-    let x = stores _ _ _ _ _ _ (d .before .loop .inv) (d .turn-at .result) (d .turn-at .ensures) (c .before .if1 .taken) in
-    omega (arith, x .less)
+loop-less c = omega (arith, listed (c .before) .less)
 
 loop-again : tie.Need-loop-again Inv-loop μ-loop
-loop-again c =
-    let d = c .before .before in
-    let x = stores _ _ _ _ _ _ (d .before .loop .inv) (d .turn-at .result) (d .turn-at .ensures) (c .before .if1 .taken) in
-    x .then
+loop-again c = listed (c .before) .then
 
 same-length : tie.Need-same-length Inv-loop μ-loop
 same-length c = same (c .before .before .before .loop .inv) .places

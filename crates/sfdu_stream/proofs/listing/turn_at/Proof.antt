@@ -4,7 +4,7 @@ use mathlib.Core.List.{List, _∷_}
 use mathlib.Core.Path.{sym, ap, _∙_}
 use Rattle.sfdu.specs.Read.{primaryWords}
 use Rattle.sfdu_stream.specs.Walk.{stepWords, wordsOf}
-use Rattle.sfdu_stream.proofs.Places.{found-there, done-there, refused-there, offset-there}
+use Rattle.sfdu_stream.proofs.Places.{StepFound, found-there, done-there, refused-there, offset-there}
 use Rattle.sfdu_stream.proofs.Underway.{turn-lists, turn-full, turn-none}
 use borrow.Author.Needs.{needs}
 use Rattle.sfdu_stream.proofs.listing.turn_at.Statement.{statement}
@@ -22,23 +22,21 @@ stopped-requires c κs = search needs
 no-turn-requires : tie.Need-no-turn-requires
 no-turn-requires c κs = search needs
 
+-- Where the step finds a record: what is known of it.
+found : (c : tie.After-found) → let a = c .before .before .before .before .args in
+    let g = c .found .given .0 in
+    StepFound (a .s .now) (a .at) (g .0) (g .1 .0) (g .1 .1 .1 .0 .at)
+found c =
+    let g = c .found .given in
+    found-there _ _ (g .0 .0) (g .0 .1 .0) (primaryWords (g .0 .1 .1 .0)) (g .0 .1 .1 .1 .0 .at) (sym (ap stepWords (g .1)) ∙ c .before .before .step .ensures)
+
 returns : tie.Need-returns
 returns c =
-    let d = c .before .before .before .before in
-    let a = d .before .before .before .before .args in
-    let g = d .found .given .0 in
-    let f = found-there (a .s .now) (a .at) (g .0) (g .1 .0) (primaryWords (g .1 .1 .0)) (g .1 .1 .1 .0 .at) (sym (ap stepWords (d .found .given .1))
-    ∙ d .before .before .step .ensures) in
-    rw (c .no-turn .ensures) (turn-full (a .s .now) (a .at) (a .count) (a .size) _ (f .there .is-whole) (c .before .before .if1 .taken)
-    (ap wordsOf (c .before .stopped .ensures)))
+    let f = found (c .before .before .before .before) in
+    rw (c .no-turn .ensures) (turn-full _ _ _ _ _ (f .there .is-whole) (c .before .before .if1 .taken) (ap wordsOf (c .before .stopped .ensures)))
 
 entry-at-requires : tie.Need-entry-at-requires
-entry-at-requires c κs =
-    let d = c .before .before in
-    let a = d .before .before .before .before .args in
-    let g = d .found .given .0 in
-    found-there (a .s .now) (a .at) (g .0) (g .1 .0) (primaryWords (g .1 .1 .0)) (g .1 .1 .1 .0 .at) (sym (ap stepWords (d .found .given .1))
-    ∙ d .before .before .step .ensures) .there
+entry-at-requires c κs = found (c .before .before) .there
 
 stopped-requires-2 : tie.Need-stopped-requires-2
 stopped-requires-2 c κs = search needs
@@ -69,12 +67,8 @@ no-turn-requires-3 c κs = search needs
 
 returns-2 : tie.Need-returns-2
 returns-2 c =
-    let d = c .before .before .before .before in
-    let a = d .before .before .before .before .args in
-    let g = d .found .given .0 in
-    let f = found-there (a .s .now) (a .at) (g .0) (g .1 .0) (primaryWords (g .1 .1 .0)) (g .1 .1 .1 .0 .at) (sym (ap stepWords (d .found .given .1))
-    ∙ d .before .before .step .ensures) in
-    turn-lists (a .s .now) (a .at) (a .count) (a .size) _ _ _ (f .there .is-whole) (c .before .before .if1 .left) (c .before .entry-at .ensures) (f .moved)
+    let f = found (c .before .before .before .before) in
+    turn-lists _ _ _ _ _ _ _ (f .there .is-whole) (c .before .before .if1 .left) (c .before .entry-at .ensures) (f .moved)
 
 returns-3 : tie.Need-returns-3
 returns-3 c =

@@ -1,12 +1,12 @@
 -- `sfdu_stream::walking::walk` meets its contract. Assumes nothing.
-use Prim.Native.Nat.{ℕ, _-_}
+use Prim.Native.Nat.{_-_}
 use native.Mathlib.Omega.{arith}
-use mathlib.Core.List.{List, _∷_}
-use mathlib.Core.Path.{sym, ap, _∙_}
+use mathlib.Core.Bool.{false}
+use mathlib.Core.Path.{_≡_, sym, ap, _∙_}
 use lib.ListN.{length}
 use borrow.Author.Needs.{needs}
-use Rattle.sfdu_stream.specs.Walk.{wordsOf}
-use Rattle.sfdu_stream.proofs.Places.{whole-record, size-whole, size-none}
+use Rattle.sfdu_stream.specs.Walk.{wordsOf, whole}
+use Rattle.sfdu_stream.proofs.Places.{OnePast, size-whole, size-none}
 use Rattle.sfdu_stream.proofs.Passed.{Passed, begins, passes, finished}
 use Rattle.sfdu_stream.proofs.walking.walk.Statement.{statement}
 use Rattle.sfdu_stream.proofs.walking.walk.Tie as tie
@@ -32,9 +32,12 @@ part-whole-size-end c = search needs
 whole-size-requires : tie.Need-whole-size-requires Inv-loop μ-loop
 whole-size-requires c κs = search needs
 
+-- Where no whole record stands at the place.
+none-there : (c : tie.Then1 Inv-loop μ-loop) → whole (c .before .before .before .before .before .args .s .now) (c .before .before .before .loop .at) ≡ false
+none-there c = size-none _ _ _ (c .before .whole-size .ensures) (c .if1 .taken)
+
 stop-at-requires : tie.Need-stop-at-requires Inv-loop μ-loop
-stop-at-requires c κs =
-    size-none (c .before .before .before .before .before .args .s .now) (c .before .before .before .loop .at) _ (c .before .whole-size .ensures) (c .if1 .taken)
+stop-at-requires c κs = none-there c
 
 stopped-requires : tie.Need-stopped-requires Inv-loop μ-loop
 stopped-requires c κs = search needs
@@ -42,40 +45,24 @@ stopped-requires c κs = search needs
 returns : tie.Need-returns Inv-loop μ-loop
 returns c =
     let u = c .before .before .before .before .before .loop in
-    let s = c .before .before .before .before .before .before .before .args .s .now in
-    let none = size-none s (u .at) _ (c .before .before .before .whole-size .ensures) (c .before .before .if1 .taken) in
-    ap wordsOf (c .stopped .ensures) ∙ finished s (u .at) (u .count) (u .inv) _ none (sym (c .before .stop-at .ensures))
+    ap wordsOf (c .stopped .ensures) ∙ finished _ (u .at) (u .count) (u .inv) _ (none-there (c .before .before)) (sym (c .before .stop-at .ensures))
+
+-- Where one does: the next place is the one past it.
+goes-on : (c : tie.Else1 Inv-loop μ-loop) → let s = c .before .before .before .before .before .args .s .now in
+    OnePast s (c .before .before .before .loop .at) (c .before .whole-size .result)
+goes-on c = size-whole _ _ _ (c .before .whole-size .ensures) (c .if1 .left)
 
 add-at : tie.Need-add-at Inv-loop μ-loop
-add-at c =
-    let u = c .before .before .before .loop in
-    let s = c .before .before .before .before .before .args .s .now in
-    let f = size-whole s (u .at) _ (c .before .whole-size .ensures) (c .if1 .left) in
-    let w = whole-record s (u .at) (f .0) in
-    omega (arith, f .1, w .within)
+add-at c = omega (arith, goes-on c .within)
 
 add-count : tie.Need-add-count Inv-loop μ-loop
-add-count c =
-    let u = c .before .before .before .loop in
-    let s = c .before .before .before .before .before .args .s .now in
-    let f = size-whole s (u .at) _ (c .before .whole-size .ensures) (c .if1 .left) in
-    let w = whole-record s (u .at) (f .0) in
-    omega (arith, u .inv .few, w .further, w .within)
+add-count c = omega (arith, c .before .before .before .loop .inv .few, goes-on c .further, goes-on c .within)
 
 loop-less : tie.Need-loop-less Inv-loop μ-loop
-loop-less c =
-    let u = c .before .before .before .loop in
-    let s = c .before .before .before .before .before .args .s .now in
-    let f = size-whole s (u .at) _ (c .before .whole-size .ensures) (c .if1 .left) in
-    let w = whole-record s (u .at) (f .0) in
-    omega (arith, f .1)
+loop-less c = omega (arith, goes-on c .further, goes-on c .within)
 
 loop-again : tie.Need-loop-again Inv-loop μ-loop
-loop-again c =
-    let u = c .before .before .before .loop in
-    let s = c .before .before .before .before .before .args .s .now in
-    let f = size-whole s (u .at) _ (c .before .whole-size .ensures) (c .if1 .left) in
-    rw (f .1) (passes s (u .at) (u .count) (u .inv) (f .0))
+loop-again c = rw (goes-on c .next) (passes _ _ _ (c .before .before .before .loop .inv) (goes-on c .is-whole))
 
 pub walk-spec : {M : Type 1} → statement M
 walk-spec =
