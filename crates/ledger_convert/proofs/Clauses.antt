@@ -9,7 +9,8 @@ use lib.ListN.{length}
 use borrow.Author.Tests.{eqb-true, leb-true, ltb-true}
 use Rattle.octets.specs.Octets.{all, zeroAt}
 use Rattle.octets.proofs.Laws.{and-split, and-true, all-at}
-use Rattle.ledger_sheet.specs.Sheet.{rowCount, rowsStart, deskZerosAt, deskZerosSize, openedAt, deskCount, lengthAt, rowCountAt, rowsStartAt, deskCountAt, desksStartAt, headerNumber, used}
+use Rattle.ledger_sheet.specs.Sheet.{rowCount, rowsStart, deskZerosAt, deskZerosSize, openedAt, deskCount, lengthAt}
+use Rattle.ledger_sheet.specs.Sheet.{rowCountAt, rowsStartAt, deskCountAt, desksStartAt, headerNumber, used}
 use Rattle.ledger_convert.specs.Old.{sheetSize, rowSize, deskSize}
 use Rattle.ledger_convert.specs.Old.{workedAt, desksStart, rowAt, deskAt}
 use Rattle.ledger_convert.specs.Old.{deskByte, deskRow, isClosed, carries, headerRight, validKeys, differentKeys}
