@@ -135,7 +135,7 @@ fn rsr(
     primary: Primary,
     source: sfdu_headers::RsrSource,
     signal: sfdu_headers::RsrSignal,
-    time: sfdu_headers::RsrTime,
+    time: sfdu_headers::RsrReading,
     key: u64,
     day_count: u32,
 ) -> [u64; NUMBERS]

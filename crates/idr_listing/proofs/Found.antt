@@ -11,6 +11,7 @@ use Rattle.refusals.specs.Judge.{verdict}
 use Rattle.refusals.specs.Table.{numberOf}
 use Rattle.refusals.proofs.Judged.{Outcome, none, first, outcome, none-judge, first-judge}
 use Rattle.refusals.proofs.Laws.{number-positive}
+use Rattle.refusals.proofs.Numerals.{zero-is-one}
 use Rattle.octets.proofs.Laws.{Bytes, number-lt}
 use Rattle.idr.specs.declared.Read.the-variants.{Tagged, Untagged, Refused}
 use Rattle.idr.specs.declared.Origin.{Origin}
@@ -50,7 +51,7 @@ module _ (s : List ℕ) (place : ℕ) (o : Origin) (t : Time) (p : Recorder) (r 
     where
       by : (b : Bool) → tagged (header s) ≡ b → b ≡ true
       by true h = refl
-      by false h = let f : wordsOf (Tagged o t p r q n) ≡ 0 ∷ [] = rw h at (is-given s _ e) in let z : _≡_ {A = ℕ} 0 1 = cc in absurd (omega arith)
+      by false h = let f : wordsOf (Tagged o t p r q n) ≡ 0 ∷ [] = rw h at (is-given s _ e) in zero-is-one cc
 
   fields-are : wordsOf (Tagged o t p r q n) ≡ 0 ∷ fieldsOf (header s)
   fields-are = rw is-tagged at (is-given s _ e)
@@ -92,7 +93,7 @@ module _ (s : List ℕ) (place : ℕ) (e : wordsOf Untagged ≡ readRecord s) wh
     where
       by : (b : Bool) → tagged (header s) ≡ b → b ≡ false
       by false h = refl
-      by true h = let f : 0 ∷ [] ≡ 0 ∷ fieldsOf (header s) = rw h at (is-given s [] e) in let z : _≡_ {A = ℕ} 0 1 = cc in absurd (omega arith)
+      by true h = let f : 0 ∷ [] ≡ 0 ∷ fieldsOf (header s) = rw h at (is-given s [] e) in zero-is-one cc
 
   pub untagged-says : Says s place true (source place (header s) ++ untaggedText)
   unfolding lineOf line

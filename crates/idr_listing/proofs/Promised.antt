@@ -1,11 +1,11 @@
 -- The promise of a run. Assumes nothing.
 use Prim.Native.Nat.{ℕ, _+_, _≤_}
-use native.Mathlib.Omega.{arith}
 use mathlib.Core.Bool.{Bool, true, false, not, cond}
 use mathlib.Core.List.{List, [], _++_, append-assoc, append-nil}
 use mathlib.Core.Path.{_≡_, refl, sym, ap, _∙_}
 use lib.ListN.{length}
 use lib.Seq.{take-at, drop-at, take-all}
+use Rattle.refusals.proofs.Numerals.{zero-is-one}
 use Rattle.idr.specs.Words.{recordSize}
 use Rattle.idr.specs.Read.{accepts}
 use Rattle.idr_listing.specs.Listing.{lineOf, linesFrom, listing}
@@ -13,7 +13,7 @@ use Rattle.idr_listing.specs.Run.{Run, begins, reads, lists, GoesOn, Pro
 use Rattle.idr_listing.proofs.Streams.{whole, lines-next}
 
 never : {A : Type 0} (b : Bool) → b ≡ true → b ≡ false → A
-never b p q = let z : _≡_ {A = ℕ} 0 1 = cc in absurd (omega arith)
+never b p q = zero-is-one cc
 
 -- The text that is still to come, unless the listing is done.
 abbrev unless : Bool → List ℕ → List ℕ

@@ -7,6 +7,7 @@ use mathlib.Core.Path.{_≡_, refl, ap, _∙_}
 use lib.Dec.{eqb}
 use lib.ListN.{length}
 use borrow.Author.Tests.{ne-eqb}
+use Rattle.refusals.proofs.Numerals.{zero-is-one}
 use Rattle.ledger_model.specs.Book.{Book}
 use Rattle.octets.proofs.Laws.{and-split}
 use Rattle.ledger_sheet.specs.Sheet.{sheetSize, right}
@@ -29,7 +30,7 @@ accepted old new t e = by (eqb (length new) sheetSize && Old.right old) refl
     by false q =
         let d : _≡_ {A = Outcome} (0 ∷ [], t) (20 ∷ [], new) = rw q at e in
         let f : _≡_ {A = List ℕ} (0 ∷ []) (20 ∷ []) = ap (λ (o : Outcome). o .0) d in
-        absurd (let z : _≡_ {A = ℕ} 0 1 = cc in omega arith)
+        zero-is-one cc
 
 pub converted-answers : (old new t : List ℕ) → (0 ∷ [], t) ≡ convertOn old new → AnswersAsBefore old t
 converted-answers old new t e =

@@ -9,6 +9,7 @@ use mathlib.Core.Path.{_≡_, refl, sym, ap, _∙_}
 use lib.ListN.{drop}
 use lib.Seq.{drop-cons, drop-length}
 use Rattle.refusals.specs.declared.Refusal.{Refusal}
+use Rattle.refusals.proofs.Numerals.{zero-is-one}
 use Rattle.ledger_model.specs.Positions.{rowLength, Positions, positionNumber, size, missing, least}
 use Rattle.ledger_model.specs.Book.{Place, free, row}
 use Rattle.ledger_model.specs.Book as Book
@@ -73,7 +74,7 @@ module _ (s : List ℕ) (r : ℕ) where
       by none e h = let k : 0 ∷ t ∷ 0 ∷ [] ≡ 0 ∷ size ticks ∷ size (missing ticks) ∷ [] = rw e at h in
           record { ticked-is = cc; missing-is = cc; none-is = e }
       by (some i) e h = let k : 0 ∷ t ∷ 0 ∷ [] ≡ 0 ∷ size ticks ∷ size (missing ticks) ∷ lowestWords s (rowAt r) (some i) = rw e at h in
-          absurd (let z : _≡_ {A = ℕ} 0 1 = cc in omega arith)
+          zero-is-one cc
 
   pub gaps-say : (t m l : ℕ) → reportAnswerWords (Report.Gaps t m l) ≡ reportWords s (rowAt r) → Gaps t m l
   unfolding reportWords
@@ -83,13 +84,13 @@ module _ (s : List ℕ) (r : ℕ) where
           → 0 ∷ t ∷ m ∷ l ∷ [] ≡ 0 ∷ size ticks ∷ size (missing ticks) ∷ lowestWords s (rowAt r) lowestMissing
           → Gaps t m l
       by none e h = let k : 0 ∷ t ∷ m ∷ l ∷ [] ≡ 0 ∷ size ticks ∷ size (missing ticks) ∷ [] = rw e at h in
-          absurd (let z : _≡_ {A = ℕ} 0 1 = cc in omega arith)
+          zero-is-one cc
       by (some i) e h = let k : 0 ∷ t ∷ m ∷ l ∷ [] ≡ 0 ∷ size ticks ∷ size (missing ticks) ∷ lowestWords s (rowAt r) (some i) = rw e at h in
           record { ticked-is = cc; missing-is = cc; at = i; some-is = e; lowest-is = cc }
 
   pub not-refused : (why : Refusal) → reportAnswerWords (Report.Refused why) ≡ reportWords s (rowAt r) → ⊥
   unfolding reportWords
-  not-refused why h = let z : _≡_ {A = ℕ} 0 1 = cc in omega arith
+  not-refused why h = zero-is-one cc
 
   -- a free row adds nothing
   pub free-adds : (sum : Counted) → isUsed s r ≡ false → Adds (placeIn s r) r sum sum

@@ -1,9 +1,9 @@
 -- Different answers have different words. Assumes nothing.
 use Prim.Native.Nat.{ℕ}
-use native.Mathlib.Omega.{arith}
 use mathlib.Core.Path.{_≡_, ap}
 use Rattle.refusals.specs.Table.{numberOf}
 use Rattle.refusals.proofs.Laws.{number-injective}
+use Rattle.refusals.proofs.Numerals.{zero-is-one}
 use Rattle.sfdu.specs.declared.Fault.{Fault}
 use Rattle.sfdu.specs.declared.Primary.{Primary}
 use Rattle.sfdu.specs.declared.Read.{Read}
@@ -35,6 +35,6 @@ same-read (Record k n p) (Record l m q) e =
     let primary : p ≡ q = same-primary p q words in
     let size : n ≡ m = cc in
     cc
-same-read (Record k n p) (Refused f) e = let z : _≡_ {A = ℕ} 0 1 = cc in absurd (omega arith)
-same-read (Refused f) (Record k n p) e = let z : _≡_ {A = ℕ} 0 1 = cc in absurd (omega arith)
+same-read (Record k n p) (Refused f) e = zero-is-one cc
+same-read (Refused f) (Record k n p) e = zero-is-one cc
 same-read (Refused f) (Refused g) e = ap Refused (same-fault f g e)

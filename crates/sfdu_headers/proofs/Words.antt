@@ -4,6 +4,7 @@ use native.Mathlib.Omega.{arith}
 use mathlib.Core.List.{List, _∷_, [], map}
 use mathlib.Core.Path.{_≡_, refl, ap}
 use Rattle.refusals.specs.Table.{numberOf}
+use Rattle.refusals.proofs.Numerals.{zero-is-one}
 use lib.ListN.{take, drop}
 use Rattle.sfdu.specs.declared.Primary.{Primary}
 use Rattle.sfdu.specs.Read.{primaryWords}
@@ -13,7 +14,7 @@ use Rattle.sfdu_headers.specs.declared.Band.the-variants.{Letter, Unused
 use Rattle.sfdu_headers.specs.declared.TelemetryFields.{TelemetryFields}
 use Rattle.sfdu_headers.specs.declared.RsrSource.{RsrSource}
 use Rattle.sfdu_headers.specs.declared.RsrSignal.{RsrSignal}
-use Rattle.sfdu_headers.specs.declared.RsrTime.{RsrTime}
+use Rattle.sfdu_headers.specs.declared.RsrReading.{RsrReading}
 use Rattle.sfdu_headers.specs.declared.ReceivedTime.{ReceivedTime}
 use Rattle.sfdu_headers.specs.declared.Headers.{Headers}
 use Rattle.sfdu_headers.specs.declared.Headers.the-variants.{Telemetry, Rsr, Refused, WrongKind}
@@ -76,7 +77,7 @@ same-signal f g e =
       peak = p i;
     }
 
-same-time : (f g : RsrTime) → timeWords f ≡ timeWords g → f ≡ g
+same-time : (f g : RsrReading) → timeWords f ≡ timeWords g → f ≡ g
 same-time f g e =
     let a : f .year ≡ g .year = cc in
     let b : f .day ≡ g .day = cc in
@@ -129,13 +130,13 @@ same-headers (Refused f) (Refused g) e =
 same-headers WrongKind WrongKind e = refl
 same-headers (Telemetry n p f key r) (Rsr m q g u v l d) e = let z : _≡_ {A = ℕ} 1 2 = cc in absurd (omega arith)
 same-headers (Rsr m q g u v l d) (Telemetry n p f key r) e = let z : _≡_ {A = ℕ} 2 1 = cc in absurd (omega arith)
-same-headers (Telemetry n p f key r) WrongKind e = let z : _≡_ {A = ℕ} 0 1 = cc in absurd (omega arith)
-same-headers WrongKind (Telemetry n p f key r) e = let z : _≡_ {A = ℕ} 0 1 = cc in absurd (omega arith)
-same-headers (Rsr m q g u v l d) WrongKind e = let z : _≡_ {A = ℕ} 0 1 = cc in absurd (omega arith)
-same-headers WrongKind (Rsr m q g u v l d) e = let z : _≡_ {A = ℕ} 0 1 = cc in absurd (omega arith)
-same-headers (Telemetry n p f key r) (Refused h) e = let z : _≡_ {A = ℕ} 0 1 = cc in absurd (omega arith)
-same-headers (Refused h) (Telemetry n p f key r) e = let z : _≡_ {A = ℕ} 0 1 = cc in absurd (omega arith)
-same-headers (Rsr m q g u v l d) (Refused h) e = let z : _≡_ {A = ℕ} 0 1 = cc in absurd (omega arith)
-same-headers (Refused h) (Rsr m q g u v l d) e = let z : _≡_ {A = ℕ} 0 1 = cc in absurd (omega arith)
-same-headers WrongKind (Refused h) e = let z : _≡_ {A = ℕ} 0 1 = cc in absurd (omega arith)
-same-headers (Refused h) WrongKind e = let z : _≡_ {A = ℕ} 0 1 = cc in absurd (omega arith)
+same-headers (Telemetry n p f key r) WrongKind e = zero-is-one cc
+same-headers WrongKind (Telemetry n p f key r) e = zero-is-one cc
+same-headers (Rsr m q g u v l d) WrongKind e = zero-is-one cc
+same-headers WrongKind (Rsr m q g u v l d) e = zero-is-one cc
+same-headers (Telemetry n p f key r) (Refused h) e = zero-is-one cc
+same-headers (Refused h) (Telemetry n p f key r) e = zero-is-one cc
+same-headers (Rsr m q g u v l d) (Refused h) e = zero-is-one cc
+same-headers (Refused h) (Rsr m q g u v l d) e = zero-is-one cc
+same-headers WrongKind (Refused h) e = zero-is-one cc
+same-headers (Refused h) WrongKind e = zero-is-one cc

@@ -19,7 +19,7 @@ use Rattle.sfdu_headers.specs.declared.Band.the-variants.{Letter, Unused
 use Rattle.sfdu_headers.specs.declared.TelemetryFields.{TelemetryFields}
 use Rattle.sfdu_headers.specs.declared.RsrSource.{RsrSource}
 use Rattle.sfdu_headers.specs.declared.RsrSignal.{RsrSignal}
-use Rattle.sfdu_headers.specs.declared.RsrTime.{RsrTime}
+use Rattle.sfdu_headers.specs.declared.RsrReading.{RsrReading}
 use Rattle.sfdu_headers.specs.declared.ReceivedTime.{ReceivedTime}
 use Rattle.sfdu_headers.specs.declared.Headers.{Headers}
 use Rattle.sfdu_headers.specs.declared.Headers.the-variants.{Telemetry as TelemetryHeaders, Rsr as RsrHeaders, Refused, WrongKind}
@@ -89,7 +89,7 @@ signalWords f =
     ∷ number (f .peak)
     ∷ []
 
-abbrev pub timeWords : RsrTime → List Word
+abbrev pub timeWords : RsrReading → List Word
 timeWords f = number (f .year) ∷ number (f .day) ∷ number (f .frequency) ∷ []
 
 abbrev pub receivedWords : ReceivedTime → List Word

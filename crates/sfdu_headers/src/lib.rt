@@ -54,7 +54,7 @@ pub struct RsrSignal {
 }
 
 // The year and the day of an RSR record's ADC reading, and the override frequency.
-pub struct RsrTime {
+pub struct RsrReading {
     pub year: u16,
     pub day: u16,
     pub frequency: u64,
@@ -100,7 +100,7 @@ pub enum Headers {
         primary: Primary,
         source: RsrSource,
         signal: RsrSignal,
-        time: RsrTime,
+        time: RsrReading,
         key: u64,
         day_count: u32,
     },

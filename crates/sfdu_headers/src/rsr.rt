@@ -288,11 +288,11 @@ fn signed(b: u8) -> i8
     (b as i16 - 256) as i8
 }
 
-fn read_time(s: &[u8]) -> headers::RsrTime
+fn read_time(s: &[u8]) -> headers::RsrReading
     requires { ⌜ dataValueAt Rsr ≤ length (now s) ⌝ }
     ensures { λ r. ⌜ timeWords r ≡ timeOf (now (s .entry)) ⌝ }
 {
-    headers::RsrTime {
+    headers::RsrReading {
         year: numbers::read_u16(s, YEAR_AT),
         day: numbers::read_u16(s, DAY_AT),
         frequency: numbers::read_u64(s, FREQUENCY_AT),

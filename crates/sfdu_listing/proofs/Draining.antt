@@ -6,6 +6,7 @@ use mathlib.Core.List.{List, [], _∷_, _++_}
 use mathlib.Core.Path.{_≡_, refl, ap, _∙_}
 use lib.ListN.{length, take, drop, length-drop}
 use lib.Seq.{take-length}
+use Rattle.refusals.proofs.Numerals.{zero-is-one}
 use Rattle.text.specs.Text.{Puts}
 use Rattle.sfdu.specs.declared.Kind.{Kind}
 use Rattle.sfdu.specs.Nesting.{kindNumber}
@@ -115,7 +116,7 @@ module _ (w : List ℕ) (place : ℕ) (last : Bool) (out₀ : List ℕ) (start :
       lines = record {
         within = r .under .within;
         says = stops w place last at (r .t) (r .under) n m f;
-        wants = λ (z : _≡_ {A = Bool} true false). let y : _≡_ {A = ℕ} 0 1 = cc in absurd (omega arith);
+        wants = λ (z : _≡_ {A = Bool} true false). zero-is-one cc;
       };
       puts = then (r .puts) p (omega (arith, r .same, last-room));
       within = omega (arith, last-room);

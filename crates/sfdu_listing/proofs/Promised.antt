@@ -6,6 +6,7 @@ use mathlib.Core.List.{List, [], _++_, append-assoc, append-nil}
 use mathlib.Core.Path.{_≡_, refl, sym, ap, _∙_}
 use borrow.Author.Tests.{ne-eqb}
 use lib.ListN.{length, take}
+use Rattle.refusals.proofs.Numerals.{zero-is-one}
 use Rattle.text.proofs.Laid.{grown}
 use Rattle.text.specs.declared.State.{State}
 use Rattle.sfdu_listing.specs.Listing.{linesFrom, listing}
@@ -19,7 +20,7 @@ record Kept (read : List ℕ) (ended : Bool) (written : List ℕ) (s : State) (h
       → listing (read ++ more) ≡ written ++ (text ++ unless (s .done) (linesFrom (s .place) (held ++ more)))
 
 never : {A : Type 0} (b : Bool) → b ≡ true → b ≡ false → A
-never b p q = let z : _≡_ {A = ℕ} 0 1 = cc in absurd (omega arith)
+never b p q = zero-is-one cc
 
 kept : {read : List ℕ} {ended : Bool} {written : List ℕ} {s : State} {held text : List ℕ} → Run read ended written s held text
     → Kept read ended written s held text

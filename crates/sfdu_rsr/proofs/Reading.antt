@@ -22,7 +22,7 @@ use Rattle.sfdu_headers.specs.Ranges.{fieldRules}
 use Rattle.sfdu_headers.specs.declared.TelemetryFields.{TelemetryFields}
 use Rattle.sfdu_headers.specs.declared.RsrSource.{RsrSource}
 use Rattle.sfdu_headers.specs.declared.RsrSignal.{RsrSignal}
-use Rattle.sfdu_headers.specs.declared.RsrTime.{RsrTime}
+use Rattle.sfdu_headers.specs.declared.RsrReading.{RsrReading}
 use Rattle.sfdu_headers.specs.declared.ReceivedTime.{ReceivedTime}
 use Rattle.sfdu_headers.specs.declared.Headers.the-variants.{Telemetry as TelemetryHeaders, Rsr as RsrHeaders}
 use Rattle.sfdu_headers.specs.Headers.{wordsOf, wrongKind, acceptedFields, judgedFields, readHeaders}
@@ -92,7 +92,7 @@ module _ (s : List ℕ) where
           same-numbers ws g (e ∙ headers-refuse s ∙ first-judge (map number) (acceptedFields Rsr s) f) ∙ sym (first-judge (λ given. given) _ f)
 
   -- An accepted RSR record, and none of telemetry.
-  pub rsr-words : (size : ℕ) (p : Primary) (from : RsrSource) (signal : RsrSignal) (time : RsrTime) (key day-count : ℕ)
+  pub rsr-words : (size : ℕ) (p : Primary) (from : RsrSource) (signal : RsrSignal) (time : RsrReading) (key day-count : ℕ)
       → wordsOf (RsrHeaders size p from signal time key day-count) ≡ readHeaders (kindNumber Rsr) s
       → 0 ∷ size ∷ p .mission ∷ day-count ∷ [] ≡ readRsr s
   rsr-words size p from signal time key day-count e =
