@@ -23,7 +23,7 @@ pub(crate) fn list_numbers(f: Frame, s: &[u8], out: &mut [u8], at: usize) -> usi
     let mut lengths = [WIDE_FILL; MOST_LIST];
     let mut kinds = [FILL; MOST_LIST];
     let mut record_numbers = [FILL; MOST_LIST];
-    let walked = sfdu_stream::list_numbers(
+    let walked = sfdu_lists::list_numbers(
         s,
         &mut places[..x],
         &mut lengths[..y],

@@ -9,8 +9,9 @@ use Rattle.refusals.specs.Table.{numberOf}
 use Rattle.refusals.specs.declared.Refusal.the-variants.{AnswerLength}
 use Rattle.sfdu_headers.specs.Words.{Word}
 use Rattle.answers.specs.Numbers.{numbersOf}
-use Rattle.host.specs.Exported.{answerSize, exported, exportedAs}
-use Rattle.host.specs.inner.Written.{Written}
+use Rattle.host_write.specs.Answer.{answerSize}
+use Rattle.host_write.specs.inner.Written.{Written}
+use Rattle.host.specs.Exported.{exported, exportedAs}
 
 pub unwritten : {r : ℕ} (words : List Word) (answer : List ℕ) → length answer ≢ answerSize → r ≡ numberOf AnswerLength → (r, answer) ≡ exported words answer
 unfolding exported

@@ -3,26 +3,14 @@
 -- The manual, docs/INTERFACE.md: "Calls from C".
 use Prim.Native.Nat.{ℕ}
 use mathlib.Core.Bool.{cond}
-use mathlib.Core.List.{List, [], _∷_, _++_}
+use mathlib.Core.List.{List}
 use lib.Dec.{eqb}
 use lib.ListN.{length, getD}
-use Rattle.octets.specs.Octets.{bytesOf}
 use Rattle.refusals.specs.Table.{numberOf}
 use Rattle.refusals.specs.declared.Refusal.the-variants.{AnswerLength}
 use Rattle.sfdu_headers.specs.Words.{Word}
 use Rattle.answers.specs.Numbers.{numbersOf, plain}
-
--- The answer's slice, and each number in it.
-abbrev pub answerSize : ℕ
-answerSize = 256
-
-abbrev pub numberSize : ℕ
-numberSize = 8
-
--- The numbers of an answer, big-endian, one behind the other.
-unfoldable pub answerBytes : List ℕ → List ℕ
-answerBytes [] = []
-answerBytes (n ∷ ns) = bytesOf numberSize n ++ answerBytes ns
+use Rattle.host_write.specs.Answer.{answerSize, answerBytes}
 
 -- The number that is returned: the first of the answer's.
 abbrev pub returned : List Word → ℕ

@@ -1,4 +1,3 @@
 -- What the contracts of `host` cite.
 pub mod Exported
 pub mod Seasons
-pub mod inner

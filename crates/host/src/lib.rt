@@ -8,4 +8,3 @@ pub mod records;
 pub mod seasons;
 pub mod sheets;
 pub mod stream_keys;
-mod write;

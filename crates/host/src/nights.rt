@@ -1,5 +1,5 @@
 // A night's calls in a trace, played again.
-use crate::write;
+use host_write as write;
 use ledger_answers::nights;
 ghost use mathlib.Core.Path.{_≡_};
 ghost use Rattle.ledger_replay.specs.Replay.{replayOn};

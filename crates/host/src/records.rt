@@ -1,5 +1,5 @@
 // Records.
-use crate::write;
+use host_write as write;
 ghost use mathlib.Core.Path.{_≡_};
 ghost use Rattle.sfdu_headers.specs.Headers.{readHeaders};
 ghost use Rattle.host.specs.Exported.{exported};

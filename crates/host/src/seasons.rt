@@ -1,5 +1,5 @@
 // The season.
-use crate::write;
+use host_write as write;
 use ledger_answers::seasons;
 ghost use mathlib.Core.Path.{_≡_};
 ghost use Rattle.ledger_season.specs.Season.{season};

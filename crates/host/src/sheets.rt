@@ -1,5 +1,5 @@
 // The ledger sheet.
-use crate::write;
+use host_write as write;
 use ledger_answers::ledgers;
 ghost use mathlib.Core.Path.{_≡_};
 ghost use Rattle.ledger_model.specs.Step.{Enrol, Ask, Find, RowReport, FirstGap, Open, Tick, Untick, Save, Drop, Strike};

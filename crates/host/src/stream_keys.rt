@@ -1,5 +1,5 @@
 // Stream keys.
-use crate::write;
+use host_write as write;
 ghost use mathlib.Core.Path.{_≡_};
 ghost use Rattle.keys.specs.Key.{telemetryKeyCall, rsrKeyCall};
 ghost use Rattle.answers.specs.Numbers.{plain};

@@ -1,4 +1,3 @@
-pub mod Calls
 pub mod ReadBack
 pub mod Demand3
 pub mod Every

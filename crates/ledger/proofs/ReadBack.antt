@@ -21,7 +21,7 @@ use Rattle.ledger_layout.specs.Layout.{call, onSheet}
 use Rattle.ledger_verdicts.specs.inner.Verdicts.{enrolRules}
 use Rattle.ledger_verdicts.specs.declared.Verdict.the-variants as Case
 use Rattle.ledger_verdicts.proofs.Judged.{enrol-fine}
-use Rattle.ledger.proofs.Calls.{by-rows}
+use Rattle.ledger_judged.proofs.Calls.{by-rows}
 
 pub enrol-reads-back : (s t : List ℕ) (key first row : ℕ) → Bytes s → key < 256 ^ keySize → first < 256 ^ firstSize
     → (rowWords (R.Row row), t) ≡ onSheet (call (Enrol key first)) s → rowValueAt t (rowAt row) ≡ blankRow key first

@@ -1,9 +1,9 @@
 // The receipt ledger: the public calls on a lent sheet (document 01, "The ledger sheet"; document 02, requests 03 and 10). Each contract has
 // one shape: the words of the answer, and the sheet as it is left, are the model's call on the book that the sheet holds, laid out again.
 // What is not a right sheet is refused with 20 and left as it was.
-pub mod judged;
 
 use ledger_changes::desks;
+use ledger_judged as judged;
 use ledger_sheet as sheet;
 use ledger_sheet::Answer;
 use ledger_sheet::GapAnswer;

@@ -19,7 +19,7 @@ pub(crate) fn make(s: &mut [u8], x: Line) -> Told
     ensures { λ r. ⌜ (r, now (s .exit)) ≡ made (callIn x) (now (s .entry)) ⌝ }
 {
     if x.call == replay::ENROL {
-        return tell_row(ledger::judged::enrol(s, true, x.key, x.number));
+        return tell_row(ledger_judged::enrol(s, true, x.key, x.number));
     }
     tell(make_plain(s, x))
 }
@@ -29,13 +29,13 @@ fn make_plain(s: &mut [u8], x: Line) -> Answer
     ensures { λ r. ⌜ (answerWords r, now (s .exit)) ≡ onSheet (call (plainIn x)) (now (s .entry)) ⌝ }
 {
     if x.call == replay::OPEN {
-        return ledger::judged::open(s, true, x.desk as u32, x.row as u32);
+        return ledger_judged::open(s, true, x.desk as u32, x.row as u32);
     }
     if x.call == replay::TICK {
-        return ledger::judged::mark(s, true, x.desk as u32, x.number, true);
+        return ledger_judged::mark(s, true, x.desk as u32, x.number, true);
     }
     if x.call == replay::UNTICK {
-        return ledger::judged::mark(s, true, x.desk as u32, x.number, false);
+        return ledger_judged::mark(s, true, x.desk as u32, x.number, false);
     }
     make_last(s, x)
 }
@@ -45,12 +45,12 @@ fn make_last(s: &mut [u8], x: Line) -> Answer
     ensures { λ r. ⌜ (answerWords r, now (s .exit)) ≡ onSheet (call (lastIn x)) (now (s .entry)) ⌝ }
 {
     if x.call == replay::SAVE {
-        return ledger::judged::save(s, true, x.desk as u32);
+        return ledger_judged::save(s, true, x.desk as u32);
     }
     if x.call == replay::DROP {
-        return ledger::judged::drop(s, true, x.desk as u32);
+        return ledger_judged::drop(s, true, x.desk as u32);
     }
-    ledger::judged::strike(s, true, x.row as u32)
+    ledger_judged::strike(s, true, x.row as u32)
 }
 
 fn tell(a: Answer) -> Told

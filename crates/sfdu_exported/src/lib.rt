@@ -63,12 +63,12 @@ pub extern "C" fn rt_list_numbers(
         ≡ listNumbers (now (s .entry))
         (record { places = now (places .entry); lengths = now (lengths .entry); kinds = now (kinds .entry); numbers = now (numbers .entry) }) ⌝ }
 {
-    in_numbers(sfdu_stream::list_numbers(s, places, lengths, kinds, numbers))
+    in_numbers(sfdu_lists::list_numbers(s, places, lengths, kinds, numbers))
 }
 
 #[no_mangle]
 pub extern "C" fn rt_list_entries(s: &[u8], table: &mut [Entry]) -> Answer
     ensures { λ r. ⌜ (numbersOf r, now (table .exit)) ≡ listEntries (now (s .entry)) (now (table .entry)) ⌝ }
 {
-    in_numbers(sfdu_stream::list_entries(s, table))
+    in_numbers(sfdu_lists::list_entries(s, table))
 }

@@ -17,7 +17,7 @@ use Rattle.sfdu_rsr.proofs.Rules.{refuse, first-refuses, refuse-append, none-of
 use Rattle.sfdu_rsr.proofs.Reading.{all-refuse}
 use Rattle.sfdu_samples.specs.Calls.{fills, writes, sizeOf, rateOf, dataRules, unpackRules, unpacking, packRules, packing}
 use Rattle.sfdu_samples.specs.Packing.{perHalf, perWord, unpackedWords, packedWords, unpacked, packed, allCoded}
-use Rattle.sfdu_samples.specs.Rates.{isListed}
+use Rattle.sfdu_rates.specs.Rates.{isListed}
 use Rattle.sfdu_samples.specs.inner.Unpacking.{Width, unpackingData}
 use Rattle.sfdu_samples.proofs.Packed.{length-packed}
 use Rattle.sfdu_samples.proofs.Runs.{sets-fills}

@@ -3,7 +3,7 @@ pub mod Flipped
 pub mod Runs
 pub mod Unpacking
 pub mod Packed
-pub mod Table
+pub mod Widths
 pub mod Parts
 pub mod Judged
 pub mod Again

@@ -11,7 +11,7 @@ use Rattle.sfdu_samples.specs.RoundTrip.{UnpackedPacksAgain, PackedUnpac
 use Rattle.sfdu_samples.proofs.Again.{unpacked-coded, unpacked-whole, packed-whole, packed-unpacked, unpacked-packed}
 use Rattle.sfdu_samples.proofs.Judged.{accepted-as, unpacks, packs, data-is, pack-is}
 use Rattle.sfdu_samples.proofs.Parts.{bytes-data}
-use Rattle.sfdu_samples.proofs.Table.{listed-width}
+use Rattle.sfdu_samples.proofs.Widths.{listed-width}
 
 pub unpacked-packs-again : UnpackedPacksAgain
 unpacked-packs-again s bytes list n e out room =

@@ -14,7 +14,7 @@ use Rattle.sfdu_headers.specs.Fields.{byteAt, fieldAt}
 use Rattle.sfdu_rsr.specs.Record.{only, rsrRules}
 use Rattle.sfdu_samples.specs.declared.Answer.{Answer}
 use Rattle.sfdu_samples.specs.declared.Answer.the-variants.{Count, Header, Refused}
-use Rattle.sfdu_samples.specs.Rates.{isListed}
+use Rattle.sfdu_rates.specs.Rates.{isListed}
 use Rattle.sfdu_samples.specs.Packing.{perWord, unpacked, packed, allCoded}
 
 -- An answer in words: 0 and the count, or the refusal's number, with the number that goes with it where one does.

@@ -1,4 +1,3 @@
-pub mod Rates
 pub mod Packing
 pub mod Bits
 pub mod Calls

@@ -15,14 +15,7 @@ use sfdu_rsr::Rsr;
 
 mod bits;
 mod packs;
-mod rates;
 mod unpacks;
-
-// A row of table 3-1.
-pub struct Listed {
-    pub rate: u32,
-    pub size: u32,
-}
 
 // How many numbers or bytes were written; or a refusal, read headers' 1 to 12 with the number that goes with them.
 pub enum Answer {
@@ -82,7 +75,7 @@ fn sample_rate(s: &[u8]) -> u32
 pub fn pack(size: u32, rate: u32, samples: &[i32], out: &mut [u8]) -> Answer
     ensures { λ r. ⌜ (wordsOf r, now (out .exit)) ≡ packing size rate (now (samples .entry)) (now (out .entry)) ⌝ }
 {
-    if !rates::is_listed(size, rate) {
+    if !sfdu_rates::is_listed(size, rate) {
         return Answer::Refused(Refusal::SamplePair);
     }
     let per = unpacks::per_word(size);

@@ -20,7 +20,7 @@ use Rattle.sfdu.proofs.Accepted.{accepted, found, words-refused, accepted-words
 use Rattle.sfdu.proofs.Within.{second-inside}
 use Rattle.sfdu_stream.specs.Walk.{atEnd, whole, past, full, step, wholeBy, refusalBy}
 use Rattle.sfdu_stream.specs.inner.Refusal.{refusal}
-use Rattle.sfdu_stream.specs.inner.Turn.{RecordAt}
+use Rattle.sfdu_stream.specs.inner.Record.{RecordAt}
 
 -- Where a whole record stands, the place past it lies further on, and within the stream.
 pub record Whole (s : List ℕ) (at : ℕ) : Type 0 where

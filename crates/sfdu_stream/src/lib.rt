@@ -1,12 +1,11 @@
-// Streams of records back to back: a cursor, a walk, number lists and a table of entries.
-mod listing;
+// Streams of records back to back: a cursor, a walk, and how long a list of them has to be. The lists are `sfdu_lists`'.
 mod room;
 mod walking;
 
-pub use listing::list_entries;
-pub use listing::list_numbers;
 pub use room::most_records;
 pub use room::most_rsr_records;
+pub use walking::in_stream;
+pub use walking::stopped;
 pub use walking::walk;
 
 // A place in a stream, in bytes from its start.
@@ -47,12 +46,4 @@ pub struct Entry {
     pub length: u64,
     pub kind: u32,
     pub number: u32,
-}
-
-// A turn of a list: the next record's entry and the place past it, or the list's answer. (Public for the prover's sake.)
-pub struct Turn {
-    pub listed: bool,
-    pub entry: Entry,
-    pub next: usize,
-    pub answer: Walked,
 }

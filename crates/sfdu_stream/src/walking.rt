@@ -78,14 +78,14 @@ fn stop_at(s: &[u8], at: usize) -> Stop
     }
 }
 
-pub(crate) fn stopped(count: usize, place: usize, stop: Stop) -> Walked
+pub fn stopped(count: usize, place: usize, stop: Stop) -> Walked
     ensures { λ r. ⌜ r ≡ record { count = count; place = place; stop = stop } ⌝ }
 {
     Walked { count, place, stop }
 }
 
 // The refusal of the record at a place, its offset counted from the stream's start; a count of bytes stays.
-pub(crate) fn in_stream(s: &[u8], place: usize, fault: Fault) -> Fault
+pub fn in_stream(s: &[u8], place: usize, fault: Fault) -> Fault
     requires { ⌜ place + fault .at ≤ length (now s) ⌝ }
     ensures { λ r. ⌜ faultWords r ≡ inStream place (faultWords fault) ⌝ }
 {

@@ -2,7 +2,7 @@
 use native.Mathlib.Omega.{arith}
 use Rattle.ledger_model.specs.Step.{Ask, Find}
 use Rattle.ledger_verdicts.proofs.Judged.{refused-is, accepted-is, find-fine}
-use Rattle.ledger.proofs.Calls.{by-rows}
+use Rattle.ledger_judged.proofs.Calls.{by-rows}
 use borrow.Author.Needs.{needs}
 use Rattle.ledger.proofs.find.Statement.{statement}
 use Rattle.ledger.proofs.find.Tie as tie

@@ -2,7 +2,7 @@
 use mathlib.Core.Path.{ap, _∙_}
 use Rattle.octets.proofs.Laws.{failed, passed}
 use Rattle.ledger_sheet.proofs.Clauses.{right-parts}
-use Rattle.ledger.proofs.Calls.{gap-not-right, gap-right}
+use Rattle.ledger_judged.proofs.Calls.{gap-not-right, gap-right}
 use borrow.Author.Needs.{needs}
 use Rattle.ledger.proofs.first_gap.Statement.{statement}
 use Rattle.ledger.proofs.first_gap.Tie as tie

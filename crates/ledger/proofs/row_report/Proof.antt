@@ -3,7 +3,7 @@ use native.Mathlib.Omega.{arith}
 use mathlib.Core.Path.{ap, _∙_}
 use Rattle.ledger_model.specs.Step.{Ask, RowReport}
 use Rattle.ledger_verdicts.proofs.Judged.{refused-is, accepted-is, row-fine}
-use Rattle.ledger.proofs.Calls.{by-rows}
+use Rattle.ledger_judged.proofs.Calls.{by-rows}
 use borrow.Author.Needs.{needs}
 use Rattle.ledger.proofs.row_report.Statement.{statement}
 use Rattle.ledger.proofs.row_report.Tie as tie

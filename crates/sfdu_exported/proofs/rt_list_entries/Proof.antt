@@ -98,10 +98,10 @@ use Rattle.sfdu_stream.proofs.Walked as K
 use Rattle.sfdu_stream.proofs.Walked.Laws as K′
 use Rattle.sfdu_exported.proofs.Answer as N
 use Rattle.sfdu_exported.proofs.Answer.Laws as N′
-use Rattle.sfdu_stream.proofs.list_entries as list
-use Rattle.sfdu_stream.proofs.list_entries.Symbol as list-def
-use Rattle.sfdu_stream.proofs.list_entries.Symbol.{name as #list-entries}
-use Rattle.sfdu_stream.proofs.list_entries.Met as list-thm
+use Rattle.sfdu_lists.proofs.list_entries as list
+use Rattle.sfdu_lists.proofs.list_entries.Symbol as list-def
+use Rattle.sfdu_lists.proofs.list_entries.Symbol.{name as #list-entries}
+use Rattle.sfdu_lists.proofs.list_entries.Met as list-thm
 use Rattle.sfdu_exported.proofs.in_numbers as in-numbers
 use Rattle.sfdu_exported.proofs.in_numbers.Symbol as in-numbers-def
 use Rattle.sfdu_exported.proofs.in_numbers.Symbol.{name as #in-numbers}
@@ -239,6 +239,6 @@ rt-list-entries-spec 𝓤 H 𝓜 𝓖 𝓡 =
     entered 𝓤 H (tripleOf 𝓤 H (𝓖 .A) table.signature (table.spec 𝓤 H (𝓖 .A) (𝓜 .mem) (𝓡 .run)))
     (tables 𝓤 H 𝓜 𝓡 code.env .C) (tables 𝓤 H 𝓜 𝓡 code.env .Λ) #table code.function (code.unfolded 𝓤 H 𝓜 𝓡)
     (table-meets 𝓤 H (𝓖 .A) (givenOf 𝓤 H 𝓜 𝓖) (𝓜 .mem) (𝓡 .run) (tablesOf 𝓤 H 𝓜 (tables 𝓤 H 𝓜 𝓡 code.env))
-    (cited 𝓤 H (Lists 𝓤 H (𝓖 .A) (𝓜 .mem) (𝓡 .run)) 𝓜 𝓡 code.env #list-entries list-def.routine code.calls-sfdu-stream·list-entries (list-thm.met 𝓤 H 𝓜 𝓖 𝓡))
+    (cited 𝓤 H (Lists 𝓤 H (𝓖 .A) (𝓜 .mem) (𝓡 .run)) 𝓜 𝓡 code.env #list-entries list-def.routine code.calls-sfdu-lists·list-entries (list-thm.met 𝓤 H 𝓜 𝓖 𝓡))
     (cited 𝓤 H (InNumbers 𝓤 H (𝓖 .A) (𝓜 .mem) (𝓡 .run)) 𝓜 𝓡 code.env #in-numbers in-numbers-def.routine code.calls-sfdu-exported·in-numbers
     (in-numbers-thm.met 𝓤 H 𝓜 𝓖 𝓡)))

@@ -1,0 +1,58 @@
+-- `ledger_judged::save` meets its contract. Assumes nothing.
+use mathlib.Core.Path.{_∙_}
+use Rattle.ledger_model.specs.Step.{Save}
+use Rattle.ledger_verdicts.proofs.Judged.{refused-is, accepted-is, desk-fine}
+use Rattle.ledger_judged.proofs.Calls.{by-rows}
+use borrow.Author.Needs.{needs}
+use Rattle.ledger_judged.proofs.save.Statement.{statement}
+use Rattle.ledger_judged.proofs.save.Tie as tie
+
+desk-verdict-requires : tie.Need-desk-verdict-requires
+desk-verdict-requires c κs = c .before .before .pre
+
+enum-known-verdict : tie.Need-enum-known-verdict
+enum-known-verdict c = search needs
+
+same-length : tie.Need-same-length
+same-length c = search needs
+
+returns : tie.Need-returns
+returns c =
+    let judged = c .before .before .before in
+    let g = judged .before .before .before .args in
+    let law = by-rows (Save (g .desk)) (g .s .now) (judged .before .before .slice-known .given) in
+    let why = c .before .verdict .given in
+    refused-is law (judged .desk-verdict .ensures) (why .0 .0) (why .1)
+
+enum-told : tie.Need-enum-told
+enum-told c = search needs
+
+save-desk-requires : tie.Need-save-desk-requires
+save-desk-requires c κs =
+    let judged = c .before .before .before in
+    let g = judged .before .before .before .args in
+    desk-fine (g .s .now) (g .desk) (judged .desk-verdict .ensures) (c .before .enum-told .given .1)
+
+same-length-2 : tie.Need-same-length-2
+same-length-2 c = search needs
+
+returns-2 : tie.Need-returns-2
+returns-2 c =
+    let judged = c .before .before .before .before .before .before in
+    let g = judged .before .before .before .args in
+    let law = by-rows (Save (g .desk)) (g .s .now) (judged .before .before .slice-known .given) in
+    let accepted = accepted-is law (judged .desk-verdict .ensures) (c .before .before .before .before .enum-told .given .1) in
+    c .before .before .save-desk .ensures ∙ accepted
+
+pub save-spec : {M : Type 1} → statement M
+save-spec =
+    tie.close
+    (tie.spec
+    desk-verdict-requires
+    enum-known-verdict
+    same-length
+    returns
+    enum-told
+    save-desk-requires
+    same-length-2
+    returns-2)
