@@ -60,6 +60,9 @@ void book_begin(struct book *book)
     book->trace.length = fread(book->trace.bytes, 1, sizeof book->trace.bytes, file);
     if (sheets != 1 || getc(file) != EOF)
         memset(book->sheet, 0, sizeof book->sheet);
+    /* What is no whole trace is none. */
+    if (!is_trace_length(book->trace.length))
+        book->trace.length = 0;
     if (ferror(file))
         fail("reading", book->path);
     fclose(file);

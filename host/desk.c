@@ -26,25 +26,26 @@ static uint32_t settle(struct book *book, uint32_t refused)
 }
 
 /* The row of the record's stream, which is enrolled from this number on where it is not there. */
-static uint32_t enrolled(struct book *book, const struct record *record, uint32_t *row)
+static uint32_t row_of(struct book *book, const struct record *record, uint32_t *row)
 {
-    book_begin(book);
     uint32_t refused = hernganow_find(book->sheet, sizeof book->sheet, record->key, book->answer, sizeof book->answer);
     if (refused == HERNGANOW_REFUSED_NO_ROW)
-        refused = settle(book, noted_enrol(book, record->key, record->number));
-    else
-        book_abandon(book);
+        refused = noted_enrol(book, record->key, record->number);
     *row = (uint32_t)book_number(book, HERNGANOW_AT_ROW);
     return refused;
 }
 
-/* Opens the row and ticks the number. Where the tick is refused nothing is kept, so that the desk stays closed. */
-static uint32_t ticked(struct book *book, uint32_t desk, uint32_t row, uint32_t number)
+/* Finds the row, opens it and ticks the number, all under one lock: a row's number holds only as long as nobody else can strike the row and
+   enrol another stream in its place. From the open on nobody can. Where a call is refused nothing is kept, so that the desk stays closed. */
+static uint32_t ticked(struct book *book, uint32_t desk, const struct record *record)
 {
+    uint32_t row;
     book_begin(book);
-    uint32_t refused = noted_open(book, desk, row);
+    uint32_t refused = row_of(book, record, &row);
     if (!refused)
-        refused = noted_tick(book, desk, number);
+        refused = noted_open(book, desk, row);
+    if (!refused)
+        refused = noted_tick(book, desk, record->number);
     return settle(book, refused);
 }
 
@@ -57,12 +58,8 @@ static uint32_t saved(struct book *book, uint32_t desk)
 /* A visit. Between the tick and the save others may save the row: then this save is stale, and the visit is made again. */
 static uint32_t visit(struct book *book, uint32_t desk, const struct record *record, uint32_t *stale)
 {
-    uint32_t row = 0;
-    uint32_t refused = enrolled(book, record, &row);
-    if (refused)
-        return refused;
     for (*stale = 0;; ++*stale) {
-        refused = ticked(book, desk, row, record->number);
+        uint32_t refused = ticked(book, desk, record);
         if (!refused)
             refused = saved(book, desk);
         if (refused != HERNGANOW_REFUSED_STALE)
@@ -116,8 +113,10 @@ static void print_gap(struct book *book)
 {
     book_begin(book);
     book_abandon(book);
-    hernganow_first_gap(book->sheet, sizeof book->sheet, book->answer, sizeof book->answer);
-    if (book_number(book, HERNGANOW_AT_GAP_NUMBER) == HERNGANOW_NONE)
+    uint32_t refused = hernganow_first_gap(book->sheet, sizeof book->sheet, book->answer, sizeof book->answer);
+    if (refused)
+        printf("refused %" PRIu32 "\n", refused);
+    else if (book_number(book, HERNGANOW_AT_GAP_NUMBER) == HERNGANOW_NONE)
         printf("no gap\n");
     else
         printf("gap %" PRIu64 " in row %" PRIu64 "\n", book_number(book, HERNGANOW_AT_GAP_NUMBER), book_number(book, HERNGANOW_AT_GAP_ROW));

@@ -26,6 +26,11 @@ void trace_start(struct trace *trace)
     put_header(trace, 0);
 }
 
+int is_trace_length(size_t length)
+{
+    return length >= TRACE_HEADER && (length - TRACE_HEADER) % TRACE_ENTRY == 0;
+}
+
 size_t trace_calls(const struct trace *trace)
 {
     return (trace->length - TRACE_HEADER) / TRACE_ENTRY;
@@ -37,7 +42,7 @@ static uint32_t note(struct book *book, enum call call, uint32_t desk, uint32_t 
     struct trace *trace = &book->trace;
     if (!trace->length || desk > UINT8_MAX || row > UINT8_MAX)
         return refused;
-    if (trace->length == sizeof trace->bytes) {
+    if (sizeof trace->bytes - trace->length < TRACE_ENTRY) {
         trace->length = 0;
         return refused;
     }

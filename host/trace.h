@@ -19,6 +19,9 @@ struct book;
 /* A trace with no calls. */
 void trace_start(struct trace *trace);
 
+/* Whether a trace can have this length: a header and whole entries. */
+int is_trace_length(size_t length);
+
 /* How many calls a trace that is kept has. */
 size_t trace_calls(const struct trace *trace);
 

@@ -1,9 +1,11 @@
 /* Hernganow's calls on records, samples, stream keys, dates, ledger sheets and mission agreements, for programs in C and C++. Link
  * libhost.a (`rt staticlib host`).
  *
- * Each call answers as the proved library's call does, whatever the bytes and numbers are. The caller sees to it that every pointer has
- * as many bytes or numbers as its length says, and that no two slices overlap. A call returns 0, or the number of the refusal, and writes its answer, a refusal's too, into the last slice: HERNGANOW_ANSWER
- * bytes, 32 numbers of 8 bytes, most significant byte first. The first is the number that is returned; HERNGANOW_AT_.. name the others.
+ * Each call answers as the proved library's call does, whatever the bytes and numbers are; the season's alone leaves numbers out. The
+ * caller sees to it that every pointer has as many bytes or numbers as its length says, that no two slices overlap, and that the stack has
+ * room: 24 KB are enough. A call returns 0, or the number of the refusal, and writes its answer, a refusal's too, into the last slice:
+ * HERNGANOW_ANSWER bytes, 32 numbers of 8 bytes, most significant byte first. The first is the number that is returned; HERNGANOW_AT_..
+ * name the others.
  * Each number of a none is HERNGANOW_NONE; numbers that the answer does not have are 0. A signed number is in two's complement.
  *
  * An answer's slice of another length is refused first, with 38: the call does nothing and writes nothing. Of the refusals in a
@@ -190,16 +192,17 @@ static inline uint64_t hernganow_number(const uint8_t *answer, enum hernganow_at
 /* The header fields of the record that the slice begins with, which has to be of the wanted kind: 1 telemetry, 2 RSR.
  * Answers the kind, the record's length, the primary block's four numbers, the fields, the stream key; then, of telemetry, the received
  * time in its three parts, of RSR, the day count of its year and day. HERNGANOW_AT_TELEMETRY_UPLINK may be none;
- * HERNGANOW_AT_RSR_EXPECTED is signed.
- * Refused: 1 to 11, 15, 12, in this order; but for 15, HERNGANOW_AT_FAULT is the offset of the wrong field from the record's start
+ * HERNGANOW_AT_RSR_EXPECTED is signed; bands are the ASCII codes of their letters; HERNGANOW_AT_TELEMETRY_RECEIVED and
+ * HERNGANOW_AT_RSR_FREQUENCY are the field's eight bytes as they stand, as one number.
+ * Refused: 1 to 11, 15 (also where wanted is neither 1 nor 2), 12, in this order; but for 15, HERNGANOW_AT_FAULT is the offset of the wrong field from the record's start
  * (1 and 6: how many bytes there were). */
 uint32_t hernganow_read_headers(
     const uint8_t *record, size_t record_length,
     uint32_t wanted,
     uint8_t *answer, size_t answer_length);
 
-/* The gain multiplier of the RSR record that the slice begins with, in an edition: 1 old, 2 new. Answers the multiplier's four bytes as
- * one number; none in edition 1.
+/* The gain multiplier of the RSR record that the slice begins with, in an edition: 1 old, 2 new. Answers the multiplier's four bytes, which
+ * are a float's, as one number; none in edition 1.
  * Refused: read headers' for kind 2, with HERNGANOW_AT_FAULT as there; 44. */
 uint32_t hernganow_gain(
     const uint8_t *record, size_t record_length,
@@ -216,8 +219,8 @@ uint32_t hernganow_agreed_gain(
 /* ---- Samples: a list's length is how many numbers it has */
 
 /* Unpacks the samples of the RSR record that the slice begins with into the start of the list: the in-phase number and the quadrature
- * number in turn, each odd, as the codes stand for 2k + 1. Answers how many numbers were written; the rest of the list stays, and all
- * of it where the call is refused.
+ * number in turn, each odd, as the codes stand for 2k + 1. A list of 8 numbers for each byte of the record is long enough. Answers how
+ * many numbers were written; the rest of the list stays, and all of it where the call is refused.
  * Refused: read headers' for kind 2, with HERNGANOW_AT_FAULT as there; 19, 34, 35. */
 uint32_t hernganow_unpack(
     const uint8_t *record, size_t record_length,
@@ -332,6 +335,7 @@ uint32_t hernganow_replay(
     const uint8_t *trace, size_t trace_length,
     uint8_t *sheet, size_t sheet_length,
     uint8_t *answer, size_t answer_length);
+
 /* ---- The season */
 
 /* Reports on up to 16 sheets laid one after another, in all. Answers how many sheets there are, how many numbers are ticked, how many are
@@ -346,7 +350,7 @@ uint32_t hernganow_season(const uint8_t *sheets, size_t sheets_length, uint8_t *
 uint32_t hernganow_settings_make_empty(uint8_t *settings, size_t settings_length, uint8_t *answer, size_t answer_length);
 
 /* Adds a setting: from the first day on, a day count as in hernganow_date, the mission has this edition (1 old, 2 new) and frame length.
- * Refused: 43, 44, 45, 46. */
+ * A mission is 0 to 255: C cuts a wider number down to that. Refused: 43, 44, 45, 46. */
 uint32_t hernganow_settings_add(
     uint8_t *settings, size_t settings_length,
     uint8_t mission, uint32_t edition, uint32_t day, uint32_t frame,

@@ -81,14 +81,22 @@ pub const HEADING: &str = "sheet rows ticked missing per-million";
 /// What a program refuses: the reason, with the file's name where one file is at fault.
 pub type Refused = String;
 
+fn too_many() -> Refused {
+    format!("more than {MOST_SHEETS} sheets (42)")
+}
+
+fn not_a_sheet(name: &str) -> Refused {
+    format!("{name}: not a ledger sheet (20)")
+}
+
 /// The table of the season whose sheets are in these files: name and bytes. Old sheets are converted first.
 pub fn table(files: &[(String, Vec<u8>)]) -> Result<String, Refused> {
     if files.len() > MOST_SHEETS {
-        return Err(format!("more than {MOST_SHEETS} sheets (42)"));
+        return Err(too_many());
     }
     let mut sheets = Vec::new();
     for (name, bytes) in files {
-        let sheet = new_sheet(bytes).ok_or_else(|| format!("{name}: not a ledger sheet (20)"))?;
+        let sheet = new_sheet(bytes).ok_or_else(|| not_a_sheet(name))?;
         sheets.extend(sheet);
     }
     // Right sheets, not too many: 41 alone is left.
@@ -120,20 +128,30 @@ fn new_sheet(bytes: &[u8]) -> Option<Vec<u8>> {
     convert(bytes, &mut sheet).ok().map(|()| sheet)
 }
 
-/// The table of the files named, or what is wrong on standard error. Answers whether all went well.
-pub fn report(names: &[OsString], out: &mut impl Write) -> io::Result<bool> {
+/// The system's reason, in its words alone.
+fn reason(error: &io::Error) -> String {
+    let said = error.to_string();
+    said.split(" (os error").next().unwrap_or(&said).to_string()
+}
+
+/// The files named, with their names: too many are refused before one is read, and then the first that is not there or is no sheet.
+fn read_sheets(names: &[OsString]) -> Result<Vec<(String, Vec<u8>)>, Refused> {
+    if names.len() > MOST_SHEETS {
+        return Err(too_many());
+    }
     let mut files = Vec::new();
     for name in names {
         let shown = name.to_string_lossy().into_owned();
-        match std::fs::read(name) {
-            Ok(bytes) => files.push((shown, bytes)),
-            Err(reason) => {
-                eprintln!("{shown}: {reason}");
-                return Ok(false);
-            }
-        }
+        let bytes = std::fs::read(name).map_err(|error| format!("{shown}: {}", reason(&error)))?;
+        new_sheet(&bytes).ok_or_else(|| not_a_sheet(&shown))?;
+        files.push((shown, bytes));
     }
-    match table(&files) {
+    Ok(files)
+}
+
+/// The table of the files named, or what is wrong on standard error. Answers whether all went well.
+pub fn report(names: &[OsString], out: &mut impl Write) -> io::Result<bool> {
+    match read_sheets(names).and_then(|files| table(&files)) {
         Ok(text) => out.write_all(text.as_bytes()).map(|()| true),
         Err(refused) => {
             eprintln!("{refused}");

@@ -34,6 +34,7 @@ pub const MOST_RUNS: usize = MOST_A + MOST_B;
 // What comes next in the script.
 pub enum Next {
     End,
+    Failed,
     Bad,
     Frame(Frame),
 }
@@ -41,11 +42,14 @@ pub enum Next {
 // Reads a frame, its two runs to the start of `runs`, one behind the other.
 pub(crate) fn read(runs: &mut [u8]) -> Next {
     let mut header = [0u8; HEADER];
-    let got = io::read_full(libc::STDIN_FILENO, &mut header);
-    if got == 0 {
+    let piece = turns::read_full(libc::STDIN_FILENO, &mut header);
+    if piece.failed {
+        return Next::Failed;
+    }
+    if piece.got == 0 {
         return Next::End;
     }
-    if got < HEADER {
+    if piece.got < HEADER {
         return Next::Bad;
     }
     read_runs(runs, read_header(&header))
@@ -79,7 +83,11 @@ fn read_runs(runs: &mut [u8], f: Frame) -> Next {
     if runs.len() < n {
         return Next::Bad;
     }
-    if io::read_full(libc::STDIN_FILENO, &mut runs[..n]) < n {
+    let piece = turns::read_full(libc::STDIN_FILENO, &mut runs[..n]);
+    if piece.failed {
+        return Next::Failed;
+    }
+    if piece.got < n {
         return Next::Bad;
     }
     Next::Frame(f)

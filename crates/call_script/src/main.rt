@@ -131,6 +131,10 @@ fn take_frame(
     let next = frame::read(runs);
     match next {
         Next::End => ended(s),
+        Next::Failed => {
+            os::fail(b"standard input");
+            return ended(s);
+        }
         Next::Bad => bad_frame(out, s),
         Next::Frame(f) => answer(f, runs, sheet, settings, out, s),
     }
@@ -215,6 +219,9 @@ fn kept_after(f: Frame, kept: Lengths) -> Lengths {
 // Writes the text that is laid out. A run whose text cannot be written ends.
 fn flush(out: &[u8], s: State) -> State {
     let is_written = io::write_all(libc::STDOUT_FILENO, frame::first(out, s.text));
+    if !is_written {
+        os::fail(b"standard output");
+    }
     let kept = s.kept;
     State {
         kept,

@@ -1,7 +1,8 @@
-// What the turns of the two listing programs share: a piece of the input is read in, and text is written.
+// What programs share that read and write in turns: a piece of the input is read in, or as much as there is room for, and text is written.
 ghost use mathlib.Core.Path.{_≡_};
 ghost use Prim.Native.Nat.{_≤_, _<_};
 ghost use lib.ListN.{length};
+ghost use Rattle.io.specs.Counts.{Counts};
 ghost use Rattle.text.specs.State.{emptied};
 ghost use Rattle.turns.specs.inner.Turn.{Behind};
 use text::State;
@@ -35,6 +36,28 @@ pub fn read_piece(fd: i32, w: &mut [u8], have: usize) -> Piece
     Piece {
         got: io::count(count, part),
         failed: count < 0,
+    }
+}
+
+// Reads until the slice is full, the input ends or a read fails, which brings no byte either.
+pub fn read_full(fd: i32, w: &mut [u8]) -> Piece
+    ensures { λ r. ⌜ Counts (r .got) (now (w .exit)) ⌝ }
+{
+    let mut have = 0;
+    while have < w.len() {
+        let piece = read_piece(fd, w, have);
+        let got = piece.got;
+        if got == 0 {
+            return Piece {
+                got: have,
+                failed: piece.failed,
+            };
+        }
+        have += got;
+    }
+    Piece {
+        got: have,
+        failed: false,
     }
 }
 

@@ -77,33 +77,33 @@ tickByteAfter calls = getD (sheetAfter calls freshSheet) (rowAt 0 + ticksAt) 0 �
 
 abbrev pub table : List Check
 table =
-    -- P1 telemetry, label length 100: N 120, empty data. 99: refused 5.
+    -- P1: the shortest telemetry record, 120 bytes with no data; with 99 in its label it is refused (5).
     numbers (take 3 (readOne (plain Telemetry 0))) (0 ∷ 1 ∷ 120 ∷ [])
     ∷ numbers (length (dataPart (plain Telemetry 0)) ∷ []) (0 ∷ [])
     ∷ numbers (readOne (relabelled 99 (plain Telemetry 0))) (5 ∷ 12 ∷ [])
-    -- P2 telemetry, label 65,635, data 65,535: the most. 65,636: refused 5.
+    -- P2: the longest, with 65,535 bytes of data; one more in its label is refused (5).
     ∷ numbers (take 3 (readOne (plain Telemetry 65535))) (0 ∷ 1 ∷ 65655 ∷ [])
     ∷ numbers (length (dataPart (plain Telemetry 65535)) ∷ []) (65535 ∷ [])
     ∷ numbers (readOne (relabelled 65636 (plain Telemetry 65535))) (5 ∷ 12 ∷ [])
-    -- P3 RSR label 240: N 260. 239: refused 5.
+    -- P3: the shortest RSR record, 260 bytes; with 239 in its label it is refused (5).
     ∷ numbers (take 3 (readOne (plain Rsr 0))) (0 ∷ 2 ∷ 260 ∷ [])
     ∷ numbers (readOne (relabelled 239 (plain Rsr 0))) (5 ∷ 12 ∷ [])
-    -- P4 bytes 6, 7 = 254, 5: spacecraft 517.
+    -- P4: the spacecraft is the low ten bits of its two bytes: 254 and 5 are 517.
     ∷ check (take 1 (drop 7 (readHeaders 1 p4))) (number 517 ∷ [])
-    -- P5 spacecraft 177, source 43, equipment 2, stream 1: key 760930632193.
+    -- P5: a telemetry key, from spacecraft, source, equipment and stream.
     ∷ numbers (telemetryKeyCall 177 43 2 1) (0 ∷ 760930632193 ∷ [])
-    -- P6 Px/No bytes 128, 255, 127: -128, -1, 127.
+    -- P6: Px/No is signed: the least, minus one, the most.
     ∷ check (take 1 (drop 19 (readHeaders 2 (p6 128)))) (signed (negsuc 127) ∷ [])
     ∷ check (take 1 (drop 19 (readHeaders 2 (p6 255)))) (signed (negsuc 0) ∷ [])
     ∷ check (take 1 (drop 19 (readHeaders 2 (p6 127)))) (signed (pos 127) ∷ [])
-    -- P7 telemetry row, first 4,294,967,290: number 3 at position 9; 1,017 is the last; 1,018 refused 28.
+    -- P7: a row whose numbers pass 2^32: 3 is ten numbers on from its first, 1,017 the last of its 1,024, and 1,018 is outside (28).
     ∷ numbers (position key highFirst 3 ∷ position key highFirst 1017 ∷ []) (9 ∷ 1023 ∷ [])
     ∷ numbers (verdicts p7) (0 ∷ 0 ∷ 0 ∷ 0 ∷ 28 ∷ 0 ∷ [])
     ∷ numbers (reportAfter p7) (0 ∷ 2 ∷ 1022 ∷ highFirst ∷ [])
-    -- P8 first 1, ticks 1, 2, 4: ticked 3, missing 1, lowest missing 3. No ticks: 0, 0, none.
+    -- P8: of 1 to 4 the third is missing; a row without ticks has nothing missing.
     ∷ numbers (reportAfter p8) (0 ∷ 3 ∷ 1 ∷ 3 ∷ [])
     ∷ numbers (reportAfter p8-empty) (0 ∷ 0 ∷ 0 ∷ [])
-    -- P9 A saves; B's save gives 31, the row has 1. B opens, ticks 2, saves: 1 and 2.
+    -- P9: two desks on one row: the second save is stale (31) and changes nothing in the row; opened and ticked again it adds its tick.
     ∷ numbers (verdicts p9) (0 ∷ 0 ∷ 0 ∷ 0 ∷ 0 ∷ 0 ∷ 31 ∷ 0 ∷ 0 ∷ 0 ∷ [])
     ∷ numbers (tickByteAfter p9-stale ++ reportAfter p9-stale) (1 ∷ 0 ∷ 1 ∷ 0 ∷ [])
     ∷ numbers (tickByteAfter p9 ++ reportAfter p9) (3 ∷ 0 ∷ 2 ∷ 0 ∷ [])

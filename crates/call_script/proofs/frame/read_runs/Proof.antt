@@ -39,6 +39,12 @@ same-length-2 c = search needs
 returns-5 : tie.Need-returns-5
 returns-5 c = search needs
 
+same-length-3 : tie.Need-same-length-3
+same-length-3 c = search needs
+
+returns-6 : tie.Need-returns-6
+returns-6 c = search needs
+
 pub read-runs-spec : {M : Type 1} → statement M
 read-runs-spec =
     tie.close
@@ -53,4 +59,6 @@ read-runs-spec =
     same-length
     returns-4
     same-length-2
-    returns-5)
+    returns-5
+    same-length-3
+    returns-6)
