@@ -96,7 +96,7 @@ table =
     ∷ check (take 1 (drop 19 (readHeaders 2 (p6 128)))) (signed (negsuc 127) ∷ [])
     ∷ check (take 1 (drop 19 (readHeaders 2 (p6 255)))) (signed (negsuc 0) ∷ [])
     ∷ check (take 1 (drop 19 (readHeaders 2 (p6 127)))) (signed (pos 127) ∷ [])
-    -- P7: a row whose numbers pass 2^32: 3 is ten numbers on from its first, 1,017 the last of its 1,024, and 1,018 is outside (28).
+    -- P7: a row whose numbers pass 2^32: 3 is nine numbers on from its first, 1,017 the last of its 1,024, and 1,018 is outside (28).
     ∷ numbers (position key highFirst 3 ∷ position key highFirst 1017 ∷ []) (9 ∷ 1023 ∷ [])
     ∷ numbers (verdicts p7) (0 ∷ 0 ∷ 0 ∷ 0 ∷ 28 ∷ 0 ∷ [])
     ∷ numbers (reportAfter p7) (0 ∷ 2 ∷ 1022 ∷ highFirst ∷ [])
