@@ -24,7 +24,7 @@ answers-same (A.Refused p) (A.Refused q) e = ap A.Refused (number-injective p q 
 counts-of : (ticked missing per-million : ℕ) → SheetCounts
 counts-of t m p = record { ticked = t; missing = m; «per_million» = p }
 
-counts-same : (c d : SheetCounts) → countsWords c ≡ countsWords d → c ≡ d
+pub counts-same : (c d : SheetCounts) → countsWords c ≡ countsWords d → c ≡ d
 unfolding counts-of
 counts-same c d e =
     let t : c .ticked ≡ d .ticked = cc in
