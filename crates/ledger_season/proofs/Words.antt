@@ -56,9 +56,9 @@ gaps-same (G.Gap s r n) (G.Gap t q m) e =
 report-of : Answer → ℕ → List SheetCounts → SheetCounts → SeasonGap → SeasonReport
 report-of a n cs t g = record { answer = a; count = n; sheets = cs; total = t; gap = g }
 
-pub same-season : DifferentSeasons
+pub one-answer : DifferentSeasons
 unfolding report-of
-same-season words r t x y =
+one-answer words r t x y =
     let long : length (r .sheets) ≡ length (t .sheets) = ap (λ p. p .0) x ∙ sym (ap (λ p. p .0) y) in
     let same : reportWords r ≡ reportWords t = ap (λ p. p .1) x ∙ sym (ap (λ p. p .1) y) in
     let numbers : answerNumber (r .answer) ≡ answerNumber (t .answer) = cc in
