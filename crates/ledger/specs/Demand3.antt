@@ -48,8 +48,8 @@ pub record Demand3 (start : List ℕ) (log : List Entry) (last : List ℕ) : Typ
   -- All answers are the model's, and the sheet at the end is the model's book laid out, byte for byte. The serial history is made of
   -- entries of the log, with its accepted enrolments, strikes and saves in their order; its calls, made on a fresh sheet, get the answers
   -- that they had in the log. A save by a desk with a row open is 31 exactly when the row's set is not the opened one, and then
-  -- another desk's accepted save of that row stands between. (A row that a desk has open is not struck, so its place holds the stream
-  -- that the desk opened until the desk saves or drops it.)
+  -- another desk's accepted save of that row stands between. A row that a desk has open has the key and the first number that it had
+  -- when the desk opened it (`AsOpened`), since it is not struck: so no desk saves into another stream's row.
   pub claim : Claim Promised layout log last
   -- The rows, and their count, are those of the serial history made on a fresh sheet, byte for byte.
   pub serial-rows : (again : List Entry) (end : List ℕ) → Chain Promised start again end → map callOf again ≡ map callOf (serial log)

@@ -16,7 +16,7 @@ use Rattle.ledger_model.specs.Claim.{Saved, Claim}
 use Rattle.ledger_model.proofs.Outcome.{outcome}
 use Rattle.ledger_model.proofs.WellFormed.{well-formed, fresh-well-formed}
 use Rattle.ledger_model.proofs.Replay.{replays-run, serial-run}
-use Rattle.ledger_model.proofs.Stale.{watching, OpenDesk, save-open, stale-exactly, stale-cause}
+use Rattle.ledger_model.proofs.Stale.{watching, opened-row, OpenDesk, save-open, stale-exactly, stale-cause}
 use Rattle.ledger_model.proofs.History.{serial-entries, serial-order, save-stands}
 
 -- ---- a log cut in two
@@ -61,9 +61,7 @@ module _ {S : Type 0} (Meets : Call → S → Answer → S → Type 0) (layout :
       with-open r k = record { row = r; opening = k; further = _; stands = ap serial split ∙ save-stands past future d r a k t }
 
       at : OpenDesk (bookAfter past) d → Saved log past d a
-      at o =
-          with-open (o .row)
-          (rw (past-is past _ split) at (watching (map callOf past) d (o .row) (o .opened) (o .worked) (o .is) .as-opened .opening))
+      at o = with-open (o .row) (opened-row past (past-is past _ split) d (o .row) (o .opened) (o .worked) (o .is) .opening)
 
   -- `meets`: the answers and the store are the model's in every chain of the serial history's calls.
   claim-from : (last : S) → last ≡ layout (bookAfter log)
@@ -82,7 +80,7 @@ module _ {S : Type 0} (Meets : Call → S → Answer → S → Type 0) (layout :
             let k = meets other end chain e in
             let same-run = ap (run fresh) e ∙ again in
             (sym (k .0) ∙ ap (λ x. x .log) same-run, k .1 ∙ ap (λ x. layout (x .book)) same-run);
-        as-opened = λ past future d r opened worked split x. rw (past-is past future split) at (watching (map callOf past) d r opened worked x .as-opened);
+        as-opened = λ past future d r opened worked split. opened-row past (past-is past future split) d r opened worked;
         stale-exactly = λ past future d r opened worked a split x.
             let w = watching (map callOf past) d r opened worked x in
             rw (save-is past future d a split) (stale-exactly (bookAfter past) d r opened worked (w .is-desk) x);

@@ -80,7 +80,7 @@ inv-desk b d x v w others k h = put-all closed (λ e. Kept (b .places) (w e) e) 
 
 -- ---- the places change, and no row that a desk has open its key or first number
 
-abbrev KeepsOpen : Book → List Place → Type 0
+abbrev pub KeepsOpen : Book → List Place → Type 0
 KeepsOpen b qs =
     (d r : ℕ) (opened worked : Positions) → desk b d ≡ working r opened worked
     → (key first : ℕ) (s : Positions) → place b r ≡ row key first s → (t : Positions) × (getD qs r free ≡ row key first t)
@@ -98,10 +98,10 @@ inv-places b v qs k h d = at (desk b d) refl (h d)
 abbrev pub NotOpen : Book → ℕ → Type 0
 NotOpen b r = (d r′ : ℕ) (opened worked : Positions) → desk b d ≡ working r′ opened worked → r′ ≢ r
 
-keeps-other : (b : Book) (r : ℕ) (p : Place) → NotOpen b r → KeepsOpen b (set (b .places) r p)
+pub keeps-other : (b : Book) (r : ℕ) (p : Place) → NotOpen b r → KeepsOpen b (set (b .places) r p)
 keeps-other b r p n d r′ opened worked e key first s h = (s, rw (getD-set-other (b .places) r r′ p free (n d r′ opened worked e)) h)
 
-keeps-saved : (b : Book) (r : ℕ) (w : Positions) → KeepsOpen b (set (b .places) r (withTicks w (place b r)))
+pub keeps-saved : (b : Book) (r : ℕ) (w : Positions) → KeepsOpen b (set (b .places) r (withTicks w (place b r)))
 keeps-saved b r w d r′ opened worked e key first s h = at (ℕ-discrete r′ r)
   where
     at : Dec (r′ ≡ r) → (t : Positions) × (getD (set (b .places) r (withTicks w (place b r))) r′ free ≡ row key first t)

@@ -11,7 +11,7 @@ use lib.Seq.{getD-set-other, append-snoc}
 use borrow.Author.Tests.{ne-eqb, eq-eqb}
 use Rattle.refusals.proofs.Numerals.{zero-is-one}
 use Rattle.ledger_model.specs.Positions.{Positions, same}
-use Rattle.ledger_model.specs.Book.{Place, free, Desk, closed, working, Book, fresh, place, desk, ticksOf, isDesk}
+use Rattle.ledger_model.specs.Book.{Place, free, row, Desk, closed, working, Book, fresh, place, desk, ticksOf, withTicks, isDesk}
 use Rattle.ledger_model.specs.Step.{Call, Enrol, Ask, Open, Mark, Save, Drop, Strike, Answer, done}
 use Rattle.ledger_model.specs.Step.{refused, accepted, Reply, step, Entry, _⇒_, callOf, run, bookAfter}
 use Rattle.ledger_model.specs.Stale.{openedBy, later, lastOpened, LastOpen, Overtaken}
@@ -20,7 +20,7 @@ use Rattle.ledger_model.proofs.Basics.{by-test, same-true, same-refl, n
 use Rattle.ledger_model.proofs.Steps.{save-step}
 use Rattle.ledger_model.proofs.Outcome.{Outcome, refusal, enrolment, asking, opening, unopened, unmarked}
 use Rattle.ledger_model.proofs.Outcome.{marking, saving, stale, dropping, striking, outcome}
-use Rattle.ledger_model.proofs.Replay.{inLog, Inv, NotOpen, free-not-open, transaction-snoc, good, fresh-inv}
+use Rattle.ledger_model.proofs.Replay.{inLog, Inv, KeepsOpen, NotOpen, keeps-other, keeps-saved, free-not-open, transaction-snoc, good, fresh-inv}
 
 -- ---- one more entry in a log
 
@@ -47,9 +47,14 @@ not-since-snoc : (d : ℕ) (since : List Entry) (e : Entry) → openedBy d e ≡
 unfolding lastOpened
 not-since-snoc d since e n h = lastOpened-append d since (e ∷ []) ∙ rw (h, n)
 
-opened-snoc : (log : List Entry) (e : Entry) (d r : ℕ) (opened : Positions) → openedBy d e ≡ none → AsOpened log d r opened
-    → AsOpened (log ++ e ∷ []) d r opened
-opened-snoc log e d r opened n k =
+-- Desk d's last accepted open, and the row that it opened.
+pub record Opened (log : List Entry) (d r key first : ℕ) (opened : Positions) : Type 0 where
+  pub opening : LastOpen log d r
+  pub was-row : place (bookAfter (opening .before)) r ≡ row key first opened
+
+opened-snoc : (log : List Entry) (e : Entry) (d r key first : ℕ) (opened : Positions) → openedBy d e ≡ none → Opened log d r key first opened
+    → Opened (log ++ e ∷ []) d r key first opened
+opened-snoc log e d r key first opened n k =
     let o = k .opening in
     record {
       opening = record {
@@ -60,7 +65,7 @@ opened-snoc log e d r opened n k =
         was-accepted = o .was-accepted;
         not-since = not-since-snoc d (o .since) e n (o .not-since);
       };
-      was-set = k .was-set;
+      was-row = k .was-row;
     }
 
 overtaken-snoc : (log : List Entry) (e : Entry) (d r : ℕ) → openedBy d e ≡ none → Overtaken log d r → Overtaken (log ++ e ∷ []) d r
@@ -78,11 +83,15 @@ overtaken-snoc log e d r n o =
 
 -- ---- the invariant
 
--- Desk d has row r open: it is the row of the desk's last accepted open, whose set it had as opened, and if the row's set is not
--- the opened one, another desk saved the row since.
+-- Desk d has row r open: it is the row of the desk's last accepted open, whose set it had as opened; it has the key and the first
+-- number that it had then; and if the row's set is not the opened one, another desk saved the row since.
 pub record Watching (log : List Entry) (ps : List Place) (d r : ℕ) (opened : Positions) : Type 0 where
   pub is-desk : isDesk d ≡ true
-  pub as-opened : AsOpened log d r opened
+  pub key : ℕ
+  pub first : ℕ
+  pub was-opened : Opened log d r key first opened
+  pub ticks : Positions
+  pub has-row : getD ps r free ≡ row key first ticks
   pub cause : (ticksOf (getD ps r free) ≡ opened) ⊎ Overtaken log d r
 
 abbrev pub Watched : List Entry → List Place → ℕ → Desk → Type 0
@@ -99,18 +108,34 @@ watched-snoc log e ps d closed n w = tt
 watched-snoc log e ps d (working r opened worked) n w =
     record {
       is-desk = w .is-desk;
-      as-opened = opened-snoc log e d r opened n (w .as-opened);
+      key = w .key;
+      first = w .first;
+      was-opened = opened-snoc log e d r (w .key) (w .first) opened n (w .was-opened);
+      ticks = w .ticks;
+      has-row = w .has-row;
       cause = ⊎-elim inl (λ o. inr (overtaken-snoc log e d r n o)) (w .cause);
     }
 
--- The places change: the row of an open desk keeps its set, or another desk saved it.
-watched-places : (log : List Entry) (ps qs : List Place) (d : ℕ) (x : Desk)
-    → ((r : ℕ) (opened worked : Positions) → x ≡ working r opened worked
-    → (ticksOf (getD qs r free) ≡ ticksOf (getD ps r free)) ⊎ Overtaken log d r)
-    → Watched log ps d x → Watched log qs d x
-watched-places log ps qs d closed f w = tt
-watched-places log ps qs d (working r opened worked) f w =
-    record { is-desk = w .is-desk; as-opened = w .as-opened; cause = ⊎-elim (λ p. ⊎-elim (λ q. inl (q ∙ p)) inr (f r opened worked refl)) inr (w .cause) }
+-- The places change: the row of an open desk keeps its key and first number, and its set too, or another desk saved it.
+watched-places : (log : List Entry) (b : Book) (qs : List Place) (d : ℕ) → KeepsOpen b qs
+    → ((r : ℕ) (opened worked : Positions) → desk b d ≡ working r opened worked
+    → (ticksOf (getD qs r free) ≡ ticksOf (place b r)) ⊎ Overtaken log d r)
+    → Watched log (b .places) d (desk b d) → Watched log qs d (desk b d)
+watched-places log b qs d keeps f = at (desk b d) refl
+  where
+    at : (x : Desk) → desk b d ≡ x → Watched log (b .places) d x → Watched log qs d x
+    at closed e w = tt
+    at (working r opened worked) e w =
+        let now = keeps d r opened worked e (w .key) (w .first) (w .ticks) (w .has-row) in
+        record {
+          is-desk = w .is-desk;
+          key = w .key;
+          first = w .first;
+          was-opened = w .was-opened;
+          ticks = now .0;
+          has-row = now .1;
+          cause = ⊎-elim (λ p. ⊎-elim (λ q. inl (q ∙ p)) inr (f r opened worked e)) inr (w .cause);
+        }
 
 -- ---- what one call does
 
@@ -137,22 +162,23 @@ module _ (log : List Entry) (b : Book) (is : b ≡ bookAfter log) (h : Inv b (in
   place-watch : (e : Entry) (r : ℕ) (p : Place) → ((d : ℕ) → openedBy d e ≡ none) → NotOpen b r
       → (d : ℕ) → Watched (log ++ e ∷ []) (set (b .places) r p) d (desk b d)
   place-watch e r p none-opened n d =
-      watched-places _ (b .places) _ d (desk b d)
+      watched-places _ b _ d (keeps-other b r p n)
       (λ r′ opened worked x. inl (ap ticksOf (getD-set-other (b .places) r r′ p free (n d r′ opened worked x))))
       (grown e d (none-opened d))
 
   -- Another desk with the saved row open is overtaken.
-  save-watch : (d r : ℕ) (opened worked : Positions) (p : Place) → desk b d ≡ working r opened worked
-      → (e : ℕ) → e ≢ d → Watched (log ++ (Save d ⇒ done) ∷ []) (set (b .places) r p) e (desk b e)
+  save-watch : (d r : ℕ) (opened worked : Positions) → desk b d ≡ working r opened worked
+      → (e : ℕ) → e ≢ d → Watched (log ++ (Save d ⇒ done) ∷ []) (set (b .places) r (withTicks worked (place b r))) e (desk b e)
   unfolding openedBy lastOpened
-  save-watch d r opened worked p x e n =
-      watched-places _ (b .places) _ e (desk b e) (λ r′ opened′ worked′ y. at r′ (ℕ-discrete r′ r) (rw y at (w e))) (grown _ e refl)
+  save-watch d r opened worked x e n =
+      watched-places _ b _ e (keeps-saved b r worked) (λ r′ opened′ worked′ y. at r′ (ℕ-discrete r′ r) (rw y at (w e))) (grown _ e refl)
     where
       saver : Watching log (b .places) d r opened
       saver = rw x at (w d)
 
       at : (r′ : ℕ) {opened′ : Positions} → Dec (r′ ≡ r) → Watching log (b .places) e r′ opened′
-          → (ticksOf (getD (set (b .places) r p) r′ free) ≡ ticksOf (getD (b .places) r′ free)) ⊎ Overtaken (log ++ (Save d ⇒ done) ∷ []) e r′
+          → (ticksOf (getD (set (b .places) r (withTicks worked (place b r))) r′ free) ≡ ticksOf (place b r′))
+          ⊎ Overtaken (log ++ (Save d ⇒ done) ∷ []) e r′
       at r′ (yes q) k =
           inr
           record {
@@ -161,11 +187,11 @@ module _ (log : List Entry) (b : Book) (is : b ≡ bookAfter log) (h : Inv b (in
             other = d;
             split = refl;
             is-other = λ q′. n (sym q′);
-            saved-row = rw q (last-opened log d r (saver .as-opened .opening));
-            had-opened = last-opened log e r′ (k .as-opened .opening);
+            saved-row = rw q (last-opened log d r (saver .was-opened .opening));
+            had-opened = last-opened log e r′ (k .was-opened .opening);
             not-since = refl;
           }
-      at r′ (no m) k = inl (ap ticksOf (getD-set-other (b .places) r r′ p free m))
+      at r′ (no m) k = inl (ap ticksOf (getD-set-other (b .places) r r′ _ free m))
 
   watch : {c : Call} {s : Reply} → Outcome b c s → Watch (log ++ (c ⇒ s .answer) ∷ []) (s .book)
   unfolding openedBy lastOpened
@@ -176,10 +202,14 @@ module _ (log : List Entry) (b : Book) (is : b ≡ bookAfter log) (h : Inv b (in
       put-all closed (Watched _ (b .places)) (b .desks) d _ tt
       record {
         is-desk = t;
-        as-opened = record {
+        key = key;
+        first = first;
+        was-opened = record {
           opening = record { before = log; since = []; answer = done; split = refl; was-accepted = refl; not-since = refl };
-          was-set = sym (ap (λ x. ticksOf (place x r)) is) ∙ ap ticksOf e;
+          was-row = sym (ap (λ x. place x r) is) ∙ e;
         };
+        ticks = s;
+        has-row = e;
         cause = inl (ap ticksOf e);
       }
       (λ d′ n. grown _ d′ (rw (ne-eqb d d′ (λ q. n (sym q)))))
@@ -187,7 +217,7 @@ module _ (log : List Entry) (b : Book) (is : b ≡ bookAfter log) (h : Inv b (in
   watch (unmarked r opened worked i number e p q z) = λ d. grown _ d refl
   watch (marking {flag = flag} {d = d} {n = n} r opened worked i e p q) =
       desk-watch _ d _ (λ d′. refl) (rw (e .1) at (grown (Mark flag d n ⇒ done) d refl))
-  watch (saving {d = d} r opened worked e t) = put-all closed (Watched _ _) (b .desks) d closed tt tt (save-watch d r opened worked _ (e .1))
+  watch (saving {d = d} r opened worked e t) = put-all closed (Watched _ _) (b .desks) d closed tt tt (save-watch d r opened worked (e .1))
   watch (stale {d = d} r opened worked e t) = desk-watch _ d closed (λ d′. refl) tt
   watch (dropping {d = d} t x) = desk-watch _ d closed (λ d′. refl) tt
   watch (striking {r = r} f n) = place-watch _ r free (λ d. refl) (λ d q opened worked. not-open (b .desks) r d q opened worked n)
@@ -218,6 +248,20 @@ fresh-is = refl
 pub watching : (calls : List Call) (d r : ℕ) (opened worked : Positions) → desk (run fresh calls .book) d ≡ working r opened worked
     → Watching (run fresh calls .log) (run fresh calls .book .places) d r opened
 watching calls d r opened worked e = rw e at (watch-run calls [] fresh fresh-is fresh-inv (λ d′. rw (idle-desk 8 d′) tt) d)
+
+-- The row that a desk has open after a log, as the claim has it. `is-log`: the answers of the log are the model's.
+pub opened-row : (past : List Entry) → run fresh (map callOf past) .log ≡ past → (d r : ℕ) (opened worked : Positions)
+    → desk (bookAfter past) d ≡ working r opened worked → AsOpened past d r opened
+opened-row past is-log d r opened worked e =
+    let w = watching (map callOf past) d r opened worked e in
+    let o : Opened past d r (w .key) (w .first) opened = rw is-log at (w .was-opened) in
+    record {
+      opening = o .opening;
+      key = w .key;
+      first = w .first;
+      was-row = o .was-row;
+      same-stream = w .has-row ∙ ap (row (w .key) (w .first)) (sym (ap ticksOf (w .has-row)));
+    }
 
 -- An accepted save is by a desk with a row open.
 pub record OpenDesk (b : Book) (d : ℕ) : Type 0 where

@@ -6,7 +6,7 @@ use mathlib.Core.Logic.{_≢_, _↔_}
 use mathlib.Core.Bool.{true}
 use mathlib.Core.List.{List, _∷_, _++_, map, List·Memᴰ}
 use Rattle.ledger_model.specs.Positions.{Positions}
-use Rattle.ledger_model.specs.Book.{working, Book, idle, fresh, place, desk, ticksOf}
+use Rattle.ledger_model.specs.Book.{row, working, Book, idle, fresh, place, desk, ticksOf}
 use Rattle.ledger_model.specs.Step.{Call, Open, Save, Answer, refused, accepted, Entry, _⇒_, callOf, run, bookAfter}
 use Rattle.ledger_model.specs.History.{serial, marksOf, results}
 use Rattle.ledger_model.specs.Stale.{LastOpen, Overtaken}
@@ -20,10 +20,14 @@ pub record Saved (log past : List Entry) (d : ℕ) (a : Answer) : Type 0 where
   pub further : List Entry
   pub stands : serial log ≡ serial past ++ ((Open d row ⇒ opening .answer) ∷ marksOf d (opening .since)) ++ (Save d ⇒ a) ∷ further
 
--- Desk d has row r open, and what it has as opened is the row's set at its last accepted open.
+-- Desk d has row r open. At the desk's last accepted open the row was a stream's, with this key, first number and the set that the
+-- desk has as opened; and it is that stream's row now, whatever its set.
 pub record AsOpened (past : List Entry) (d r : ℕ) (opened : Positions) : Type 0 where
   pub opening : LastOpen past d r
-  pub was-set : ticksOf (place (bookAfter (opening .before)) r) ≡ opened
+  pub key : ℕ
+  pub first : ℕ
+  pub was-row : place (bookAfter (opening .before)) r ≡ row key first opened
+  pub same-stream : place (bookAfter past) r ≡ row key first (ticksOf (place (bookAfter past) r))
 
 pub record Claim {S : Type 0} (Meets : Call → S → Answer → S → Type 0) (layout : Book → S) (log : List Entry) (last : S) : Type 0 where
   -- 1. The answers are the model's, and the store left is the model's book laid out.
@@ -39,7 +43,8 @@ pub record Claim {S : Type 0} (Meets : Call → S → Answer → S → Type 0) (
   pub serial-run : run fresh (map callOf (serial log)) ≡ record { log = serial log; book = idle (bookAfter log .places) }
   pub serial-store : (again : List Entry) (end : S) → Chain Meets (layout fresh) again end → map callOf again ≡ map callOf (serial log)
       → (again ≡ serial log) × (end ≡ layout (idle (bookAfter log .places)))
-  -- 3. What a desk has as opened is the row's set at its last accepted open.
+  -- 3. What a desk has as opened is the row's set at its last accepted open, and the row is still that stream's: no desk can save into
+  -- another stream's row.
   pub as-opened : (past future : List Entry) (d r : ℕ) (opened worked : Positions) → log ≡ past ++ future
       → desk (bookAfter past) d ≡ working r opened worked → AsOpened past d r opened
   -- A save by a desk with a row open is stale exactly when the row's set is not the opened one,

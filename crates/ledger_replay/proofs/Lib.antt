@@ -4,3 +4,4 @@ pub mod Written
 pub mod Turns
 pub mod Kept
 pub mod Nights
+pub mod Words

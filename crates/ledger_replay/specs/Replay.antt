@@ -1,6 +1,7 @@
 -- Document 02, request 11: a trace played again. Every call is `onSheet (call c)`, which the ledger's contracts cite. Assumes nothing.
 -- The manual, docs/INTERFACE.md: "A night in a trace, played again".
 use Prim.Native.Nat.{ℕ, suc}
+use mathlib.Core.Path.{_≡_}
 use mathlib.Core.Bool.{Bool, cond, not, _&&_}
 use mathlib.Core.List.{List, [], _∷_}
 use lib.Dec.{eqb}
@@ -21,6 +22,10 @@ abbrev pub replayedWords : Replayed → List ℕ
 replayedWords Same = 0 ∷ []
 replayedWords (Differs entry number row) = 0 ∷ entry ∷ number ∷ row ∷ []
 replayedWords (Refused r) = numberOf r ∷ []
+
+-- Different answers have different words.
+abbrev pub DifferentReplays : Type 0
+DifferentReplays = (a b : Replayed) → replayedWords a ≡ replayedWords b → a ≡ b
 
 -- Of an answer's words: the refusal's number or 0, and the row, which enrol alone has.
 unfoldable pub told : List ℕ → Told

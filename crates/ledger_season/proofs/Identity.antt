@@ -8,7 +8,6 @@ use mathlib.Core.Path.{_≡_, refl, ap, _∙_, subst}
 use lib.Dec.{lit<}
 use lib.ListN.{length, getD, length-append}
 use borrow.Author.Tests.{le-ltb}
-use Rattle.refusals.specs.Judge.{judge}
 use Rattle.octets.proofs.Laws.{all-each}
 use Rattle.octets.proofs.Parts.{part-whole, part-first, part-second}
 use Rattle.ledger_model.specs.Book.{fresh}
@@ -26,12 +25,12 @@ use Rattle.ledger_layout.proofs.Right.{reads-back, layout-right}
 use Rattle.octets.proofs.Lists.{table-is}
 use Rattle.ledger.specs.Demand3.{MadeFresh, Promised}
 use Rattle.ledger.proofs.Demand3.{demand-3}
-use Rattle.ledger_season.specs.Report.{mostSheets, tickedIn, inAll, report, keyInTwo}
-use Rattle.ledger_season.specs.Season.{sheetAt, sheetCount, booksTo, books, rightTo, season, reportWords, Answers}
+use Rattle.ledger_season.specs.Report.{mostSheets, tickedIn, inAll, keyInTwo}
+use Rattle.ledger_season.specs.Season.{sheetAt, sheetCount, booksTo, books, rightTo, season, Answers}
 use Rattle.ledger_season.specs.Identity.{Grown, no-sheet, and-sheet, laidInOne, overLogs, Identity}
 use Rattle.ledger_season.specs.declared.SeasonReport.{SeasonReport}
 use Rattle.ledger_season.proofs.Judged.{wrongLength}
-use Rattle.ledger_season.proofs.Read.{Given, taken, refused, given, done-if-zero}
+use Rattle.ledger_season.proofs.Read.{Given, taken, refused, accepts, given}
 use Rattle.ledger_season.proofs.Laws.{total-ticked}
 
 -- ---- one sheet
@@ -120,19 +119,15 @@ module _ (logs : List (List Entry)) (sheets : List (List ℕ)) (h : Sheets logs 
       rw counted
       (all-each (length sheets) _ (λ k l. rw (h .sheet-is k l) (layout-right (getD (map bookAfter logs) k fresh) (h .book-ok k l))))
 
-  taken-if : (r : SeasonReport) → reportWords r ≡ season s → length sheets ≤ mostSheets → keyInTwo (map bookAfter logs) ≡ false → r .answer ≡ A.Done
-  unfolding season judge
-  taken-if r e few once =
-      let once-in-books : keyInTwo (books s) ≡ false = rw books-are once in
-      let words : reportWords r ≡ 0 ∷ report (books s) = e ∙ rw (not-long few, are-right, once-in-books) in
-      done-if-zero (r .answer) (cc)
+  taken-if : (r : SeasonReport) → Answers (season s) r → length sheets ≤ mostSheets → keyInTwo (map bookAfter logs) ≡ false → r .answer ≡ A.Done
+  taken-if r answers few once = accepts s r (not-long few) are-right (rw books-are once) answers
 
 pub season-identity : {logs : List (List Entry)} {sheets : List (List ℕ)} → Grown logs sheets → (r : SeasonReport)
     → Answers (season (laidInOne sheets)) r → Identity logs sheets r
 unfolding s
 season-identity {logs} {sheets} grown r answers =
     let h = sheets-of grown in
-    record { accepted = taken-if logs sheets h r (ap (λ p. p .1) answers); balanced = balance h (given (laidInOne sheets) r answers) }
+    record { accepted = taken-if logs sheets h r answers; balanced = balance h (given (laidInOne sheets) r answers) }
   where
     balance : Sheets logs sheets → Given (laidInOne sheets) r → r .answer ≡ A.Done → r .total .ticked + overLogs savedUnticks logs ≡ overLogs savedTicks logs
     balance h (taken d fits right-all k) done =

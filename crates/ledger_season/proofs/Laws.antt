@@ -182,17 +182,17 @@ module _ (s : List ℕ) (right-is : right s ≡ true) where
 
 -- a slice as long as one sheet
 module _ (s : List ℕ) (long : length s ≡ sheetSize) where
-  one : sheetCount s ≡ 1
+  pub one : sheetCount s ≡ 1
   one = omega (arith, long)
 
-  whole : sheetAt s 0 ≡ s
+  pub whole : sheetAt s 0 ≡ s
   whole = part-whole s sheetSize long
 
-  one-book : books s ≡ bookOf s ∷ []
+  pub one-book : books s ≡ bookOf s ∷ []
   unfolding booksTo table
   one-book = rw (one, whole)
 
-  one-sum : (count : Book → ℕ) → inAll count (books s) ≡ count (bookOf s)
+  pub one-sum : (count : Book → ℕ) → inAll count (books s) ≡ count (bookOf s)
   unfolding inAll
   one-sum count = rw one-book (omega arith)
 

@@ -6,3 +6,4 @@ pub mod Read
 pub mod Laws
 pub mod Identity
 pub mod Words
+pub mod Alone

@@ -74,6 +74,14 @@ pub done-if-zero : (a : Answer) → answerNumber a ≡ 0 → a ≡ A.Done
 done-if-zero A.Done e = refl
 done-if-zero (A.Refused why) e = absurd (number-positive why e)
 
+-- What no rule refuses is accepted.
+pub accepts : (s : List ℕ) (r : SeasonReport) → wrongLength s ≡ false → rightTo s (sheetCount s) ≡ true → keyInTwo (books s) ≡ false
+    → Answers (season s) r → r .answer ≡ A.Done
+unfolding season judge
+accepts s r long right-all once answers =
+    let words : reportWords r ≡ 0 ∷ report (books s) = ap (λ p. p .1) answers ∙ rw (long, right-all, once) in
+    done-if-zero (r .answer) (cc)
+
 pub given : (s : List ℕ) (r : SeasonReport) → Answers (season s) r → Given s r
 unfolding season judge
 given s r answers = by (wrongLength s) refl (rightTo s (sheetCount s)) refl (keyInTwo (books s)) refl

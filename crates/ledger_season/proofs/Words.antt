@@ -1,4 +1,4 @@
--- No two answers have the same words. Assumes nothing.
+-- Different answers have different words. Assumes nothing.
 use Prim.Native.Nat.{ℕ}
 use native.Mathlib.Omega.{arith}
 use mathlib.Core.List.{List, [], _∷_, _++_}
@@ -8,7 +8,7 @@ use Rattle.refusals.proofs.Laws.{number-positive, number-injective}
 use Rattle.refusals.proofs.Numerals.{zero-is-one}
 use Rattle.ledger_sheet.specs.declared.Answer.{Answer}
 use Rattle.ledger_sheet.specs.declared.Answer.the-variants as A
-use Rattle.ledger_season.specs.Season.{answerNumber, countsWords, sheetsWords, orFurther, reportWords, Answers}
+use Rattle.ledger_season.specs.Season.{answerNumber, countsWords, sheetsWords, orFurther, reportWords, DifferentSeasons}
 use Rattle.ledger_season.specs.declared.SheetCounts.{SheetCounts}
 use Rattle.ledger_season.specs.declared.SeasonGap.{SeasonGap}
 use Rattle.ledger_season.specs.declared.SeasonGap.the-variants as G
@@ -24,7 +24,7 @@ answers-same (A.Refused p) (A.Refused q) e = ap A.Refused (number-injective p q 
 counts-of : (ticked missing per-million : ℕ) → SheetCounts
 counts-of t m p = record { ticked = t; missing = m; «per_million» = p }
 
-counts-same : (c d : SheetCounts) → countsWords c ≡ countsWords d → c ≡ d
+pub counts-same : (c d : SheetCounts) → countsWords c ≡ countsWords d → c ≡ d
 unfolding counts-of
 counts-same c d e =
     let t : c .ticked ≡ d .ticked = cc in
@@ -56,7 +56,7 @@ gaps-same (G.Gap s r n) (G.Gap t q m) e =
 report-of : Answer → ℕ → List SheetCounts → SheetCounts → SeasonGap → SeasonReport
 report-of a n cs t g = record { answer = a; count = n; sheets = cs; total = t; gap = g }
 
-pub one-answer : (words : List ℕ) (r t : SeasonReport) → Answers words r → Answers words t → r ≡ t
+pub one-answer : DifferentSeasons
 unfolding report-of
 one-answer words r t x y =
     let long : length (r .sheets) ≡ length (t .sheets) = ap (λ p. p .0) x ∙ sym (ap (λ p. p .0) y) in

@@ -1,5 +1,5 @@
 -- What is to be known of every season's answer. Assumes nothing.
-use Prim.Native.Nat.{ℕ, zero, suc, _+_}
+use Prim.Native.Nat.{ℕ, zero, suc, _+_, _<_}
 use mathlib.Core.List.{List, [], _∷_}
 use mathlib.Core.Logic.{_↔_}
 use mathlib.Core.Path.{_≡_}
@@ -8,6 +8,7 @@ use Rattle.ledger_model.specs.Step.{Ask, RowReport}
 use Rattle.ledger_sheet.specs.Sheet.{sheetSize, rowCount}
 use Rattle.ledger_sheet.specs.declared.Answer.the-variants as A
 use Rattle.ledger_layout.specs.Layout.{call, onSheet}
+use Rattle.ledger_season.specs.Season.{sheetAt, season, Answers}
 use Rattle.ledger_season.specs.declared.SheetCounts.{SheetCounts}
 use Rattle.ledger_season.specs.declared.SeasonGap.the-variants as G
 use Rattle.ledger_season.specs.declared.SeasonReport.{SeasonReport}
@@ -32,3 +33,14 @@ pub record Laws (s : List ℕ) (r : SeasonReport) : Type 0 where
   -- The season of one sheet is its rows' reports added up.
   pub one-ticked : length s ≡ sheetSize → r .answer ≡ A.Done → r .total .ticked ≡ overRows s 1 rowCount
   pub one-missing : length s ≡ sheetSize → r .answer ≡ A.Done → r .total .missing ≡ overRows s 2 rowCount
+
+-- The season of sheet k alone is accepted, and its numbers in all are those at place k of the answer r, whatever is read outside its list.
+pub record Alone (r : SeasonReport) (k : ℕ) (alone : SeasonReport) : Type 0 where
+  pub accepted : alone .answer ≡ A.Done
+  pub numbers : (outside : SheetCounts) → getD (r .sheets) k outside ≡ alone .total
+
+-- Of every sheet of an accepted season.
+abbrev pub EachAlone : Type 0
+EachAlone =
+    (s : List ℕ) (r : SeasonReport) → Answers (season s) r → r .answer ≡ A.Done → (k : ℕ) → k < r .count
+    → (alone : SeasonReport) → Answers (season (sheetAt s k)) alone → Alone r k alone

@@ -76,3 +76,7 @@ reportWords r = answerNumber (r .answer) ∷ r .count ∷ sheetsWords (r .sheets
 -- The answer r has these words, and 16 sheets, as its type says.
 abbrev pub Answers : List ℕ → SeasonReport → Type 0
 Answers words r = _≡_ {A = ℕ × List ℕ} (length (r .sheets), reportWords r) (mostSheets, words)
+
+-- Different answers have different words.
+abbrev pub DifferentSeasons : Type 0
+DifferentSeasons = (words : List ℕ) (a b : SeasonReport) → Answers words a → Answers words b → a ≡ b

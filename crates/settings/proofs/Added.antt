@@ -17,7 +17,7 @@ use Rattle.settings.specs.declared.Found.the-variants.{Nothing, Latest}
 use Rattle.settings.specs.Model.{places, known, isOf, holds, picked, latest, Outcome, addRules, add, ask, WellFormed}
 use Rattle.settings.specs.Sheet.{settingsOf, right}
 use Rattle.settings.specs.Layout.{layout, laidOut, onSheet}
-use Rattle.settings.specs.Claims.{answerTo, Added}
+use Rattle.settings.specs.Claims.{answerTo, Added, EveryAdd}
 use Rattle.settings.proofs.Model.{different-more, latest-more, fine-more}
 use Rattle.settings.proofs.Sheets.{read-fine, reads-back, layout-right}
 use Rattle.settings.proofs.Latest.{Each, latest-each}
@@ -155,3 +155,6 @@ module _ (m e d f : ℕ) (s : List ℕ) (bytes : Bytes s) (hm : m < 256 ^ 1) (hd
       by : (b : Bool) → right s ≡ b → Added m e d f s (onSheet (add m e d f) s .1)
       by false r = refused-added r
       by true r = right-added r
+
+pub every-add : EveryAdd
+every-add m e d f s bytes = added m e d f s (λ k. record { fits = bytes k })

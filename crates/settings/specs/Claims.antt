@@ -1,14 +1,15 @@
 -- What is claimed of the calls beyond their contracts. Assumes nothing.
 -- The manual, docs/INTERFACE.md: "Mission settings".
-use Prim.Native.Nat.{ℕ, _≤_, _<_}
+use Prim.Native.Nat.{ℕ, _≤_, _<_, _^_}
 use mathlib.Core.Bool.{true}
 use mathlib.Core.List.{List, [], _∷_, List·Memᴰ}
 use mathlib.Core.Logic.{_≢_}
 use mathlib.Core.Path.{_≡_}
+use lib.ListN.{getD}
 use Rattle.settings.specs.declared.Setting.{Setting}
 use Rattle.settings.specs.declared.Found.{Found}
 use Rattle.settings.specs.declared.Found.the-variants.{Nothing, Latest}
-use Rattle.settings.specs.Model.{add, ask, WellFormed}
+use Rattle.settings.specs.Model.{latest, add, ask, WellFormed}
 use Rattle.settings.specs.Sheet.{settingsOf, right}
 use Rattle.settings.specs.Layout.{onSheet}
 
@@ -28,7 +29,11 @@ abbrev pub Finds : (mission day : ℕ) → List Setting → Found → Type 0
 Finds mission day xs Nothing = (y : Setting) → List·Memᴰ y xs → OldEnough mission day y → ⊥
 Finds mission day xs (Latest x) = IsLatest mission day xs x
 
--- ---- adding, on any slice of bytes
+-- That is what `latest` finds, of which `ask` gives the words, among any settings.
+abbrev pub EveryFind : Type 0
+EveryFind = (mission day : ℕ) (xs : List Setting) → Finds mission day xs (latest mission day xs)
+
+-- ---- adding, on any slice of bytes: s before, t after
 
 abbrev pub answerTo : (mission day : ℕ) → List ℕ → List ℕ
 answerTo mission day s = onSheet (ask mission day) s .0
@@ -40,6 +45,12 @@ pub record Added (mission edition day frame : ℕ) (s t : List ℕ) : Type 0 whe
   -- An accepted setting is given for its mission on its first day.
   pub gives : onSheet (add mission edition day frame) s .0 ≡ 0 ∷ [] → answerTo mission day t ≡ 0 ∷ edition ∷ day ∷ frame ∷ []
   pub stays-right : right s ≡ true → right t ≡ true
+
+-- That holds of what `add` leaves of any slice of bytes, whether it accepts the setting or not; the numbers are those of its arguments' types.
+abbrev pub EveryAdd : Type 0
+EveryAdd =
+    (mission edition day frame : ℕ) (s : List ℕ) → ((k : ℕ) → getD s k 0 < 256) → mission < 256 ^ 1 → day < 256 ^ 4 → frame < 256 ^ 4
+    → Added mission edition day frame s (onSheet (add mission edition day frame) s .1)
 
 -- ---- the order of adding
 

@@ -43,15 +43,15 @@ RsrAlone s = AllRsr (walkFrom s 0 .entries)
 abbrev pub RsrStreams : Type 0
 RsrStreams = (s : List ℕ) → RsrAlone s → Enough s (mostRecords Rsr (length s))
 
--- No smaller number would do, whatever the length: there is a stream of n of the shortest records, and every list of fewer than n
--- entries answers 16 there. Its RSR records are RSR alone.
-pub record Needed (k : Kind) (n : ℕ) : Type 0 where
+-- No smaller number would do, whatever the length: there is a stream of so many bytes that has that number of whole records, and every
+-- list of fewer entries answers 16 there. For the number for RSR streams, it is a stream of RSR alone.
+pub record Needed (k : Kind) (bytes : ℕ) : Type 0 where
   pub stream : List ℕ
-  pub bytes : length stream ≡ n * dataValueAt k
-  pub holds : length (walkFrom stream 0 .entries) ≡ n
+  pub long : length stream ≡ bytes
+  pub holds : length (walkFrom stream 0 .entries) ≡ mostRecords k bytes
   pub alone : k ≡ Rsr → RsrAlone stream
-  pub numbers-full : (old : Columns) → shortest old < n → stopNumber (listNumbers stream old .0) ≡ 16
-  pub table-full : (old : List Entry) → length old < n → stopNumber (listEntries stream old .0) ≡ 16
+  pub numbers-full : (old : Columns) → shortest old < mostRecords k bytes → stopNumber (listNumbers stream old .0) ≡ 16
+  pub table-full : (old : List Entry) → length old < mostRecords k bytes → stopNumber (listEntries stream old .0) ≡ 16
 
 abbrev pub LeastNumber : Type 0
-LeastNumber = (k : Kind) (n : ℕ) → Needed k n
+LeastNumber = (k : Kind) (bytes : ℕ) → Needed k bytes
