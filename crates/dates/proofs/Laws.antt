@@ -4,7 +4,7 @@ use Prim.Native.Nat.{ℕ, zero, suc, _+_, _-_, _<_, _≤_}
 use native.Mathlib.Nat.{add-zero, le-refl}
 use native.Mathlib.Omega.{arith}
 use mathlib.Core.Path.{_≡_, refl, ap}
-use mathlib.Core.Bool.{Bool, true, false, cond, _&&_}
+use mathlib.Core.Bool.{Bool, true, false, cond, _&&_, false≢true}
 use mathlib.Core.List.{[], _∷_}
 use lib.Dec.{leb, ltb}
 use borrow.Author.Tests.{ltb-true, ltb-false, leb-true, leb-false, lt-ltb, le-ltb, le-leb}
@@ -207,7 +207,7 @@ pub forth-from-back : ForthFromBack
 forth-from-back count year day e = at (ltb 402131 count) refl
   where
     at : (t : Bool) → ltb 402131 count ≡ t → (isDate year day ≡ true) × (dayCount year day ≡ count)
-    at true t = let r = refused count (ltb-true _ _ t) in absurd (let z : _≡_ {A = ℕ} 0 33 = cc in omega arith)
+    at true t = let r = refused count (ltb-true _ _ t) in absurd (false≢true cc)
     at false t =
         let d = count-from-back count (ltb-false _ _ t) in
         let y : d .year ≡ year = cc (d .back) in

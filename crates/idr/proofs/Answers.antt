@@ -4,7 +4,6 @@ use mathlib.Core.List.{List}
 use mathlib.Core.Path.{_≡_, refl, sym, ap}
 use lib.ListN.{getD, take, drop}
 use Rattle.refusals.proofs.Laws.{number-injective, number-positive}
-use Rattle.refusals.proofs.Numerals.{zero-is-one}
 use Rattle.idr.specs.declared.Origin.{Origin}
 use Rattle.idr.specs.declared.Time.{Time}
 use Rattle.idr.specs.declared.Recorder.{Recorder}
@@ -74,8 +73,8 @@ same-status f g e = λ i. record {
 
 same-count : (a b : Count) → countWords a ≡ countWords b → a ≡ b
 same-count (Samples n) (Samples m) e = ap Samples (word 0 e)
-same-count (Samples n) Unknown e = zero-is-one cc
-same-count Unknown (Samples m) e = zero-is-one cc
+same-count (Samples n) Unknown e = cc
+same-count Unknown (Samples m) e = cc
 same-count Unknown Unknown e = refl
 
 pub same-read : DifferentReads
@@ -87,9 +86,9 @@ same-read (Tagged o t p r q n) (Tagged o′ t′ p′ r′ q′ n′) e =
     let status = same-status q q′ (group 27 6 e) in
     let count = same-count n n′ (ap (drop 33) e) in
     λ i. Tagged (origin i) (time i) (recorder i) (reduction i) (status i) (count i)
-same-read (Tagged o t p r q n) Untagged e = zero-is-one cc
+same-read (Tagged o t p r q n) Untagged e = cc
 same-read (Tagged o t p r q n) (Refused s) e = absurd (number-positive s (sym (word 0 e)))
-same-read Untagged (Tagged o t p r q n) e = zero-is-one cc
+same-read Untagged (Tagged o t p r q n) e = cc
 same-read Untagged Untagged e = refl
 same-read Untagged (Refused s) e = absurd (number-positive s (sym (word 0 e)))
 same-read (Refused r) (Tagged o t p x q n) e = absurd (number-positive r (word 0 e))

@@ -1,7 +1,7 @@
 -- The blocks of an accepted slice nest and fill it; 18 is never given. Assumes nothing.
 use Prim.Native.Nat.{ℕ, _+_, _-_, _≤_, _<_}
 use native.Mathlib.Omega.{arith}
-use mathlib.Core.Bool.{Bool, true, false}
+use mathlib.Core.Bool.{Bool, true, false, false≢true}
 use mathlib.Core.List.{List, [], _∷_, _++_}
 use mathlib.Core.Path.{_≡_, refl, sym, ap, _∙_}
 use borrow.Author.Tests.{le-ltb}
@@ -121,8 +121,7 @@ not-18 s rest e = by (outcome (readRules s))
     )
 
     by : Outcome (readRules s) → ⊥
-    by (none n) =
-        let z : _≡_ {A = ℕ} 0 18 = cc (none-judge (λ given. given) (readRules s) (recordWords (kindOf s) s) n, e) in omega arith
+    by (none n) = false≢true (cc (none-judge (λ given. given) (readRules s) (recordWords (kindOf s) s) n, e))
     by (first g f) = first-gives P all f (sym (first-judge (λ given. given) (recordWords (kindOf s) s) f) ∙ e)
 
 without : (m : ℕ) (s : List ℕ) → readWith18 m s ≡ readOne s

@@ -1,7 +1,7 @@
 -- The rules are read headers', and what its answer says of them. Assumes nothing.
 use Prim.Native.Nat.{ℕ, _<_, _≤_}
 use native.Mathlib.Omega.{arith}
-use mathlib.Core.Bool.{true, not}
+use mathlib.Core.Bool.{true, not, false≢true}
 use mathlib.Core.List.{List, [], _∷_, _++_, map}
 use mathlib.Core.Path.{_≡_, refl, sym, ap, _∙_}
 use borrow.Author.Tests.{eqb-true, not-false}
@@ -102,6 +102,4 @@ module _ (s : List ℕ) where
 
   pub telemetry-words : (size : ℕ) (p : Primary) (fields : TelemetryFields) (key : ℕ) (time : ReceivedTime)
       → wordsOf (TelemetryHeaders size p fields key time) ≡ readHeaders (kindNumber Rsr) s → ⊥
-  telemetry-words size p fields key time e =
-      let kind : _≡_ {A = ℕ} 1 2 = ap (λ (l : List Word). getD (map back l) 1 0) (accepted-words _ e .1) in
-      omega arith
+  telemetry-words size p fields key time e = false≢true (cc (accepted-words _ e .1))

@@ -2,7 +2,7 @@
 use Prim.Native.Nat.{ℕ, zero, suc, _+_, _*_, _/_, _≤_, _<_}
 use native.Mathlib.Nat.{le-div-iff-mul-le, lt-div-mul-add, mul-le-mul-right}
 use native.Mathlib.Omega.{arith}
-use mathlib.Core.Bool.{Bool, true, false}
+use mathlib.Core.Bool.{Bool, true, false, false≢true}
 use mathlib.Core.List.{List, [], _∷_}
 use mathlib.Core.Logic.{_⊎_, inl, inr, _≢_}
 use mathlib.Core.Path.{_≡_, refl, sym, ap, subst, _∙_}
@@ -113,7 +113,7 @@ walk-never-16 s e = by (walk-right s .stops)
     l = walkFrom s 0
 
     by : StopsAtEnd s l ⊎ StopsRefused s l → ⊥
-    by (inl x) = let z : _≡_ {A = ℕ} 0 16 = cc (x .1, e) in omega arith
+    by (inl x) = false≢true (cc (x .1, e))
     by (inr x) = refused-16 (drop (l .stop) s) (l .stop) (l .why) (x .1) (x .2) e
 
 enough : (m : ℕ) (s : List ℕ) → 0 < m → AllLong m (walkFrom s 0 .entries) → Enough s (length s / m)
