@@ -121,10 +121,10 @@ pub record Changes (flag : Bool) (i : ℕ) (worked : Positions) : Type 0 where
   pub was-not : has worked i ≡ not flag
 
 differs : (x flag : Bool) → Bool·beq x flag ≡ false → x ≡ not flag
-differs true true e = absurd (true≢false e)
+differs true true e = cc
 differs true false e = refl
 differs false true e = refl
-differs false false e = absurd (true≢false e)
+differs false false e = cc
 
 pub changes : (flag : Bool) (i : ℕ) (worked : Positions) → markVerdict flag i worked ≡ 0 → Changes flag i worked
 unfolding markVerdict

@@ -72,12 +72,12 @@ module _ (x : Line) where
 
   enrol-line : (a : Answer) → eqb (x .call) enrolCall ≡ true → rowFits a ≡ true → sameTold (told (answerWords a)) (written x) ≡ true → answerIn x ≡ a
   unfolding rowFits answerIn
-  enrol-line (gave []) c h e = absurd (false≢true h)
+  enrol-line (gave []) c h e = cc
   enrol-line (gave (r ∷ [])) c h e =
       let z : eqb (x .answer) 0 ≡ true = eq-eqb (x .answer) 0 (sym (number-told (gave (r ∷ [])) e)) in
       let q : r ≡ x .row = row-told (gave (r ∷ [])) e ∙ written-row x c z in
       rw (z, c, q)
-  enrol-line (gave (r ∷ q ∷ words)) c h e = absurd (false≢true h)
+  enrol-line (gave (r ∷ q ∷ words)) c h e = cc
   enrol-line (refused n) c h e = refused-line n (and-split _ _ h .0) (number-told (refused n) e)
 
   plain-line : (a : Answer) → eqb (x .call) enrolCall ≡ false → nothingFits a ≡ true → sameTold (told (answerWords a)) (written x) ≡ true → answerIn x ≡ a
@@ -85,7 +85,7 @@ module _ (x : Line) where
   plain-line (gave []) c h e =
       let z : eqb (x .answer) 0 ≡ true = eq-eqb (x .answer) 0 (sym (number-told (gave []) e)) in
       rw (z, c)
-  plain-line (gave (r ∷ words)) c h e = absurd (false≢true h)
+  plain-line (gave (r ∷ words)) c h e = cc
   plain-line (refused n) c h e = refused-line n (and-split _ _ h .0) (number-told (refused n) e)
 
   -- The call of a line is no question, and gives nothing but where it is an enrolment.

@@ -125,7 +125,7 @@ unfolding whole wholeBy accepts inStream
 two-numbers s = by (walk-right s .stops)
   where
     of : (at : ℕ) → Reads (drop at s) → accepts (drop at s) ≡ false → length (inStream at (readOne (drop at s))) ≡ 2
-    of at (accepted-one a) e = absurd (false≢true (sym e ∙ a))
+    of at (accepted-one a) e = cc
     of at (refused-one r) e = rw (r .words)
 
     by : StopsAtEnd s (walkFrom s 0) ⊎ StopsRefused s (walkFrom s 0) → length (walkFrom s 0 .why) ≡ 2

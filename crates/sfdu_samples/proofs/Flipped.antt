@@ -75,7 +75,7 @@ every-width = refl
 
 or-right : (a b : Bool) → a ≡ true → (not a || b) ≡ true → b ≡ true
 or-right true b e h = h
-or-right false b e h = absurd (false≢true e)
+or-right false b e h = cc
 
 pub half-bits : (w : ℕ) → Width w → w * perHalf w ≡ 16
 half-bits w h =

@@ -68,7 +68,7 @@ eachFills (row ∷ rows) = fillsHalf (row .size) && eachFills rows
 
 among-width : (size rate : ℕ) (rows : List Listed) → eachFills rows ≡ true → among size rate rows ≡ true → fillsHalf size ≡ true
 unfolding among
-among-width size rate [] t e = absurd (false≢true e)
+among-width size rate [] t e = cc
 among-width size rate (row ∷ rows) t e =
     by (eqb (row .size) size) refl (among-width size rate rows (and-split (fillsHalf (row .size)) (eachFills rows) t .1))
   where

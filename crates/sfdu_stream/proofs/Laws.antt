@@ -121,7 +121,7 @@ list-right size s =
 
     full-there : StopsAtEnd s l ⊎ (StopsRefused s l ⊎ (Full s size l × (l .why ≡ full))) → whole s (l .stop) ≡ true → l .why ≡ full
     full-there (inl x) e = let w = whole-record s (l .stop) e in absurd (omega (arith, x .0))
-    full-there (inr (inl x)) e = absurd (false≢true (sym (x .1) ∙ e))
+    full-there (inr (inl x)) e = cc
     full-there (inr (inr x)) e = x .1
 
 -- ---- walks

@@ -19,7 +19,7 @@ or-false true b e = absurd (true≢false e)
 or-false false b e = (refl, e)
 
 or-other : (a b : Bool) → (a || b) ≡ true → a ≡ false → b ≡ true
-or-other true b e f = absurd (true≢false f)
+or-other true b e f = cc
 or-other false b e f = e
 
 -- with turns left: the listing goes on, and the place stays low
@@ -58,7 +58,7 @@ module _ {Stands : Keeps} {size most : ℕ} where
     round-gives-up = record {
       stands = r .stands;
       text = omega (arith, r .going .text, r .going .buffer);
-      over = λ e. absurd (true≢false e);
+      over = λ e. cc;
     }
 
     -- after a turn that did not fail and did not end the listing
