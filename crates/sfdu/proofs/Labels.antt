@@ -1,10 +1,9 @@
 -- What follows from what a check of fields found: any list of rules made of its rules goes the same way. Assumes nothing.
 use Prim.Native.Nat.{ℕ}
 use mathlib.Core.List.{List, [], _∷_, _++_}
-use mathlib.Core.Path.{_≡_, sym, ap, _∙_}
+use mathlib.Core.Path.{_≡_, ap, _∙_}
 use Rattle.refusals.specs.Judge.{Rule, judge, answered}
 use Rattle.refusals.proofs.Judged.{Outcome, none, first, outcome, none-judge, first-judge, judge-each}
-use Rattle.sfdu.specs.declared.Checked.{Checked}
 use Rattle.sfdu.specs.declared.Checked.the-variants.{Right, Wrong}
 use Rattle.sfdu.specs.Read.{_giving_, typeAndLength, blockRules}
 use Rattle.sfdu.specs.inner.Checked.{checked}

@@ -1,5 +1,5 @@
 -- The number that goes with a refusal is a place in the slice, or its end. Assumes nothing.
-use Prim.Native.Nat.{ℕ, _+_, _≤_}
+use Prim.Native.Nat.{ℕ, _≤_}
 use native.Mathlib.Omega.{arith}
 use mathlib.Core.List.{List, [], _∷_}
 use mathlib.Core.Path.{_≡_, refl, sym, _∙_}
@@ -7,7 +7,7 @@ use borrow.Author.Tests.{ltb-false, not-false}
 use lib.ListN.{length}
 use Rattle.refusals.proofs.Judged.{Outcome, none, first, outcome, none-judge, first-judge, FirstGives, first-has}
 use mathlib.Core.Bool.{false≢true}
-use Rattle.sfdu.specs.Nesting.{labelSize, dataAt, dataValueAt, wordSize}
+use Rattle.sfdu.specs.Nesting.{labelSize, dataValueAt}
 use Rattle.sfdu.specs.Read.{kindOf, recordLength, readRules, recordWords, readOne, labelLength}
 use Rattle.sfdu.proofs.Placed.{placed}
 use Rattle.sfdu.proofs.Accepted.{in-range, record-length}

@@ -1,14 +1,12 @@
 -- Different answers have different words. Assumes nothing.
-use Prim.Native.Nat.{ℕ}
 use mathlib.Core.Path.{_≡_, ap}
 use Rattle.refusals.specs.Table.{numberOf}
 use Rattle.refusals.proofs.Laws.{number-injective}
 use Rattle.sfdu.specs.declared.Fault.{Fault}
 use Rattle.sfdu.specs.declared.Primary.{Primary}
-use Rattle.sfdu.specs.declared.Read.{Read}
 use Rattle.sfdu.specs.declared.Read.the-variants.{Record, Refused}
 use Rattle.sfdu.specs.Nesting.{kindNumber}
-use Rattle.sfdu.specs.Read.{wordsOf, faultWords, primaryWords, DifferentReads}
+use Rattle.sfdu.specs.Read.{faultWords, primaryWords, DifferentReads}
 use Rattle.sfdu.proofs.Accepted.{same-kind}
 
 pub same-primary : (p q : Primary) → primaryWords p ≡ primaryWords q → p ≡ q

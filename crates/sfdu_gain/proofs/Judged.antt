@@ -2,7 +2,7 @@
 use Prim.Native.Nat.{ℕ}
 use mathlib.Core.Bool.{Bool, true, false}
 use mathlib.Core.List.{List, [], _∷_, _++_, map}
-use mathlib.Core.Path.{_≡_, refl, sym, ap, _∙_}
+use mathlib.Core.Path.{_≡_, refl, sym, _∙_}
 use Rattle.refusals.specs.Judge.{Rule, judge}
 use Rattle.refusals.specs.Table.{numberOf}
 use Rattle.refusals.proofs.Judged.{NoneHolds, First, none-judge, first-judge, judge-append}
@@ -18,7 +18,7 @@ use Rattle.settings.specs.Layout.{onSheet}
 use Rattle.sfdu_headers.specs.Words.{Word, number}
 use Rattle.sfdu_headers.specs.Fields.{year, day}
 use Rattle.sfdu_rsr.specs.Record.{only, rsrRules, mission}
-use Rattle.sfdu_gain.specs.Gain.{gainOf, gainRules, gaining, agreed, editionOf, askedRules, agreedRules, agreedGain}
+use Rattle.sfdu_gain.specs.Gain.{gainOf, gaining, agreed, editionOf, askedRules, agreedGain}
 use Rattle.sfdu_gain.specs.inner.Told.{toldGain}
 
 -- Rules behind those of read headers: where one of these applies it decides, and else they do.

@@ -10,7 +10,6 @@ use Rattle.dates.specs.declared.CountAnswer.{CountAnswer}
 use Rattle.dates.specs.declared.CountAnswer.the-variants.{Day, NotADate}
 use Rattle.dates.specs.Calendar.{isYear, isDay, isDate, dayCount}
 use Rattle.dates.specs.Answers.{countOf}
-use Rattle.sfdu_headers.specs.declared.Dated.{Dated}
 use Rattle.sfdu_headers.specs.Fields.{year, day, yearAt, dayAt}
 use Rattle.sfdu_headers.specs.inner.Dated.{IsDated}
 

@@ -1,6 +1,5 @@
 -- Different answers have different words. Assumes nothing.
 use Prim.Native.Nat.{ℕ}
-use native.Mathlib.Omega.{arith}
 use mathlib.Core.List.{List, _∷_, [], map}
 use mathlib.Core.Path.{_≡_, refl, ap}
 use Rattle.refusals.specs.Table.{numberOf}
@@ -16,10 +15,9 @@ use Rattle.sfdu_headers.specs.declared.RsrSource.{RsrSource}
 use Rattle.sfdu_headers.specs.declared.RsrSignal.{RsrSignal}
 use Rattle.sfdu_headers.specs.declared.RsrReading.{RsrReading}
 use Rattle.sfdu_headers.specs.declared.ReceivedTime.{ReceivedTime}
-use Rattle.sfdu_headers.specs.declared.Headers.{Headers}
 use Rattle.sfdu_headers.specs.declared.Headers.the-variants.{Telemetry, Rsr, Refused, WrongKind}
 use Rattle.sfdu_headers.specs.Words.{Word, number}
-use Rattle.sfdu_headers.specs.Headers.{bandWord, telemetryFieldWords, sourceWords, signalWords, timeWords, receivedWords, wordsOf, DifferentHeaders}
+use Rattle.sfdu_headers.specs.Headers.{bandWord, telemetryFieldWords, sourceWords, signalWords, timeWords, receivedWords, DifferentHeaders}
 
 same-band : (a b : Band) → bandWord a ≡ bandWord b → a ≡ b
 same-band (Letter x) (Letter y) e = cc

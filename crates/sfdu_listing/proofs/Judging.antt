@@ -9,7 +9,7 @@ use mathlib.Core.Path.{_≡_, refl, sym, ap, _∙_}
 use borrow.Author.Tests.{ltb-true, ltb-false, lt-ltb, le-ltb, eq-eqb, ne-eqb, not-false}
 use lib.Dec.{eqb, ltb, lit<}
 use lib.ListN.{length}
-use Rattle.refusals.specs.Judge.{Rule, _when_, judge, answered}
+use Rattle.refusals.specs.Judge.{Rule, judge, answered}
 use Rattle.refusals.proofs.Judged.{
   NoneHolds,
   AllGive,

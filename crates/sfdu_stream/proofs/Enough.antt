@@ -9,15 +9,15 @@ use mathlib.Core.Path.{_≡_, refl, sym, ap, subst, _∙_}
 use lib.ListN.{length, drop}
 use Rattle.sfdu.specs.declared.Kind.{Kind}
 use Rattle.sfdu.specs.declared.Kind.the-variants.{Telemetry, Rsr}
-use Rattle.sfdu.specs.Nesting.{kindNumber, dataValueAt}
+use Rattle.sfdu.specs.Nesting.{dataValueAt}
 use Rattle.sfdu.specs.Read.{kindOf, recordLength, accepts}
 use Rattle.sfdu.proofs.Placed.{placed}
 use Rattle.sfdu.proofs.Accepted.{accepted, same-kind}
 use Rattle.sfdu_stream.specs.declared.Entry.{Entry}
 use Rattle.sfdu_stream.specs.Walk.{whole, past, wholeBy}
-use Rattle.sfdu_stream.specs.Listing.{Listing, entryAt, prepend, listing, walkFrom, walked, answer, Columns, shortest, listNumbers, listEntries, entryOf}
+use Rattle.sfdu_stream.specs.Listing.{Listing, entryAt, prepend, listing, walkFrom, walked, answer, shortest, listNumbers, listEntries, entryOf}
 use Rattle.sfdu_stream.specs.Laws.{BackToBack, StopsAtEnd, StopsRefused}
-use Rattle.sfdu_stream.specs.Room.{mostRecords, stopNumber, Enough, EveryStream, AllRsr, RsrStreams}
+use Rattle.sfdu_stream.specs.Room.{stopNumber, Enough, EveryStream, AllRsr, RsrStreams}
 use Rattle.sfdu_stream.proofs.Places.{whole-record}
 use Rattle.sfdu_stream.proofs.Listings.{lists, lists-none, goes-on, stops}
 use Rattle.sfdu_stream.proofs.Laws.{walk-right, refused-16}

@@ -1,8 +1,8 @@
 -- Streams of the shortest records: no smaller number of entries would do. Assumes nothing.
-use Prim.Native.Nat.{ℕ, zero, suc, _+_, _*_, _≤_, _<_}
+use Prim.Native.Nat.{ℕ, zero, suc, _*_, _<_}
 use native.Mathlib.Omega.{arith}
-use mathlib.Core.Bool.{Bool, true, false}
-use mathlib.Core.List.{List, [], _∷_, _++_}
+use mathlib.Core.Bool.{true, false}
+use mathlib.Core.List.{List, [], _++_}
 use mathlib.Core.Path.{_≡_, refl, sym, ap, _∙_}
 use lib.ListN.{length, getD, drop, replicate, length-append}
 use lib.Seq.{drop-at, drop-drop}
@@ -15,10 +15,9 @@ use Rattle.sfdu.proofs.Accepted.{Found, found}
 use Rattle.sfdu_write.specs.Write.{recordBytes, sizeOf}
 use Rattle.sfdu_write.proofs.Written.{length-record}
 use Rattle.sfdu_write.proofs.Back.{slice, record-read}
-use Rattle.sfdu_stream.specs.declared.Entry.{Entry}
 use Rattle.sfdu_stream.specs.Walk.{whole, past, full, wholeBy}
 use Rattle.sfdu_stream.specs.Listing.{entryAt, listing, walkFrom, shortest, listNumbers, listEntries, entryOf}
-use Rattle.sfdu_stream.specs.Room.{AllRsr, RsrAlone, stopNumber, Needed, LeastNumber}
+use Rattle.sfdu_stream.specs.Room.{AllRsr, RsrAlone, LeastNumber}
 use Rattle.sfdu_stream.proofs.Places.{none-at-end}
 use Rattle.sfdu_stream.proofs.Listings.{lists, lists-full, goes-on, stops}
 

@@ -1,5 +1,4 @@
 -- Different answers have different words. Assumes nothing.
-use Prim.Native.Nat.{ℕ}
 use mathlib.Core.Path.{_≡_, refl, ap}
 use Rattle.refusals.proofs.Laws.{number-positive}
 use Rattle.sfdu.specs.Nesting.{kindNumber}
@@ -7,12 +6,10 @@ use Rattle.sfdu.specs.Read.{primaryWords, faultWords}
 use Rattle.sfdu.proofs.Accepted.{same-kind}
 use Rattle.sfdu.proofs.Words.{same-primary, same-fault}
 use Rattle.sfdu_stream.specs.declared.Cursor.{Cursor}
-use Rattle.sfdu_stream.specs.declared.Step.{Step}
 use Rattle.sfdu_stream.specs.declared.Step.the-variants.{Found, Done, Refused}
 use Rattle.sfdu_stream.specs.declared.Stop.{Stop}
 use Rattle.sfdu_stream.specs.declared.Stop.the-variants.{End, Refused as StopRefused}
-use Rattle.sfdu_stream.specs.declared.Walked.{Walked}
-use Rattle.sfdu_stream.specs.Walk.{stepWords, stopWords, wordsOf, DifferentSteps, DifferentWalks}
+use Rattle.sfdu_stream.specs.Walk.{stopWords, DifferentSteps, DifferentWalks}
 
 same-cursor : (c d : Cursor) → c .at ≡ d .at → c ≡ d
 same-cursor c d e = λ j. record { at = e j }

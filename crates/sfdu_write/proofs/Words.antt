@@ -1,11 +1,9 @@
 -- Different answers have different words. Assumes nothing.
-use Prim.Native.Nat.{ℕ}
 use mathlib.Core.Path.{_≡_, ap}
 use Rattle.refusals.specs.Table.{numberOf}
 use Rattle.refusals.proofs.Laws.{number-injective}
-use Rattle.sfdu_write.specs.declared.Write.{Write}
 use Rattle.sfdu_write.specs.declared.Write.the-variants.{Written, Refused}
-use Rattle.sfdu_write.specs.Write.{wordsOf, DifferentWrites}
+use Rattle.sfdu_write.specs.Write.{DifferentWrites}
 
 pub same-write : DifferentWrites
 same-write (Written n) (Written m) e = cc

@@ -1,5 +1,4 @@
 -- `sfdu_stream::walking::stop_at` meets its contract. Assumes nothing.
-use mathlib.Core.Bool.{false≢true}
 use mathlib.Core.Path.{sym, ap, _∙_}
 use Rattle.sfdu.specs.Read.{primaryWords}
 use Rattle.sfdu_stream.specs.Walk.{stepWords}
