@@ -7,7 +7,7 @@ use Rattle.refusals.specs.Table.{numberOf}
 use Rattle.refusals.proofs.Laws.{number-positive}
 use mathlib.Core.Bool.{false≢true}
 use Rattle.ledger_model.specs.Book.{Book, idle}
-use Rattle.ledger_model.specs.Step.{Call, Answer, gave, done, atRow, refused, answerWords, step, Entry, callOf, bookAfter}
+use Rattle.ledger_model.specs.Step.{Call, Answer, gave, done, atRow, refused, step, Entry, callOf, bookAfter}
 use Rattle.ledger_model.specs.WellFormed.{WellFormed}
 use Rattle.ledger_model.specs.Chain.{Chain}
 use Rattle.ledger_model.proofs.WellFormed.{run-well-formed}

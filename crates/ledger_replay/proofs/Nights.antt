@@ -1,7 +1,7 @@
 -- A night's trace plays as 'same', and 'same' is said of the model's answers alone. Assumes nothing.
 use Prim.Native.Nat.{ℕ, zero, suc, _<_}
 use native.Mathlib.Omega.{arith}
-use mathlib.Core.Bool.{Bool, true, false, cond, not, false≢true}
+use mathlib.Core.Bool.{Bool, true, false, cond, not}
 use mathlib.Core.List.{List, [], _∷_, map}
 use mathlib.Core.Path.{_≡_, refl, sym, ap, _∙_}
 use lib.Dec.{eqb}
@@ -28,8 +28,8 @@ use Rattle.ledger_replay.specs.Trace.{lineAt, isTrace, callIn, answerIn,
 use Rattle.ledger_replay.specs.Record.{isKept, recorded, traceOf}
 use Rattle.ledger_replay.specs.Replay.{told, sameTold, differs, replayFrom, replayOn}
 use Rattle.ledger_replay.specs.inner.Making.{written}
-use Rattle.ledger_replay.specs.Laws.{rowFits, nothingFits, answerFits, fits, allFit}
-use Rattle.ledger_replay.specs.Nights.{PlaysAgain, NightPlaysAgain, AsModel, SameIsModel, ModelIsSame}
+use Rattle.ledger_replay.specs.Laws.{rowFits, nothingFits, answerFits, allFit}
+use Rattle.ledger_replay.specs.Nights.{NightPlaysAgain, AsModel, SameIsModel, ModelIsSame}
 use Rattle.ledger_replay.proofs.Turns.{written-row, written-number}
 use Rattle.ledger_replay.proofs.Written.{written-reads-back}
 use Rattle.ledger_replay.proofs.Kept.{asks, kept-asks, model-fits, unkept-stays}

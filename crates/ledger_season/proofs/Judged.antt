@@ -18,7 +18,7 @@ use Rattle.ledger_layout.proofs.Read.{book-fine}
 use Rattle.octets.proofs.Lists.{getD-table}
 use Rattle.ledger_season.specs.Report.{mostSheets, keyInTwo, report}
 use Rattle.ledger_season.specs.Season.{sheetAt, sheetCount, booksTo, books, rightTo, seasonRules, season}
-use Rattle.ledger_season.specs.inner.Gathered.{keysOf, keysOfAll, distinct}
+use Rattle.ledger_season.specs.inner.Gathered.{keysOfAll, distinct}
 use Rattle.ledger_season.proofs.Sheets.{length-books}
 use Rattle.ledger_season.proofs.Keys.{keys-law, book-distinct}
 

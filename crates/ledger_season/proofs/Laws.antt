@@ -19,7 +19,6 @@ use Rattle.ledger_model.specs.Tally.{ticked}
 use Rattle.ledger_model.proofs.Counts.{least-none}
 use Rattle.ledger_model.proofs.Laws.{report-free, report-row}
 use Rattle.ledger_sheet.specs.Sheet.{sheetSize, rowCount, right}
-use Rattle.ledger_sheet.specs.declared.Answer.the-variants as A
 use Rattle.ledger_layout.specs.Layout.{bookOf, placeIn, call, onSheet}
 use Rattle.octets.proofs.Lists.{length-table}
 use Rattle.octets.specs.Lists.{table}

@@ -18,7 +18,6 @@ use Rattle.ledger_sheet.specs.Sheet.{rowCount, rowAt, isUsed, keyAt, firstNumbe
 use Rattle.ledger_sheet.specs.Words.{reportAnswerWords}
 use Rattle.ledger_sheet.specs.declared.ReportAnswer.the-variants as Report
 use Rattle.ledger_rows.specs.Ticks.{ticksIn}
-use Rattle.octets.specs.Lists.{table}
 use Rattle.ledger_counts.specs.inner.Counts.{lowestWords, reportWords}
 use Rattle.ledger_counts.proofs.Reports.{row-count, end-within}
 use Rattle.ledger_layout.specs.Layout.{placeIn, bookOf}
