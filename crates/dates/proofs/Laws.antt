@@ -10,25 +10,9 @@ use lib.Dec.{leb, ltb}
 use borrow.Author.Tests.{ltb-true, ltb-false, leb-true, leb-false, lt-ltb, le-ltb, le-leb}
 use Rattle.refusals.specs.Judge.{judge}
 use Rattle.refusals.proofs.Laws.{number-injective}
-use Rattle.dates.specs.Calendar.{
-  firstYear,
-  lastYear,
-  lastCount,
-  isLeap,
-  yearLength,
-  daysOfYears,
-  newYear,
-  isYear,
-  isDay,
-  isDate,
-  dayCount,
-  dateFrom,
-  dateOf,
-}
+use Rattle.dates.specs.Calendar.{firstYear, lastYear, isLeap, yearLength, daysOfYears, newYear, isYear, isDay, isDate, dayCount, dateFrom, dateOf}
 use Rattle.dates.specs.inner.Within.{Within}
-use Rattle.dates.specs.Answers.{wordsOf}
-use Rattle.dates.specs.Laws.{BackFromCount, ForthFromBack, Dated, EveryCount, RefusedPast, Since1958, WordsInjective}
-use Rattle.dates.specs.declared.DateAnswer.{DateAnswer}
+use Rattle.dates.specs.Laws.{BackFromCount, ForthFromBack, EveryCount, RefusedPast, Since1958, WordsInjective}
 use Rattle.dates.specs.declared.DateAnswer.the-variants.{Date, Refused}
 
 -- ---- the request's numbers

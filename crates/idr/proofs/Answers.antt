@@ -11,12 +11,10 @@ use Rattle.idr.specs.declared.Reduction.{Reduction}
 use Rattle.idr.specs.declared.Status.{Status}
 use Rattle.idr.specs.declared.Count.{Count}
 use Rattle.idr.specs.declared.Count.the-variants.{Samples, Unknown}
-use Rattle.idr.specs.declared.Read.{Read}
 use Rattle.idr.specs.declared.Read.the-variants.{Tagged, Untagged, Refused}
-use Rattle.idr.specs.declared.Outcome.{Outcome}
 use Rattle.idr.specs.declared.Outcome.the-variants as outcomes
-use Rattle.idr.specs.Rules.{outcomeNumber, DifferentOutcomes}
-use Rattle.idr.specs.Read.{originWords, timeWords, recorderWords, reductionWords, statusWords, countWords, wordsOf, DifferentReads}
+use Rattle.idr.specs.Rules.{DifferentOutcomes}
+use Rattle.idr.specs.Read.{originWords, timeWords, recorderWords, reductionWords, statusWords, countWords, DifferentReads}
 
 -- Word k, and n words from word k on.
 word : (k : ℕ) {a b : List ℕ} → a ≡ b → getD a k 0 ≡ getD b k 0

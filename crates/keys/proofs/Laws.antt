@@ -10,9 +10,8 @@ use borrow.Author.Tests.{ltb-true, ltb-false, lt-ltb, le-leb, not-false}
 use Rattle.refusals.specs.Judge.{_when_, judge}
 use Rattle.refusals.proofs.Laws.{number-injective}
 use Rattle.keys.specs.Key.{rsrStart, rsrEnd, validKey, telemetryKey, rsrKey, made, telemetryKeyCall, rsrKeyCall}
-use Rattle.keys.specs.declared.KeyAnswer.{KeyAnswer}
 use Rattle.keys.specs.declared.KeyAnswer.the-variants.{Key, Refused}
-use Rattle.keys.specs.Words.{wordsOf, DifferentKeys}
+use Rattle.keys.specs.Words.{DifferentKeys}
 use Rattle.keys.specs.Stream.{Stream, telemetry, rsr, keyCall}
 
 -- ---- the widths

@@ -6,7 +6,6 @@ use native.Mathlib.Omega.{arith}
 use mathlib.Core.Bool.{Bool, true, false, true≢false, _||_}
 use mathlib.Core.List.{List}
 use mathlib.Core.Path.{_≡_, refl, sym, ap, _∙_, subst}
-use lib.Dec.{lit≤}
 use lib.ListN.{length}
 use Rattle.text.specs.declared.State.{State}
 use Rattle.text.specs.State.{emptied}

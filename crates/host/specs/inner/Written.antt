@@ -3,7 +3,7 @@ use Prim.Native.Nat.{ℕ}
 use mathlib.Core.List.{List}
 use mathlib.Core.Path.{_≡_}
 use lib.ListN.{getD}
-use Rattle.host.specs.Exported.{answerBytes, returned}
+use Rattle.host.specs.Exported.{answerBytes}
 
 -- What is returned and left in the answer's slice where these are all the numbers of the answer.
 abbrev pub Written : ℕ → (left numbers : List ℕ) → Type 0
