@@ -4,31 +4,15 @@ use Prim.Native.Nat.{ℕ, zero, suc, _+_, _-_, _<_, _≤_}
 use native.Mathlib.Nat.{add-zero, le-refl}
 use native.Mathlib.Omega.{arith}
 use mathlib.Core.Path.{_≡_, refl, ap}
-use mathlib.Core.Bool.{Bool, true, false, cond, _&&_}
+use mathlib.Core.Bool.{Bool, true, false, cond, _&&_, false≢true}
 use mathlib.Core.List.{[], _∷_}
 use lib.Dec.{leb, ltb}
 use borrow.Author.Tests.{ltb-true, ltb-false, leb-true, leb-false, lt-ltb, le-ltb, le-leb}
 use Rattle.refusals.specs.Judge.{judge}
 use Rattle.refusals.proofs.Laws.{number-injective}
-use Rattle.dates.specs.Calendar.{
-  firstYear,
-  lastYear,
-  lastCount,
-  isLeap,
-  yearLength,
-  daysOfYears,
-  newYear,
-  isYear,
-  isDay,
-  isDate,
-  dayCount,
-  dateFrom,
-  dateOf,
-}
+use Rattle.dates.specs.Calendar.{firstYear, lastYear, isLeap, yearLength, daysOfYears, newYear, isYear, isDay, isDate, dayCount, dateFrom, dateOf}
 use Rattle.dates.specs.inner.Within.{Within}
-use Rattle.dates.specs.Answers.{wordsOf}
-use Rattle.dates.specs.Laws.{BackFromCount, ForthFromBack, Dated, EveryCount, RefusedPast, Since1958, WordsInjective}
-use Rattle.dates.specs.declared.DateAnswer.{DateAnswer}
+use Rattle.dates.specs.Laws.{BackFromCount, ForthFromBack, EveryCount, RefusedPast, Since1958, WordsInjective}
 use Rattle.dates.specs.declared.DateAnswer.the-variants.{Date, Refused}
 
 -- ---- the request's numbers
@@ -207,7 +191,7 @@ pub forth-from-back : ForthFromBack
 forth-from-back count year day e = at (ltb 402131 count) refl
   where
     at : (t : Bool) → ltb 402131 count ≡ t → (isDate year day ≡ true) × (dayCount year day ≡ count)
-    at true t = let r = refused count (ltb-true _ _ t) in absurd (let z : _≡_ {A = ℕ} 0 33 = cc in omega arith)
+    at true t = let r = refused count (ltb-true _ _ t) in absurd (false≢true cc)
     at false t =
         let d = count-from-back count (ltb-false _ _ t) in
         let y : d .year ≡ year = cc (d .back) in

@@ -5,7 +5,7 @@ use mathlib.Core.Path.{_≡_, refl}
 use mathlib.Core.Bool.{Bool, true, false}
 use lib.Dec.{leb}
 use borrow.Author.Tests.{leb-true, leb-false}
-use Rattle.dates.specs.Calendar.{firstYear, lastYear, lastCount, daysOfYears, newYear}
+use Rattle.dates.specs.Calendar.{firstYear, lastYear, lastCount, newYear}
 use Rattle.dates.specs.inner.Within.{Within}
 use Rattle.dates.proofs.Computed.{Quotient, near-mean}
 use Rattle.dates.proofs.Laws.{new-year-1900, new-year-3001, new-years-grow}

@@ -1,11 +1,11 @@
 -- Laws of an answer's bytes. Assumes nothing.
-use Prim.Native.Nat.{ℕ, zero, suc, _+_, _*_, _-_, _<_, _≤_}
+use Prim.Native.Nat.{ℕ, _+_, _*_, _-_, _<_, _≤_}
 use native.Mathlib.Numerals.{add-one}
 use native.Mathlib.Omega.{arith}
 use mathlib.Core.List.{List, [], _∷_, _++_, append-assoc, append-nil}
 use mathlib.Core.Path.{_≡_, refl, sym, ap, _∙_}
-use lib.ListN.{length, take, drop, getD, replicate, length-append}
-use lib.Seq.{drop-length, take-length, take-suc, length-take-le}
+use lib.ListN.{length, take, getD, replicate, length-append}
+use lib.Seq.{drop-length, take-suc, length-take-le}
 use Rattle.octets.specs.Octets.{bytesOf, put}
 use Rattle.octets.proofs.Laws.{length-bytesOf}
 use Rattle.octets.proofs.Puts.{put-start, put-next}

@@ -4,7 +4,6 @@ use mathlib.Core.List.{List}
 use mathlib.Core.Path.{_≡_, refl, sym, ap}
 use lib.ListN.{getD, take, drop}
 use Rattle.refusals.proofs.Laws.{number-injective, number-positive}
-use Rattle.refusals.proofs.Numerals.{zero-is-one}
 use Rattle.idr.specs.declared.Origin.{Origin}
 use Rattle.idr.specs.declared.Time.{Time}
 use Rattle.idr.specs.declared.Recorder.{Recorder}
@@ -12,12 +11,10 @@ use Rattle.idr.specs.declared.Reduction.{Reduction}
 use Rattle.idr.specs.declared.Status.{Status}
 use Rattle.idr.specs.declared.Count.{Count}
 use Rattle.idr.specs.declared.Count.the-variants.{Samples, Unknown}
-use Rattle.idr.specs.declared.Read.{Read}
 use Rattle.idr.specs.declared.Read.the-variants.{Tagged, Untagged, Refused}
-use Rattle.idr.specs.declared.Outcome.{Outcome}
 use Rattle.idr.specs.declared.Outcome.the-variants as outcomes
-use Rattle.idr.specs.Rules.{outcomeNumber, DifferentOutcomes}
-use Rattle.idr.specs.Read.{originWords, timeWords, recorderWords, reductionWords, statusWords, countWords, wordsOf, DifferentReads}
+use Rattle.idr.specs.Rules.{DifferentOutcomes}
+use Rattle.idr.specs.Read.{originWords, timeWords, recorderWords, reductionWords, statusWords, countWords, DifferentReads}
 
 -- Word k, and n words from word k on.
 word : (k : ℕ) {a b : List ℕ} → a ≡ b → getD a k 0 ≡ getD b k 0
@@ -74,8 +71,8 @@ same-status f g e = λ i. record {
 
 same-count : (a b : Count) → countWords a ≡ countWords b → a ≡ b
 same-count (Samples n) (Samples m) e = ap Samples (word 0 e)
-same-count (Samples n) Unknown e = zero-is-one cc
-same-count Unknown (Samples m) e = zero-is-one cc
+same-count (Samples n) Unknown e = cc
+same-count Unknown (Samples m) e = cc
 same-count Unknown Unknown e = refl
 
 pub same-read : DifferentReads
@@ -87,9 +84,9 @@ same-read (Tagged o t p r q n) (Tagged o′ t′ p′ r′ q′ n′) e =
     let status = same-status q q′ (group 27 6 e) in
     let count = same-count n n′ (ap (drop 33) e) in
     λ i. Tagged (origin i) (time i) (recorder i) (reduction i) (status i) (count i)
-same-read (Tagged o t p r q n) Untagged e = zero-is-one cc
+same-read (Tagged o t p r q n) Untagged e = cc
 same-read (Tagged o t p r q n) (Refused s) e = absurd (number-positive s (sym (word 0 e)))
-same-read Untagged (Tagged o t p r q n) e = zero-is-one cc
+same-read Untagged (Tagged o t p r q n) e = cc
 same-read Untagged Untagged e = refl
 same-read Untagged (Refused s) e = absurd (number-positive s (sym (word 0 e)))
 same-read (Refused r) (Tagged o t p x q n) e = absurd (number-positive r (word 0 e))

@@ -68,7 +68,7 @@ accepted-length s e = by (eqb (length s) recordSize) refl
   where
     by : (b : Bool) → eqb (length s) recordSize ≡ b → length s ≡ recordSize
     by true t = eqb-true _ _ t
-    by false t = let z : _≡_ {A = ℕ} 0 50 = rw t at e in absurd (omega arith)
+    by false t = cc (rw t at e)
 
 pub length-judge : {A : Type 0} (refuse : ℕ → A) (s : List ℕ) (answer : A) → length s ≡ recordSize
     → judge refuse (readRules s) answer ≡ judge refuse (wordRules (header s)) answer

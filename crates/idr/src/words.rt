@@ -2,7 +2,7 @@
 use crate as idr;
 use octets::numbers;
 ghost use mathlib.Core.Path.{_≡_};
-ghost use Prim.Native.Nat.{_+_, _*_, _-_, _^_, _≤_, _<_};
+ghost use Prim.Native.Nat.{_+_, _-_, _^_, _≤_, _<_};
 ghost use lib.ListN.{length};
 ghost use Rattle.idr.specs.Words.{wordBits, headerCount, samplesAt, bits, fieldOf, longOf, header};
 

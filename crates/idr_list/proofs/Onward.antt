@@ -124,9 +124,6 @@ module _ (w w₁ out : List ℕ) (s : State) (p : Piece) (now : Going w out s) (
   held-within : s .have + p .got ≤ recordSize
   held-within = omega (arith, behind .within, same, now .window)
 
-  pub list-requires : (s .have + p .got ≤ length w₁) × (s .text + mostLine ≤ length out) × (s .place + recordSize < 2 ^ 64)
-  list-requires = (behind .within, omega (arith, now .text, now .buffer), now .place)
-
   -- what is not waited for is whole, or the tape has ended
   all-there : (not (eqb (p .got) 0) && ltb (s .have + p .got) recordSize) ≡ false → eqb (p .got) 0 ≡ false → s .have + p .got ≡ recordSize
   all-there over some =

@@ -1,5 +1,5 @@
 -- What the reader's answer says of what stands at a place, and so its line. Assumes nothing.
-use Prim.Native.Nat.{ℕ, _+_, _/_, _%_, _<_}
+use Prim.Native.Nat.{ℕ, _/_, _%_, _<_}
 use native.Mathlib.Omega.{arith}
 use mathlib.Core.Bool.{Bool, true, false}
 use mathlib.Core.List.{List, [], _∷_, _++_, append-assoc}
@@ -11,7 +11,6 @@ use Rattle.refusals.specs.Judge.{verdict}
 use Rattle.refusals.specs.Table.{numberOf}
 use Rattle.refusals.proofs.Judged.{Outcome, none, first, outcome, none-judge, first-judge}
 use Rattle.refusals.proofs.Laws.{number-positive}
-use Rattle.refusals.proofs.Numerals.{zero-is-one}
 use Rattle.octets.proofs.Laws.{Bytes, number-lt}
 use Rattle.idr.specs.declared.Read.the-variants.{Tagged, Untagged, Refused}
 use Rattle.idr.specs.declared.Origin.{Origin}
@@ -51,7 +50,7 @@ module _ (s : List ℕ) (place : ℕ) (o : Origin) (t : Time) (p : Recorder) (r 
     where
       by : (b : Bool) → tagged (header s) ≡ b → b ≡ true
       by true h = refl
-      by false h = let f : wordsOf (Tagged o t p r q n) ≡ 0 ∷ [] = rw h at (is-given s _ e) in zero-is-one cc
+      by false h = let f : wordsOf (Tagged o t p r q n) ≡ 0 ∷ [] = rw h at (is-given s _ e) in cc
 
   fields-are : wordsOf (Tagged o t p r q n) ≡ 0 ∷ fieldsOf (header s)
   fields-are = rw is-tagged at (is-given s _ e)
@@ -93,7 +92,7 @@ module _ (s : List ℕ) (place : ℕ) (e : wordsOf Untagged ≡ readRecord s) wh
     where
       by : (b : Bool) → tagged (header s) ≡ b → b ≡ false
       by false h = refl
-      by true h = let f : 0 ∷ [] ≡ 0 ∷ fieldsOf (header s) = rw h at (is-given s [] e) in zero-is-one cc
+      by true h = let f : 0 ∷ [] ≡ 0 ∷ fieldsOf (header s) = rw h at (is-given s [] e) in cc
 
   pub untagged-says : Says s place true (source place (header s) ++ untaggedText)
   unfolding lineOf line

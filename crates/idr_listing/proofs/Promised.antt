@@ -5,15 +5,11 @@ use mathlib.Core.List.{List, [], _++_, append-assoc, append-nil}
 use mathlib.Core.Path.{_≡_, refl, sym, ap, _∙_}
 use lib.ListN.{length}
 use lib.Seq.{take-at, drop-at, take-all}
-use Rattle.refusals.proofs.Numerals.{zero-is-one}
 use Rattle.idr.specs.Words.{recordSize}
 use Rattle.idr.specs.Read.{accepts}
 use Rattle.idr_listing.specs.Listing.{lineOf, linesFrom, listing}
 use Rattle.idr_listing.specs.Run.{Run, begins, reads, lists, GoesOn, Promise}
 use Rattle.idr_listing.proofs.Streams.{whole, lines-next}
-
-never : {A : Type 0} (b : Bool) → b ≡ true → b ≡ false → A
-never b p q = zero-is-one cc
 
 -- The text that is still to come, unless the listing is done.
 abbrev unless : Bool → List ℕ → List ℕ
@@ -40,7 +36,7 @@ kept : {read : List ℕ} {ended done : Bool} {place : ℕ} {held text : List ℕ
 unfolding listing
 kept begins more on = refl
 kept (reads {read} {place} {held} {text} run piece) more on =
-    rw (append-assoc read, append-assoc held) (kept run (piece ++ more) (λ e. never false e refl))
+    rw (append-assoc read, append-assoc held) (kept run (piece ++ more) (λ e. cc))
 kept (lists {read} {ended} {place} {held} {text} run fits full) more on =
     kept run more on ∙ ap (λ (t : List ℕ). text ++ t) (listed place held more ended fits full on) ∙ sym (append-assoc text (lineOf place held) _)
 

@@ -1,7 +1,7 @@
 // The writer: a record from its header words and its samples.
 ghost use mathlib.Core.List.{[], _∷_, _++_};
 ghost use mathlib.Core.Path.{_≡_};
-ghost use Prim.Native.Nat.{_+_, _≤_};
+ghost use Prim.Native.Nat.{_≤_};
 ghost use lib.ListN.{length};
 ghost use Rattle.octets.specs.Octets.{put};
 ghost use Rattle.idr.specs.Words.{headerCount, samplesAt, samplesSize, recordSize};

@@ -3,17 +3,15 @@ use Prim.Native.Nat.{ℕ, zero, _*_, _+_, _^_, _/_, _%_, _-_, _<_, _≤_}
 use native.Mathlib.Nat.{add-zero, mod-lt, mod-eq-of-lt, div-add-mod', div-eq-of-lt, div-lt-iff-lt-mul, mul-add-div-right, mul-add-mod-self-right}
 use native.Mathlib.Omega.{arith}
 use mathlib.Core.Path.{_≡_, refl, sym, ap, _∙_}
-use mathlib.Core.Bool.{Bool, true, false, not, _&&_, _||_}
+use mathlib.Core.Bool.{Bool, true, false, not, _&&_, _||_, false≢true}
 use mathlib.Core.List.{[], _∷_}
 use lib.Dec.{leb, ltb}
 use borrow.Author.Tests.{ltb-true, ltb-false, lt-ltb, le-leb, not-false}
 use Rattle.refusals.specs.Judge.{_when_, judge}
 use Rattle.refusals.proofs.Laws.{number-injective}
-use Rattle.refusals.proofs.Numerals.{zero-is-one}
 use Rattle.keys.specs.Key.{rsrStart, rsrEnd, validKey, telemetryKey, rsrKey, made, telemetryKeyCall, rsrKeyCall}
-use Rattle.keys.specs.declared.KeyAnswer.{KeyAnswer}
 use Rattle.keys.specs.declared.KeyAnswer.the-variants.{Key, Refused}
-use Rattle.keys.specs.Words.{wordsOf, DifferentKeys}
+use Rattle.keys.specs.Words.{DifferentKeys}
 use Rattle.keys.specs.Stream.{Stream, telemetry, rsr, keyCall}
 
 -- ---- the widths
@@ -132,7 +130,7 @@ answered a m b n c o d p formula key = at (ltb a m && ltb b n && ltb c o && ltb 
     at : (fit : Bool) → (ltb a m && ltb b n && ltb c o && ltb d p) ≡ fit → made ((22 when not fit) ∷ []) formula ≡ 0 ∷ key ∷ []
         → Below a m b n c o d p × (key ≡ formula)
     at true t e = (below a m b n c o d p t, cc)
-    at false t e = zero-is-one cc
+    at false t e = absurd (false≢true cc)
 
 telemetry-made : (a b c d key : ℕ) → telemetryKeyCall a b c d ≡ 0 ∷ key ∷ []
     → Below a (2 ^ 10) b (2 ^ 8) c (2 ^ 16) d (2 ^ 8) × (key ≡ telemetryKey a b c d)

@@ -22,7 +22,6 @@ use Rattle.ledger_model.proofs.Counts.{least-none}
 use Rattle.ledger_model.proofs.Outcome.{outcome}
 use Rattle.ledger_model.proofs.WellFormed.{well-formed, fresh-well-formed}
 use Rattle.ledger_sheet.specs.Words as Words
-use Rattle.ledger_sheet.specs.declared.Answer as Sheet
 use Rattle.ledger_sheet.specs.declared.Answer.the-variants as A
 use Rattle.ledger_sheet.specs.declared.RowAnswer.the-variants as R
 use Rattle.ledger_sheet.specs.declared.ReportAnswer.the-variants as Report

@@ -14,7 +14,6 @@ use ledger_verdicts as verdicts;
 use ledger_verdicts::Verdict;
 use refusals::Refusal;
 ghost use mathlib.Core.Path.{_≡_};
-ghost use mathlib.Core.Bool.{true, false};
 ghost use Rattle.ledger_model.specs.Step.{Enrol, Ask, Find, RowReport, FirstGap, Open, Mark, Tick, Untick, Save, Drop, Strike};
 ghost use Rattle.ledger_sheet.specs.Words.{answerWords, rowWords, reportAnswerWords, gapWords};
 ghost use Rattle.ledger_layout.specs.Layout.{call, onSheet, freshOn};

@@ -4,7 +4,7 @@ use mathlib.Core.List.{List, _∷_, _++_}
 use lib.ListN.{replicate}
 use Rattle.octets.specs.Octets.{bytesOf}
 use Rattle.ledger_sheet.specs.Sheet.{sheetSize, rowCount, rowsStart, deskCount, desksStart}
-use Rattle.ledger_sheet.specs.Sheet.{headerNumberSize, used}
+use Rattle.ledger_sheet.specs.Sheet.{headerNumberSize}
 
 -- The header of a sheet with so many rows used.
 unfoldable pub headerBytes : ℕ → List ℕ

@@ -4,7 +4,7 @@ use ledger_sheet::Answer;
 use ledger_sheet::right;
 use refusals::Refusal;
 ghost use mathlib.Core.Path.{_≡_};
-ghost use Prim.Native.Nat.{_+_, _<_};
+ghost use Prim.Native.Nat.{_<_};
 ghost use lib.ListN.{length};
 ghost use Rattle.ledger_sheet.specs.Sheet.{sheetSize, rowSize, deskCount};
 ghost use Rattle.ledger_changes.specs.inner.Bytes.{markRow, markPosition, markDesk};

@@ -1,19 +1,19 @@
 -- The clauses of `right`: of a desk whose first byte is known, and what a right sheet tells. Assumes nothing.
-use Prim.Native.Nat.{ℕ, _+_, _*_, _-_, _≤_, _<_}
+use Prim.Native.Nat.{ℕ, _+_, _*_, _-_, _≤_}
 use native.Mathlib.Omega.{arith}
-use mathlib.Core.Bool.{Bool, true, false, _&&_}
+use mathlib.Core.Bool.{Bool, true, _&&_}
 use mathlib.Core.List.{List}
 use mathlib.Core.Path.{_≡_, sym, _∙_}
 use lib.Dec.{eqb, ltb, leb, lit≤}
 use lib.ListN.{length}
-use borrow.Author.Tests.{eqb-true, leb-true, ltb-true}
+use borrow.Author.Tests.{eqb-true, leb-true}
 use Rattle.octets.specs.Octets.{all, zeroAt}
-use Rattle.octets.proofs.Laws.{and-split, and-true, all-at}
+use Rattle.octets.proofs.Laws.{and-split, and-true}
 use Rattle.ledger_sheet.specs.Sheet.{rowCount, rowsStart, deskZerosAt, deskZerosSize, openedAt, deskCount, lengthAt}
 use Rattle.ledger_sheet.specs.Sheet.{rowCountAt, rowsStartAt, deskCountAt, desksStartAt, headerNumber, used}
 use Rattle.ledger_convert.specs.Old.{sheetSize, rowSize, deskSize}
 use Rattle.ledger_convert.specs.Old.{workedAt, desksStart, rowAt, deskAt}
-use Rattle.ledger_convert.specs.Old.{deskByte, deskRow, isClosed, carries, headerRight, validKeys, differentKeys}
+use Rattle.ledger_convert.specs.Old.{deskByte, deskRow, carries, headerRight, validKeys, differentKeys}
 use Rattle.ledger_convert.specs.Old.{firstNumbers, unusedZero, closedZero, deskMarked, openNames, deskRight, right}
 use Rattle.ledger_convert.specs.inner.Sized.{Sized}
 use Rattle.ledger_sheet.proofs.Desks.{closed-is, open-is, UpTo, longer, ended}
@@ -95,13 +95,3 @@ right-parts s h =
 -- its length and its count of rows: what the functions on a right sheet ask
 pub sized : (s : List ℕ) → right s ≡ true → Sized s
 sized s h = let r = right-parts s h in record { long = r .long; few = header-few s (r .header) }
-
--- a desk that is not closed names one of the used rows
-pub open-row : (s : List ℕ) (d : ℕ) → right s ≡ true → d < deskCount → isClosed s d ≡ false → deskRow s d < used s
-unfolding deskRight openNames
-open-row s d h l o =
-    let names = and-split (closedZero s d && deskMarked s d) (openNames s d) (all-at deskCount d (deskRight s) (right-parts s h .desks) l) .1 in
-    let row = ltb (deskRow s d) (used s) in
-    let opened = carries s (deskAt d + openedAt) (deskRow s d) in
-    let h1 = and-split (row && opened) (carries s (deskAt d + workedAt) (deskRow s d)) (rw o at names) in
-    ltb-true _ _ (and-split row opened (h1 .0) .0)

@@ -1,13 +1,12 @@
 -- A converted sheet answers as the old one's book; and an old sheet given to a new call is refused. Assumes nothing.
 use Prim.Native.Nat.{ℕ}
 use native.Mathlib.Omega.{arith}
-use mathlib.Core.Bool.{Bool, true, false, _&&_}
+use mathlib.Core.Bool.{Bool, true, false, _&&_, false≢true}
 use mathlib.Core.List.{List, [], _∷_}
 use mathlib.Core.Path.{_≡_, refl, ap, _∙_}
 use lib.Dec.{eqb}
 use lib.ListN.{length}
 use borrow.Author.Tests.{ne-eqb}
-use Rattle.refusals.proofs.Numerals.{zero-is-one}
 use Rattle.ledger_model.specs.Book.{Book}
 use Rattle.octets.proofs.Laws.{and-split}
 use Rattle.ledger_sheet.specs.Sheet.{sheetSize, right}
@@ -30,7 +29,7 @@ accepted old new t e = by (eqb (length new) sheetSize && Old.right old) refl
     by false q =
         let d : _≡_ {A = Outcome} (0 ∷ [], t) (20 ∷ [], new) = rw q at e in
         let f : _≡_ {A = List ℕ} (0 ∷ []) (20 ∷ []) = ap (λ (o : Outcome). o .0) d in
-        zero-is-one cc
+        absurd (false≢true cc)
 
 pub converted-answers : (old new t : List ℕ) → (0 ∷ [], t) ≡ convertOn old new → AnswersAsBefore old t
 converted-answers old new t e =

@@ -10,12 +10,12 @@ use lib.Dec.{ltb}
 use lib.ListN.{length, replicate, length-append, length-replicate, getD-replicate}
 use lib.Seq.{ext-getD}
 use borrow.Author.Tests.{ltb-true, ltb-false, lt-ltb, le-ltb}
-use Rattle.ledger_model.specs.Book.{row, closed, place, withTicks}
+use Rattle.ledger_model.specs.Book.{place, withTicks}
 use Rattle.octets.specs.Octets.{bytesOf, part, put}
 use Rattle.octets.proofs.Laws.{Bytes, length-part, part-at, length-put}
 use Rattle.octets.proofs.Parts.{part-join, part-whole, part-first, part-second}
 use Rattle.ledger_sheet.specs.Sheet.{sheetSize, keyStart, rowSize, rowCount, rowsStart, deskSize, deskCount}
-use Rattle.ledger_sheet.specs.Sheet.{openedAt, workedAt, desksStart, headerNumberSize, usedAt, rowAt, deskAt, count}
+use Rattle.ledger_sheet.specs.Sheet.{openedAt, desksStart, headerNumberSize, usedAt, rowAt, deskAt, count}
 use Rattle.ledger_sheet.specs.declared.Row.{Row}
 use Rattle.ledger_changes.specs.Rows.{rowBytes}
 use Rattle.ledger_changes.specs.inner.Rows.{rowValueAt}

@@ -5,9 +5,9 @@ use mathlib.Core.Logic.{_≢_}
 use mathlib.Core.Path.{_≡_, refl, sym, ap, _∙_}
 use Rattle.refusals.specs.Table.{numberOf}
 use Rattle.refusals.proofs.Laws.{number-positive}
-use Rattle.refusals.proofs.Numerals.{zero-is-one}
+use mathlib.Core.Bool.{false≢true}
 use Rattle.ledger_model.specs.Book.{Book, idle}
-use Rattle.ledger_model.specs.Step.{Call, Answer, gave, done, atRow, refused, answerWords, step, Entry, callOf, bookAfter}
+use Rattle.ledger_model.specs.Step.{Call, Answer, gave, done, atRow, refused, step, Entry, callOf, bookAfter}
 use Rattle.ledger_model.specs.WellFormed.{WellFormed}
 use Rattle.ledger_model.specs.Chain.{Chain}
 use Rattle.ledger_model.proofs.WellFormed.{run-well-formed}
@@ -44,7 +44,7 @@ each c b a t ok m =
 
 -- an answer that is no refusal with the number 0
 improper : (a : Answer) → Proper a → a ≢ refused 0
-improper (gave words) h e = zero-is-one cc
+improper (gave words) h e = false≢true cc
 improper (refused number) h e = h (cc)
 
 -- What a contract says, with the answer as the function's enum.

@@ -2,14 +2,13 @@
 use Prim.Native.Nat.{ℕ, zero, suc, _+_, _*_, _^_, _<_, _≤_}
 use native.Mathlib.Nat.{add-zero}
 use native.Mathlib.Omega.{arith}
-use mathlib.Core.Bool.{Bool, true, false, not, _||_}
+use mathlib.Core.Bool.{Bool, true, false, not, _||_, false≢true}
 use mathlib.Core.Option.{some}
 use mathlib.Core.List.{List, [], _∷_}
 use mathlib.Core.Path.{_≡_, refl, sym, ap, _∙_}
 use lib.Dec.{ltb, lit<}
 use lib.ListN.{length, getD, replicate, getD-replicate, List·getD-eq-default}
 use borrow.Author.Tests.{ltb-true, ltb-false, lt-ltb, eq-eqb, ne-eqb}
-use Rattle.refusals.proofs.Numerals.{zero-is-one}
 use Rattle.keys.specs.Numbers.{modulus}
 use Rattle.ledger_model.specs.Positions.{Positions}
 use Rattle.ledger_model.specs.Book.{Place, free, row, Desk, closed, working, Book, place, desk, isFree, withTicks}
@@ -38,7 +37,7 @@ part-zero s a n e =
 
 -- an open desk is one of the list
 desk-there : (ds : List Desk) (d : ℕ) {r : ℕ} {opened worked : Positions} → getD ds d closed ≡ working r opened worked → d < length ds
-desk-there [] d e = zero-is-one cc
+desk-there [] d e = absurd (false≢true cc)
 desk-there (x ∷ ds) zero e = omega arith
 desk-there (x ∷ ds) (suc d) e = let h = desk-there ds d e in omega arith
 

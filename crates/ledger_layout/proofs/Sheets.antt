@@ -16,7 +16,7 @@ use Rattle.ledger_sheet.specs.Sheet.{rowSize, rowCount, deskSize, deskCount, ri
 use Rattle.ledger_sheet.specs.Outcome.{Outcome}
 use Rattle.ledger_changes.specs.Bytes.{headerBytes, freshSheet}
 use Rattle.ledger_layout.specs.inner.Calls.{enrolCall, findCall, openCall, dropCall, markCall, saveCall, reportCall, gapCall, strikeCall}
-use Rattle.ledger_layout.specs.Layout.{placeBytes, deskBytes, countUsed, layout, bookOf, call, laidOut, onSheet, freshOn}
+use Rattle.ledger_layout.specs.Layout.{placeBytes, deskBytes, countUsed, layout, bookOf, call, laidOut, onSheet}
 use Rattle.octets.specs.Lists.{laid}
 use Rattle.octets.proofs.Lists.{laid-zeros}
 use Rattle.ledger_layout.proofs.Right.{reads-back, layout-right}

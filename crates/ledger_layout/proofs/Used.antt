@@ -3,7 +3,7 @@
 use Prim.Native.Nat.{ℕ, zero, suc, _+_, _≤_, _<_, zero-le, suc-le-suc}
 use native.Mathlib.Nat.{add-zero, add-suc, suc-add, zero-add, zero-lt-suc}
 use native.Mathlib.Omega.{arith}
-use mathlib.Core.Bool.{Bool, true, false, cond, not, _||_, false≢true}
+use mathlib.Core.Bool.{Bool, true, false, cond, not, _||_}
 use mathlib.Core.Option.{Option, none, some}
 use mathlib.Core.List.{List, [], _∷_}
 use mathlib.Core.Path.{_≡_, refl, sym, ap, subst, _∙_}
@@ -63,15 +63,15 @@ pub count-more : (ps : List Place) (r key first : ℕ) (ticks : Positions) → r
 unfolding countUsed
 count-more [] r key first ticks l f = absurd (omega arith)
 count-more (free ∷ ps) zero key first ticks l f = refl
-count-more (row k g t ∷ ps) zero key first ticks l f = absurd (false≢true f)
+count-more (row k g t ∷ ps) zero key first ticks l f = cc
 count-more (free ∷ ps) (suc r) key first ticks l f = count-more ps r key first ticks (omega arith) f
 count-more (row k g t ∷ ps) (suc r) key first ticks l f = ap suc (count-more ps r key first ticks (omega arith) f)
 
 -- a used place that is freed
 pub count-less : (ps : List Place) (r : ℕ) → isFree (getD ps r free) ≡ false → countUsed ps ≡ suc (countUsed (set ps r free))
 unfolding countUsed
-count-less [] r f = absurd (false≢true (sym f))
-count-less (free ∷ ps) zero f = absurd (false≢true (sym f))
+count-less [] r f = cc
+count-less (free ∷ ps) zero f = cc
 count-less (row key first ticks ∷ ps) zero f = refl
 count-less (free ∷ ps) (suc r) f = count-less ps r f
 count-less (row key first ticks ∷ ps) (suc r) f = ap suc (count-less ps r f)
@@ -122,7 +122,7 @@ has-law (row k first ticks ∷ ps) key p h =
 
 pub find-law : (ps : List Place) (key : ℕ) (p : ℕ → Bool) → Of key p ps → hasKey key ps ≡ true → lowest (length ps) p ≡ placeWith key ps
 unfolding lowest hasKey placeWith
-find-law [] key p h e = absurd (false≢true e)
+find-law [] key p h e = cc
 find-law (free ∷ ps) key p h e = rw (h .of-free 0 (zero-lt-suc _) refl) (ap suc (find-law ps key (λ i. p (suc i)) (of-further key p free ps h) e))
 find-law (row k first ticks ∷ ps) key p h e =
     rw (h .of-row 0 k first ticks refl) (by (eqb k key) e (find-law ps key (λ i. p (suc i)) (of-further key p (row k first ticks) ps h)))

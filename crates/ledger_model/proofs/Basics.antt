@@ -10,7 +10,6 @@ use lib.Dec.{eqb}
 use lib.ListN.{getD, set, length, replicate}
 use lib.Seq.{getD-set-same, getD-set-other, set-getD}
 use borrow.Author.Tests.{ltb-true, eqb-false, eq-eqb}
-use Rattle.refusals.proofs.Numerals.{zero-is-one}
 use Rattle.ledger_model.specs.Positions.{Positions, same}
 use Rattle.ledger_model.specs.Book.{Place, free, row, Desk, closed, working, isFree, isDesk, allUsed, lowestFree, anyHasOpen}
 
@@ -78,11 +77,11 @@ lowest (row key first ticks ∷ ps) e =
 -- A place with a row is not a free one.
 pub row-not-free : (ps : List Place) (r q key first : ℕ) (s : Positions) → getD ps r free ≡ row key first s
     → getD ps q free ≡ free → r ≢ q
-row-not-free ps r q key first s h e p = zero-is-one cc
+row-not-free ps r q key first s h e p = false≢true cc
 
 -- A place that has a row is one of the list.
 pub row-in : (ps : List Place) (r : ℕ) {key first : ℕ} {s : Positions} → getD ps r free ≡ row key first s → r < length ps
-row-in [] r e = zero-is-one cc
+row-in [] r e = absurd (false≢true cc)
 row-in (p ∷ ps) zero e = zero-lt-suc _
 row-in (p ∷ ps) (suc r) e = suc-le-suc (row-in ps r e)
 
@@ -100,8 +99,8 @@ has-row (row key first ticks) e = record { key = key; first = first; ticks = tic
 -- Where no desk has place r open, a desk with a place open has another.
 pub not-open : (xs : List Desk) (r d q : ℕ) (opened worked : Positions) → anyHasOpen r xs ≡ false → getD xs d closed ≡ working q opened worked → q ≢ r
 unfolding anyHasOpen
-not-open [] r d q opened worked n e p = zero-is-one cc
-not-open (closed ∷ xs) r zero q opened worked n e p = zero-is-one cc
+not-open [] r d q opened worked n e p = false≢true cc
+not-open (closed ∷ xs) r zero q opened worked n e p = false≢true cc
 not-open (closed ∷ xs) r (suc d) q opened worked n e p = not-open xs r d q opened worked n e p
 not-open (working q′ o′ w′ ∷ xs) r zero q opened worked n e p = let s : q′ ≡ r = cc in eqb-false q′ r (or-false _ _ n .0) s
 not-open (working q′ o′ w′ ∷ xs) r (suc d) q opened worked n e p = not-open xs r d q opened worked (or-false (eqb q′ r) _ n .1) e p

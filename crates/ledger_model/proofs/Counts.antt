@@ -4,7 +4,7 @@ use Prim.Native.Nat.{ℕ, zero, suc, _+_, _≤_, _<_, zero-le, suc-le-suc}
 use native.Mathlib.Nat.{zero-lt-suc}
 use native.Mathlib.Omega.{arith}
 use mathlib.Core.Path.{_≡_, refl, sym, ap}
-use mathlib.Core.Bool.{Bool, true, false, not, _&&_, true≢false, false≢true}
+use mathlib.Core.Bool.{Bool, true, false, not, _&&_, false≢true}
 use mathlib.Core.Option.{Option, none, some, Option·map, Option·none-ne-some}
 use mathlib.Core.List.{List, [], _∷_}
 use lib.ListN.{length, getD, set}
@@ -58,9 +58,9 @@ ticked-any (false ∷ s) e = let k = ticked-any s e in record { where-at = suc (
 
 any-ticked : (s : Positions) (i : ℕ) → has s i ≡ true → anyTicked s ≡ true
 unfolding anyTicked
-any-ticked [] i e = absurd (false≢true e)
+any-ticked [] i e = cc
 any-ticked (true ∷ s) i e = refl
-any-ticked (false ∷ s) zero e = absurd (false≢true e)
+any-ticked (false ∷ s) zero e = cc
 any-ticked (false ∷ s) (suc i) e = any-ticked s i e
 
 not-ticked : (x : Bool) → not x ≡ true → x ≡ false
@@ -70,7 +70,7 @@ not-ticked false e = refl
 -- A position is missing exactly when it is unticked and a higher one is ticked.
 pub missing-unticked : (s : Positions) (i : ℕ) → has (missing s) i ≡ true → has s i ≡ false
 unfolding missing
-missing-unticked [] i e = absurd (false≢true e)
+missing-unticked [] i e = cc
 missing-unticked (x ∷ s) zero e = not-ticked x (and-true (not x) (anyTicked s) e .0)
 missing-unticked (x ∷ s) (suc i) e = missing-unticked s i e
 
@@ -85,7 +85,7 @@ missing-below (x ∷ s) (suc i) e =
 
 pub missing-at : (s : Positions) (i : ℕ) → has s i ≡ false → TickedAbove s i → has (missing s) i ≡ true
 unfolding missing
-missing-at [] i u k = absurd (false≢true (k .ticked))
+missing-at [] i u k = cc
 missing-at (x ∷ s) zero u k = at (k .higher) (k .above) (k .ticked)
   where
     at : (j : ℕ) → zero < j → has (x ∷ s) j ≡ true → (not x && anyTicked s) ≡ true
@@ -142,16 +142,16 @@ none-least (false ∷ s) e = ap (Option·map suc) (none-least s e)
 pub size-tick : (s : Positions) (i : ℕ) → i < length s → has s i ≡ false → size (set s i true) ≡ suc (size s)
 unfolding size
 size-tick [] i h e = absurd (omega arith)
-size-tick (true ∷ s) zero h e = absurd (true≢false e)
+size-tick (true ∷ s) zero h e = cc
 size-tick (false ∷ s) zero h e = refl
 size-tick (true ∷ s) (suc i) h e = ap suc (size-tick s i (omega arith) e)
 size-tick (false ∷ s) (suc i) h e = size-tick s i (omega arith) e
 
 pub size-untick : (s : Positions) (i : ℕ) → has s i ≡ true → suc (size (set s i false)) ≡ size s
 unfolding size
-size-untick [] i e = absurd (false≢true e)
+size-untick [] i e = cc
 size-untick (true ∷ s) zero e = refl
-size-untick (false ∷ s) zero e = absurd (false≢true e)
+size-untick (false ∷ s) zero e = cc
 size-untick (true ∷ s) (suc i) e = ap suc (size-untick s i e)
 size-untick (false ∷ s) (suc i) e = size-untick s i e
 

@@ -13,7 +13,6 @@ use lib.ListN.{length, getD, set}
 use lib.Seq.{getD-set-same, getD-set-other}
 use borrow.Author.Tests.{eqb-true, eqb-false, ltb-true, not-false}
 use Rattle.refusals.specs.Judge.{verdict, judge}
-use Rattle.refusals.proofs.Numerals.{zero-is-one}
 use Rattle.keys.specs.Key.{validKey}
 use Rattle.keys.specs.Numbers.{isNumber}
 use Rattle.ledger_model.specs.Positions.{rowLength, Positions, has, same, size, missing, inRow}
@@ -96,7 +95,7 @@ module _ (b : Book) (r : ℕ) where
     where
       at : {s : Reply} → Outcome b (Strike r) s → s .answer ≡ done
           → (place (s .book) r ≡ free) × ((q : ℕ) → q ≢ r → place (s .book) q ≡ place b q) × (s .book .desks ≡ b .desks)
-      at (refusal number m) a = zero-is-one cc
+      at (refusal number m) a = absurd (false≢true cc)
       at (striking f n) a = (put-back free (λ p. p ≡ free) (b .places) r free refl refl, λ q m. getD-set-other (b .places) r q free free m, refl)
 
 -- ---- used places
@@ -122,10 +121,10 @@ pub record Changes (flag : Bool) (i : ℕ) (worked : Positions) : Type 0 where
   pub was-not : has worked i ≡ not flag
 
 differs : (x flag : Bool) → Bool·beq x flag ≡ false → x ≡ not flag
-differs true true e = absurd (true≢false e)
+differs true true e = cc
 differs true false e = refl
 differs false true e = refl
-differs false false e = absurd (true≢false e)
+differs false false e = cc
 
 pub changes : (flag : Bool) (i : ℕ) (worked : Positions) → markVerdict flag i worked ≡ 0 → Changes flag i worked
 unfolding markVerdict
@@ -157,8 +156,8 @@ mark-counts b w flag d n = at (outcome (Mark flag d n) b)
     at : {s : Reply} → Outcome b (Mark flag d n) s → s .answer ≡ done
         → Counted flag (size (workedOf (desk b d))) (size (workedOf (desk (s .book) d)))
     at (refusal number m) a = absurd (true≢false m)
-    at (unopened number e) a = zero-is-one cc
-    at (unmarked r opened worked i number h p q z) a = zero-is-one cc
+    at (unopened number e) a = absurd (false≢true cc)
+    at (unmarked r opened worked i number h p q z) a = absurd (false≢true cc)
     at (marking r opened worked i h p q) a =
         let k = rw (h .1) at (w .desk-ok d) in
         rw (h .1, getD-set-same (b .desks) d (working r opened (set worked i flag)) _ (rw (w .desks-count) (ltb-true d 8 (h .0))))
@@ -182,7 +181,7 @@ module _ (b : Book) (d r : ℕ) (opened worked : Positions) (h : Has b d r opene
       rw (save-step b d (h .0) r opened worked (h .1))
       (by-test (λ (s : Reply). s .answer ≡ done → ticksOf (place (s .book) r) ≡ worked) (same (ticksOf (place b r)) opened)
       (λ _ _. stored (has-row (place b r) u))
-      (λ _ a. zero-is-one cc))
+      (λ _ a. cc))
     where
       stored : HasRow (place b r) → ticksOf (getD (set (b .places) r (withTicks worked (place b r))) r free) ≡ worked
       stored k = rw (getD-set-same (b .places) r _ free (row-in (b .places) r (k .is)), k .is)
@@ -192,7 +191,7 @@ module _ (b : Book) (d r : ℕ) (opened worked : Positions) (h : Has b d r opene
   stale-stores-nothing =
       rw (save-step b d (h .0) r opened worked (h .1))
       (by-test (λ (s : Reply). s .answer ≡ refused 31 → s .book .places ≡ b .places) (same (ticksOf (place b r)) opened)
-      (λ _ a. zero-is-one cc)
+      (λ _ a. cc)
       (λ _ _. refl))
 
   -- Either closes the desk.

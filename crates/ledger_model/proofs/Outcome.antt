@@ -71,7 +71,7 @@ by-desk (working r opened worked) f g = g r opened worked refl
 
 is-closed : (x : Desk) → isOpen x ≡ false → x ≡ closed
 is-closed closed e = refl
-is-closed (working r opened worked) e = absurd (false≢true (sym e))
+is-closed (working r opened worked) e = cc
 
 pub outcome : (c : Call) (b : Book) → Outcome b c (step c b)
 unfolding step refusals judge effect afterRefusal

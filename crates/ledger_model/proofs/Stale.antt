@@ -9,7 +9,6 @@ use mathlib.Core.List.{List, [], _∷_, _++_, append-assoc, append-nil, map}
 use lib.ListN.{getD, set}
 use lib.Seq.{getD-set-other, append-snoc}
 use borrow.Author.Tests.{ne-eqb, eq-eqb}
-use Rattle.refusals.proofs.Numerals.{zero-is-one}
 use Rattle.ledger_model.specs.Positions.{Positions, same}
 use Rattle.ledger_model.specs.Book.{Place, free, row, Desk, closed, working, Book, fresh, place, desk, ticksOf, withTicks, isDesk}
 use Rattle.ledger_model.specs.Step.{Call, Enrol, Ask, Open, Mark, Save, Drop, Strike, Answer, done}
@@ -286,7 +285,7 @@ stale-exactly b d r opened worked t e =
     (by-test
     (λ (s : Reply). (s .answer ≡ refused 31) ↔ (ticksOf (place b r) ≢ opened))
     (same (ticksOf (place b r)) opened)
-    (λ u. (λ a. zero-is-one cc, λ n. absurd (n (same-true _ _ u))))
+    (λ u. (λ a. absurd (false≢true cc), λ n. absurd (n (same-true _ _ u))))
     (λ u. (λ a p. true≢false (sym (same-refl opened) ∙ (rw p at u)), λ n. refl)))
 
 -- After any list of calls, a stale save has its cause.

@@ -3,14 +3,13 @@ use Prim.Native.Nat.{ℕ, zero, suc}
 use native.Mathlib.Decide.{ℕ-discrete}
 use mathlib.Core.Path.{_≡_, refl, sym, ap, _∙_}
 use mathlib.Core.Logic.{_≢_, _⊎_, inl, inr}
-use mathlib.Core.Bool.{false}
+use mathlib.Core.Bool.{false, false≢true}
 use mathlib.Core.Option.{some}
 use mathlib.Core.List.{List, [], _∷_}
 use lib.Dec.{eqb}
 use lib.ListN.{getD, set, length-set, length-replicate}
 use lib.Seq.{getD-set-same, getD-set-other}
 use borrow.Author.Tests.{eqb-false, ltb-true}
-use Rattle.refusals.proofs.Numerals.{zero-is-one}
 use Rattle.keys.specs.Numbers.{modulus}
 use Rattle.ledger_model.specs.Positions.{rowLength, Positions, noTicks}
 use Rattle.ledger_model.specs.Book.{Place, free, row, Desk, closed, working, Book, fresh, place}
@@ -24,8 +23,8 @@ use Rattle.ledger_model.proofs.Outcome.{unmarked, marking, saving, stal
 -- A key that is new is the key of no place.
 absent : (ps : List Place) (key r : ℕ) → hasKey key ps ≡ false → keyOf (getD ps r free) ≢ some key
 unfolding hasKey
-absent [] key r n e = zero-is-one cc
-absent (free ∷ ps) key zero n e = zero-is-one cc
+absent [] key r n e = false≢true cc
+absent (free ∷ ps) key zero n e = false≢true cc
 absent (free ∷ ps) key (suc r) n e = absent ps key r n e
 absent (row k first s ∷ ps) key zero n e = let q : k ≡ key = cc in eqb-false k key (or-false (eqb k key) _ n .0) q
 absent (row k first s ∷ ps) key (suc r) n e = absent ps key r (or-false (eqb k key) _ n .1) e

@@ -56,7 +56,7 @@ asks (Strike r) = false
 pub kept-asks : (c : Call) → isKept c ≡ true → asks c ≡ false
 unfolding isKept asks
 kept-asks (Enrol key first) k = refl
-kept-asks (Ask q) k = absurd (false≢true k)
+kept-asks (Ask q) k = cc
 kept-asks (Open d r) k = refl
 kept-asks (Mark flag d n) k = refl
 kept-asks (Save d) k = refl
@@ -69,7 +69,7 @@ model-fits (Enrol key first) b ok k =
     judged-fits rowFits (λ n. refl) (verdict (refusals (Enrol key first) b)) (Enrol key first) b
     (verdict-under (refusals (Enrol key first) b) (lit< tt, (lit< tt, (lit< tt, (lit< tt, tt)))))
     (lt-ltb (lowestFree (b .places)) 256 (omega (arith, lowest-in (b .places), ok .places-count)))
-model-fits (Ask q) b ok k = absurd (false≢true (sym k))
+model-fits (Ask q) b ok k = cc
 model-fits (Open d r) b ok k =
     judged-fits nothingFits (λ n. refl) (verdict (refusals (Open d r) b)) (Open d r) b
     (verdict-under (refusals (Open d r) b) (lit< tt, (lit< tt, (lit< tt, tt)))) refl

@@ -1,7 +1,7 @@
 -- A night's trace plays as 'same', and 'same' is said of the model's answers alone. Assumes nothing.
 use Prim.Native.Nat.{ℕ, zero, suc, _<_}
 use native.Mathlib.Omega.{arith}
-use mathlib.Core.Bool.{Bool, true, false, cond, not, false≢true}
+use mathlib.Core.Bool.{Bool, true, false, cond, not}
 use mathlib.Core.List.{List, [], _∷_, map}
 use mathlib.Core.Path.{_≡_, refl, sym, ap, _∙_}
 use lib.Dec.{eqb}
@@ -28,8 +28,8 @@ use Rattle.ledger_replay.specs.Trace.{lineAt, isTrace, callIn, answerIn,
 use Rattle.ledger_replay.specs.Record.{isKept, recorded, traceOf}
 use Rattle.ledger_replay.specs.Replay.{told, sameTold, differs, replayFrom, replayOn}
 use Rattle.ledger_replay.specs.inner.Making.{written}
-use Rattle.ledger_replay.specs.Laws.{rowFits, nothingFits, answerFits, fits, allFit}
-use Rattle.ledger_replay.specs.Nights.{PlaysAgain, NightPlaysAgain, AsModel, SameIsModel, ModelIsSame}
+use Rattle.ledger_replay.specs.Laws.{rowFits, nothingFits, answerFits, allFit}
+use Rattle.ledger_replay.specs.Nights.{NightPlaysAgain, AsModel, SameIsModel, ModelIsSame}
 use Rattle.ledger_replay.proofs.Turns.{written-row, written-number}
 use Rattle.ledger_replay.proofs.Written.{written-reads-back}
 use Rattle.ledger_replay.proofs.Kept.{asks, kept-asks, model-fits, unkept-stays}
@@ -72,12 +72,12 @@ module _ (x : Line) where
 
   enrol-line : (a : Answer) → eqb (x .call) enrolCall ≡ true → rowFits a ≡ true → sameTold (told (answerWords a)) (written x) ≡ true → answerIn x ≡ a
   unfolding rowFits answerIn
-  enrol-line (gave []) c h e = absurd (false≢true h)
+  enrol-line (gave []) c h e = cc
   enrol-line (gave (r ∷ [])) c h e =
       let z : eqb (x .answer) 0 ≡ true = eq-eqb (x .answer) 0 (sym (number-told (gave (r ∷ [])) e)) in
       let q : r ≡ x .row = row-told (gave (r ∷ [])) e ∙ written-row x c z in
       rw (z, c, q)
-  enrol-line (gave (r ∷ q ∷ words)) c h e = absurd (false≢true h)
+  enrol-line (gave (r ∷ q ∷ words)) c h e = cc
   enrol-line (refused n) c h e = refused-line n (and-split _ _ h .0) (number-told (refused n) e)
 
   plain-line : (a : Answer) → eqb (x .call) enrolCall ≡ false → nothingFits a ≡ true → sameTold (told (answerWords a)) (written x) ≡ true → answerIn x ≡ a
@@ -85,7 +85,7 @@ module _ (x : Line) where
   plain-line (gave []) c h e =
       let z : eqb (x .answer) 0 ≡ true = eq-eqb (x .answer) 0 (sym (number-told (gave []) e)) in
       rw (z, c)
-  plain-line (gave (r ∷ words)) c h e = absurd (false≢true h)
+  plain-line (gave (r ∷ words)) c h e = cc
   plain-line (refused n) c h e = refused-line n (and-split _ _ h .0) (number-told (refused n) e)
 
   -- The call of a line is no question, and gives nothing but where it is an enrolment.

@@ -1,9 +1,8 @@
 -- Different answers have different words. Assumes nothing.
-use mathlib.Core.Path.{_≡_, refl, ap}
+use mathlib.Core.Path.{refl, ap}
 use Rattle.refusals.proofs.Laws.{number-injective, number-positive}
-use Rattle.ledger_replay.specs.declared.Replayed.{Replayed}
 use Rattle.ledger_replay.specs.declared.Replayed.the-variants.{Same, Differs, Refused}
-use Rattle.ledger_replay.specs.Replay.{replayedWords, DifferentReplays}
+use Rattle.ledger_replay.specs.Replay.{DifferentReplays}
 
 pub same-replay : DifferentReplays
 same-replay Same Same e = refl

@@ -19,7 +19,7 @@ use Rattle.ledger_season.specs.Laws.{Alone, EachAlone}
 use Rattle.ledger_season.specs.declared.SheetCounts.{SheetCounts}
 use Rattle.ledger_season.specs.declared.SeasonReport.{SeasonReport}
 use Rattle.ledger_season.proofs.Sheets.{length-books, length-sheet}
-use Rattle.ledger_season.proofs.Judged.{Fit, wrongLength}
+use Rattle.ledger_season.proofs.Judged.{Fit}
 use Rattle.ledger_season.proofs.Read.{Says, Given, taken, refused, accepts, given}
 use Rattle.ledger_season.proofs.Laws.{one, whole, one-book, one-sum}
 use Rattle.ledger_season.proofs.Words.{counts-same}

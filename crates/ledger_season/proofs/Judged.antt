@@ -2,7 +2,7 @@
 use Prim.Native.Nat.{ℕ, _*_, _%_, _≤_, _<_}
 use native.Mathlib.Nat.{div-mul-le-self}
 use native.Mathlib.Omega.{arith}
-use mathlib.Core.Bool.{Bool, true, false, not, _||_}
+use mathlib.Core.Bool.{Bool, true, false, not, _||_, false≢true}
 use mathlib.Core.List.{List, [], _∷_}
 use mathlib.Core.Path.{_≡_, refl, sym, ap, _∙_}
 use lib.Dec.{eqb, ltb}
@@ -18,7 +18,7 @@ use Rattle.ledger_layout.proofs.Read.{book-fine}
 use Rattle.octets.proofs.Lists.{getD-table}
 use Rattle.ledger_season.specs.Report.{mostSheets, keyInTwo, report}
 use Rattle.ledger_season.specs.Season.{sheetAt, sheetCount, booksTo, books, rightTo, seasonRules, season}
-use Rattle.ledger_season.specs.inner.Gathered.{keysOf, keysOfAll, distinct}
+use Rattle.ledger_season.specs.inner.Gathered.{keysOfAll, distinct}
 use Rattle.ledger_season.proofs.Sheets.{length-books}
 use Rattle.ledger_season.proofs.Keys.{keys-law, book-distinct}
 
@@ -72,9 +72,9 @@ by-refusal false false false nothing answer q p e = absurd (p (cc))
 
 by-none : (a b t : Bool) (nothing answer : List ℕ) → 0 ∷ [] ≡ verdict (rules a b t nothing answer) ∷ [] → (a ≡ false) × (answer ≡ given a b t nothing answer)
 unfolding rules given judge
-by-none true b t nothing answer e = absurd (let z : _≡_ {A = ℕ} 0 42 = cc in omega arith)
-by-none false true t nothing answer e = absurd (let z : _≡_ {A = ℕ} 0 20 = cc in omega arith)
-by-none false false true nothing answer e = absurd (let z : _≡_ {A = ℕ} 0 41 = cc in omega arith)
+by-none true b t nothing answer e = absurd (false≢true cc)
+by-none false true t nothing answer e = absurd (false≢true cc)
+by-none false false true nothing answer e = absurd (false≢true cc)
 by-none false false false nothing answer e = (refl, refl)
 
 pub season-refused : (s : List ℕ) (q : ℕ) → (q ≡ 0 → ⊥) → q ∷ [] ≡ verdict (seasonRules s) ∷ [] → q ∷ report [] ≡ season s

@@ -2,14 +2,13 @@
 use Prim.Native.Nat.{ℕ, zero, suc, _+_, _≤_}
 use native.Mathlib.Nat.{le-of-suc-le-suc}
 use native.Mathlib.Omega.{arith}
-use mathlib.Core.Bool.{true, false}
+use mathlib.Core.Bool.{true, false, false≢true}
 use mathlib.Core.List.{List, [], _∷_, _++_}
 use mathlib.Core.Logic.{_↔_}
 use mathlib.Core.Option.{Option, none, some}
 use mathlib.Core.Path.{_≡_, refl, sym, ap, _∙_}
 use lib.ListN.{length, getD, take}
 use lib.Seq.{take-suc, take-length}
-use Rattle.refusals.proofs.Numerals.{zero-is-one}
 use Rattle.octets.specs.Octets.{all}
 use Rattle.octets.proofs.Parts.{part-whole}
 use Rattle.ledger_model.specs.Positions.{Positions, size, missing, least, positionNumber}
@@ -20,7 +19,6 @@ use Rattle.ledger_model.specs.Tally.{ticked}
 use Rattle.ledger_model.proofs.Counts.{least-none}
 use Rattle.ledger_model.proofs.Laws.{report-free, report-row}
 use Rattle.ledger_sheet.specs.Sheet.{sheetSize, rowCount, right}
-use Rattle.ledger_sheet.specs.declared.Answer.the-variants as A
 use Rattle.ledger_layout.specs.Layout.{bookOf, placeIn, call, onSheet}
 use Rattle.octets.proofs.Lists.{length-table}
 use Rattle.octets.specs.Lists.{table}
@@ -94,7 +92,7 @@ first r (row key start ticks ∷ ps) = by (least (missing ticks)) refl (first (s
         a-gap (positionNumber key start i) r (rw e) (λ z.
         let gone : size (missing ticks) ≡ 0 = omega arith in
         let o : _≡_ {A = Option ℕ} none (some i) = sym (size-none (missing ticks) gone) ∙ e in
-        zero-is-one cc)
+        false≢true cc)
 
 gap-where : (k : ℕ) (bs : List Book) → (seasonGapFrom k bs ≡ []) ↔ (inAll missingIn bs ≡ 0)
 unfolding seasonGapFrom inAll
@@ -105,14 +103,14 @@ gap-where k (b ∷ bs) = by (first 0 (b .places)) (gap-where (suc k) bs)
         → (gapIn k (firstGapFrom 0 (b .places)) (seasonGapFrom (suc k) bs) ≡ []) ↔ (missingIn b + inAll missingIn bs ≡ 0)
     by (no-gap e m) h = (λ f. let z = h .0 (rw e at f) in omega arith, λ f. rw e (h .1 (omega arith)))
     by (a-gap number q e m) h = (
-      λ f. let g : _≡_ {A = List ℕ} (k ∷ q ∷ number ∷ []) [] = rw e at f in zero-is-one cc,
+      λ f. let g : _≡_ {A = List ℕ} (k ∷ q ∷ number ∷ []) [] = rw e at f in cc,
       λ f. absurd (m (omega arith)),
     )
 
 gap-none : (g : SeasonGap) → (g ≡ G.Nothing) ↔ (orFurther g [] ≡ [])
 gap-none G.Nothing = (λ e. refl, λ e. refl)
 gap-none (G.Gap sheet r number) =
-    (λ e. zero-is-one cc, λ e. zero-is-one cc)
+    (λ e. cc, λ e. cc)
 
 says-gap : (r : SeasonReport) (bs : List Book) → Says r bs → (r .gap ≡ G.Nothing) ↔ (r .total .missing ≡ 0)
 says-gap r bs h =

@@ -2,14 +2,13 @@
 use Prim.Native.Nat.{ℕ, _+_, _*_, _≤_, _<_}
 use native.Mathlib.Numerals.{add-one}
 use native.Mathlib.Omega.{arith}
-use mathlib.Core.Bool.{Bool, true, false}
+use mathlib.Core.Bool.{Bool, true, false, false≢true}
 use mathlib.Core.List.{List, [], _∷_}
 use mathlib.Core.Option.{Option, none, some}
 use mathlib.Core.Path.{_≡_, refl, sym, ap, _∙_}
 use lib.ListN.{drop}
 use lib.Seq.{drop-cons, drop-length}
 use Rattle.refusals.specs.declared.Refusal.{Refusal}
-use Rattle.refusals.proofs.Numerals.{zero-is-one}
 use Rattle.ledger_model.specs.Positions.{rowLength, Positions, positionNumber, size, missing, least}
 use Rattle.ledger_model.specs.Book.{Place, free, row}
 use Rattle.ledger_model.specs.Book as Book
@@ -19,7 +18,6 @@ use Rattle.ledger_sheet.specs.Sheet.{rowCount, rowAt, isUsed, keyAt, firstNumbe
 use Rattle.ledger_sheet.specs.Words.{reportAnswerWords}
 use Rattle.ledger_sheet.specs.declared.ReportAnswer.the-variants as Report
 use Rattle.ledger_rows.specs.Ticks.{ticksIn}
-use Rattle.octets.specs.Lists.{table}
 use Rattle.ledger_counts.specs.inner.Counts.{lowestWords, reportWords}
 use Rattle.ledger_counts.proofs.Reports.{row-count, end-within}
 use Rattle.ledger_layout.specs.Layout.{placeIn, bookOf}
@@ -74,7 +72,7 @@ module _ (s : List ℕ) (r : ℕ) where
       by none e h = let k : 0 ∷ t ∷ 0 ∷ [] ≡ 0 ∷ size ticks ∷ size (missing ticks) ∷ [] = rw e at h in
           record { ticked-is = cc; missing-is = cc; none-is = e }
       by (some i) e h = let k : 0 ∷ t ∷ 0 ∷ [] ≡ 0 ∷ size ticks ∷ size (missing ticks) ∷ lowestWords s (rowAt r) (some i) = rw e at h in
-          zero-is-one cc
+          absurd (false≢true cc)
 
   pub gaps-say : (t m l : ℕ) → reportAnswerWords (Report.Gaps t m l) ≡ reportWords s (rowAt r) → Gaps t m l
   unfolding reportWords
@@ -84,13 +82,13 @@ module _ (s : List ℕ) (r : ℕ) where
           → 0 ∷ t ∷ m ∷ l ∷ [] ≡ 0 ∷ size ticks ∷ size (missing ticks) ∷ lowestWords s (rowAt r) lowestMissing
           → Gaps t m l
       by none e h = let k : 0 ∷ t ∷ m ∷ l ∷ [] ≡ 0 ∷ size ticks ∷ size (missing ticks) ∷ [] = rw e at h in
-          zero-is-one cc
+          absurd (false≢true cc)
       by (some i) e h = let k : 0 ∷ t ∷ m ∷ l ∷ [] ≡ 0 ∷ size ticks ∷ size (missing ticks) ∷ lowestWords s (rowAt r) (some i) = rw e at h in
           record { ticked-is = cc; missing-is = cc; at = i; some-is = e; lowest-is = cc }
 
   pub not-refused : (why : Refusal) → reportAnswerWords (Report.Refused why) ≡ reportWords s (rowAt r) → ⊥
   unfolding reportWords
-  not-refused why h = zero-is-one cc
+  not-refused why h = false≢true cc
 
   -- a free row adds nothing
   pub free-adds : (sum : Counted) → isUsed s r ≡ false → Adds (placeIn s r) r sum sum

@@ -15,10 +15,9 @@ use Rattle.ledger_model.specs.Counts.{firstGapFrom}
 use Rattle.ledger_sheet.specs.Sheet.{sheetSize}
 use Rattle.ledger_layout.specs.Layout.{bookOf}
 use Rattle.octets.proofs.Lists.{length-table, getD-table}
-use Rattle.ledger_season.specs.Report.{mostSheets, perMillion, three, tickedIn, missingIn, eachSheet, inAll, gapIn, seasonGapFrom, report}
+use Rattle.ledger_season.specs.Report.{mostSheets, three, tickedIn, missingIn, eachSheet, inAll, gapIn, seasonGapFrom, report}
 use Rattle.ledger_season.specs.Season.{sheetAt, booksTo, countsWords, sheetsWords, orFurther}
 use Rattle.ledger_season.specs.inner.Gathered.{orElse, Counts}
-use Rattle.ledger_season.specs.declared.RowGap.{RowGap}
 use Rattle.ledger_season.specs.declared.Counted.{Counted}
 use Rattle.ledger_season.specs.declared.SheetCounts.{SheetCounts}
 use Rattle.ledger_season.specs.declared.SeasonGap.{SeasonGap}

@@ -5,7 +5,6 @@ use mathlib.Core.List.{List, [], _∷_, _++_}
 use mathlib.Core.Path.{_≡_, refl, sym, ap, _∙_}
 use lib.ListN.{length, length-append}
 use Rattle.refusals.proofs.Laws.{number-positive, number-injective}
-use Rattle.refusals.proofs.Numerals.{zero-is-one}
 use Rattle.ledger_sheet.specs.declared.Answer.{Answer}
 use Rattle.ledger_sheet.specs.declared.Answer.the-variants as A
 use Rattle.ledger_season.specs.Season.{answerNumber, countsWords, sheetsWords, orFurther, reportWords, DifferentSeasons}
@@ -45,8 +44,8 @@ sheets-same (c ∷ cs) (d ∷ ds) l e =
 
 gaps-same : (g h : SeasonGap) → orFurther g [] ≡ orFurther h [] → g ≡ h
 gaps-same G.Nothing G.Nothing e = refl
-gaps-same G.Nothing (G.Gap sheet r number) e = zero-is-one cc
-gaps-same (G.Gap sheet r number) G.Nothing e = zero-is-one cc
+gaps-same G.Nothing (G.Gap sheet r number) e = cc
+gaps-same (G.Gap sheet r number) G.Nothing e = cc
 gaps-same (G.Gap s r n) (G.Gap t q m) e =
     let a : s ≡ t = cc in
     let b : r ≡ q = cc in

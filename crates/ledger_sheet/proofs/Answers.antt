@@ -1,11 +1,6 @@
 -- Different answers have different words. Assumes nothing.
-use mathlib.Core.Path.{_≡_, refl, ap}
+use mathlib.Core.Path.{refl, ap}
 use Rattle.refusals.proofs.Laws.{number-injective, number-positive}
-use Rattle.ledger_sheet.specs.declared.Answer.{Answer}
-use Rattle.ledger_sheet.specs.declared.RowAnswer.{RowAnswer}
-use Rattle.ledger_sheet.specs.declared.ReportAnswer.{ReportAnswer}
-use Rattle.ledger_sheet.specs.declared.GapAnswer.{GapAnswer}
-use Rattle.ledger_sheet.specs.Words.{answerWords, rowWords, reportAnswerWords, gapWords}
 use Rattle.ledger_sheet.specs.declared.Answer.the-variants as A
 use Rattle.ledger_sheet.specs.declared.RowAnswer.the-variants as R
 use Rattle.ledger_sheet.specs.declared.ReportAnswer.the-variants as Report

@@ -69,15 +69,6 @@ count-some (suc n) i p l e =
     (λ (q : i < n). omega (arith, count-some n i p q e))
     (eq-or-lt-of-le (omega arith))
 
-pub count-most : (n : ℕ) (p : ℕ → Bool) → count n p ≤ n
-unfolding count
-count-most zero p = omega arith
-count-most (suc n) p = by (count n p) (count-most n p) (p n)
-  where
-    by : (c : ℕ) → c ≤ n → (b : Bool) → c + cond b 1 0 ≤ suc n
-    by c l true = omega arith
-    by c l false = omega arith
-
 -- ---- what a right sheet tells
 
 -- its clauses

@@ -1,7 +1,7 @@
 -- Laws of a list of rules: either none applies, or one is the first. Assumes nothing.
 use Prim.Native.Nat.{ℕ, _<_}
 use native.Mathlib.Omega.{arith}
-use mathlib.Core.Bool.{Bool, true, false, false≢true}
+use mathlib.Core.Bool.{true, false, false≢true}
 use mathlib.Core.List.{List, [], _∷_, _++_}
 use mathlib.Core.Path.{_≡_, refl, sym, _∙_}
 use Rattle.refusals.specs.Judge.{Rule, _when_, judge, each, noneApplies, verdict}

@@ -1,6 +1,5 @@
 // The lines of numbers. Each function puts its text from index `at` on and answers where it ends.
 use ledger_season::SheetCounts;
-ghost use mathlib.Core.Bool.{false};
 ghost use Prim.Native.Nat.{_+_, _≤_};
 ghost use lib.ListN.{length};
 ghost use Rattle.text.specs.Text.{Puts};

@@ -14,7 +14,7 @@ use Rattle.octets.proofs.Puts.{put-put, put-start, put-seam}
 use Rattle.settings.specs.declared.Setting.{Setting}
 use Rattle.octets.specs.Lists.{laid}
 use Rattle.settings.specs.Fields.{fieldBytes}
-use Rattle.settings.specs.Model.{places, known, holds, latest, Outcome, addRules, add, foundWords, ask}
+use Rattle.settings.specs.Model.{places, known, holds, latest, Outcome, add, foundWords, ask}
 use Rattle.settings.specs.Sheet.{entriesStart, entrySize, sheetSize, entryAt, count, settingsOf, right}
 use Rattle.settings.specs.Layout.{headerFields, entryBytes, layout, onSheet}
 use Rattle.octets.proofs.Lists.{laid-more}

@@ -11,9 +11,9 @@ use Rattle.octets.proofs.Laws.{and-split}
 use Rattle.settings.specs.declared.Setting.{Setting}
 use Rattle.settings.specs.declared.Found.{Found}
 use Rattle.settings.specs.declared.Found.the-variants.{Nothing, Latest}
-use Rattle.settings.specs.Model.{places, known, isOf, holds, different, latest, foundWords, add, ask, Fine, AllFine, WellFormed}
+use Rattle.settings.specs.Model.{places, isOf, holds, different, latest, foundWords, add, ask, Fine, AllFine, WellFormed}
 use Rattle.settings.specs.Sheet.{settingsOf}
-use Rattle.settings.specs.Claims.{Finds, answerTo, SameSettings, addEach, AllThere, AnyOrder, AnyPlaces}
+use Rattle.settings.specs.Claims.{Finds, SameSettings, addEach, AllThere, AnyOrder, AnyPlaces}
 use Rattle.settings.proofs.Model.{isOf-sym}
 use Rattle.settings.proofs.Latest.{finds}
 use Rattle.settings.proofs.Added.{not-held, answer-right}

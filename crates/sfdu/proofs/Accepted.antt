@@ -9,7 +9,6 @@ use lib.Dec.{eqb, lit<}
 use lib.ListN.{length}
 use Rattle.refusals.specs.Table.{numberOf}
 use Rattle.refusals.proofs.Judged.{NoneHolds, AllGive, Outcome, none, first, outcome, none-judge, none-hold, none-applies, first-judge, first-gives}
-use Rattle.refusals.proofs.Numerals.{zero-is-one}
 use Rattle.octets.specs.Octets.{sameAt}
 use Rattle.octets.proofs.Laws.{and-split}
 use Rattle.sfdu.specs.declared.Kind.{Kind}
@@ -159,7 +158,7 @@ pub words-refused : (s : List ℕ) (n m : ℕ) → readOne s ≡ n ∷ m ∷ [] 
 words-refused s n m e = by (accepts s) refl
   where
     by : (b : Bool) → accepts s ≡ b → b ≡ false
-    by true a = zero-is-one (cc (accepted-words s a, e))
+    by true a = cc (accepted-words s a, e)
     by false a = refl
 
 -- ---- each fact by its name

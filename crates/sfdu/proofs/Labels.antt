@@ -1,11 +1,9 @@
 -- What follows from what a check of fields found: any list of rules made of its rules goes the same way. Assumes nothing.
 use Prim.Native.Nat.{ℕ}
 use mathlib.Core.List.{List, [], _∷_, _++_}
-use mathlib.Core.Path.{_≡_, sym, ap, _∙_}
+use mathlib.Core.Path.{_≡_, ap, _∙_}
 use Rattle.refusals.specs.Judge.{Rule, judge, answered}
 use Rattle.refusals.proofs.Judged.{Outcome, none, first, outcome, none-judge, first-judge, judge-each}
-use Rattle.refusals.proofs.Numerals.{zero-is-one}
-use Rattle.sfdu.specs.declared.Checked.{Checked}
 use Rattle.sfdu.specs.declared.Checked.the-variants.{Right, Wrong}
 use Rattle.sfdu.specs.Read.{_giving_, typeAndLength, blockRules}
 use Rattle.sfdu.specs.inner.Checked.{checked}
@@ -16,13 +14,13 @@ module _ {B : Type 0} (f : ℕ → B) (rules : List (Rule ℕ)) (answer : B) whe
     where
       by : Outcome rules → judge f rules answer ≡ answer
       by (none n) = none-judge f rules answer n
-      by (first g r) = zero-is-one (cc (first-judge Wrong Right r, e))
+      by (first g r) = cc (first-judge Wrong Right r, e)
 
   pub one-wrong : (a : ℕ) → checked rules ≡ Wrong a → judge f rules answer ≡ f a
   one-wrong a e = by (outcome rules)
     where
       by : Outcome rules → judge f rules answer ≡ f a
-      by (none n) = zero-is-one (cc (none-judge Wrong rules Right n, e))
+      by (none n) = cc (none-judge Wrong rules Right n, e)
       by (first g r) = let z : g ≡ a = cc (first-judge Wrong Right r, e) in first-judge f answer r ∙ ap f z
 
 module _ (n : ℕ) (s : List ℕ) (at type size : ℕ) (more : List (Rule (List ℕ))) (w : List ℕ) where

@@ -1,26 +1,15 @@
 -- The blocks of an accepted slice nest and fill it; 18 is never given. Assumes nothing.
-use Prim.Native.Nat.{ℕ, _+_, _-_, _≤_, _<_}
+use Prim.Native.Nat.{ℕ, _≤_, _<_}
 use native.Mathlib.Omega.{arith}
-use mathlib.Core.Bool.{Bool, true, false}
-use mathlib.Core.List.{List, [], _∷_, _++_}
+use mathlib.Core.Bool.{true, false, false≢true}
+use mathlib.Core.List.{List, [], _∷_}
 use mathlib.Core.Path.{_≡_, refl, sym, ap, _∙_}
 use borrow.Author.Tests.{le-ltb}
 use lib.Dec.{lit<}
 use Rattle.refusals.specs.Judge.{_when_, judge, answered}
 use Rattle.refusals.proofs.Judged.{AllGive, Outcome, none, first, outcome, none-judge, none-applies, first-judge, first-gives, judge-append}
-use Rattle.sfdu.specs.declared.Kind.{Kind}
-use Rattle.sfdu.specs.Nesting.{
-  blockLabelSize,
-  aggregationAt,
-  primaryAt,
-  secondaryAt,
-  dataAt,
-  dataValueAt,
-  aggregationLength,
-  primaryLength,
-  secondaryLength,
-}
-use Rattle.sfdu.specs.Read.{kindOf, recordLength, blockLength, _giving_, readRules, accepts, recordWords, readOne}
+use Rattle.sfdu.specs.Nesting.{aggregationAt, primaryAt, secondaryAt, aggregationLength, primaryLength, secondaryLength}
+use Rattle.sfdu.specs.Read.{kindOf, blockLength, _giving_, readRules, accepts, recordWords, readOne}
 use Rattle.sfdu.specs.Nested.{
   Block,
   aggregation,
@@ -30,11 +19,9 @@ use Rattle.sfdu.specs.Nested.{
   startOf,
   enclosingEnd,
   blockEnd,
-  Nested,
   AcceptedNest,
   someEndsPast,
   readWith18,
-  Without18,
   Never18,
 }
 use Rattle.sfdu.proofs.Placed.{placed}
@@ -121,8 +108,7 @@ not-18 s rest e = by (outcome (readRules s))
     )
 
     by : Outcome (readRules s) → ⊥
-    by (none n) =
-        let z : _≡_ {A = ℕ} 0 18 = cc (none-judge (λ given. given) (readRules s) (recordWords (kindOf s) s) n, e) in omega arith
+    by (none n) = false≢true (cc (none-judge (λ given. given) (readRules s) (recordWords (kindOf s) s) n, e))
     by (first g f) = first-gives P all f (sym (first-judge (λ given. given) (recordWords (kindOf s) s) f) ∙ e)
 
 without : (m : ℕ) (s : List ℕ) → readWith18 m s ≡ readOne s

@@ -1,13 +1,13 @@
 -- The number that goes with a refusal is a place in the slice, or its end. Assumes nothing.
-use Prim.Native.Nat.{ℕ, _+_, _≤_}
+use Prim.Native.Nat.{ℕ, _≤_}
 use native.Mathlib.Omega.{arith}
 use mathlib.Core.List.{List, [], _∷_}
 use mathlib.Core.Path.{_≡_, refl, sym, _∙_}
 use borrow.Author.Tests.{ltb-false, not-false}
 use lib.ListN.{length}
 use Rattle.refusals.proofs.Judged.{Outcome, none, first, outcome, none-judge, first-judge, FirstGives, first-has}
-use Rattle.refusals.proofs.Numerals.{zero-is-one}
-use Rattle.sfdu.specs.Nesting.{labelSize, dataAt, dataValueAt, wordSize}
+use mathlib.Core.Bool.{false≢true}
+use Rattle.sfdu.specs.Nesting.{labelSize, dataValueAt}
 use Rattle.sfdu.specs.Read.{kindOf, recordLength, readRules, recordWords, readOne, labelLength}
 use Rattle.sfdu.proofs.Placed.{placed}
 use Rattle.sfdu.proofs.Accepted.{in-range, record-length}
@@ -68,5 +68,5 @@ module _ (s : List ℕ) where
     where
       by : Outcome (readRules s) → m ≤ length s
       by (none h) =
-          zero-is-one (cc (none-judge (λ given. given) (readRules s) (recordWords (kindOf s) s) h, e))
+          absurd (false≢true (cc (none-judge (λ given. given) (readRules s) (recordWords (kindOf s) s) h, e)))
       by (first g f) = first-has Inside rules-inside f n m (sym (first-judge (λ given. given) (recordWords (kindOf s) s) f) ∙ e)

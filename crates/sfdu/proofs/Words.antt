@@ -1,15 +1,12 @@
 -- Different answers have different words. Assumes nothing.
-use Prim.Native.Nat.{ℕ}
 use mathlib.Core.Path.{_≡_, ap}
 use Rattle.refusals.specs.Table.{numberOf}
 use Rattle.refusals.proofs.Laws.{number-injective}
-use Rattle.refusals.proofs.Numerals.{zero-is-one}
 use Rattle.sfdu.specs.declared.Fault.{Fault}
 use Rattle.sfdu.specs.declared.Primary.{Primary}
-use Rattle.sfdu.specs.declared.Read.{Read}
 use Rattle.sfdu.specs.declared.Read.the-variants.{Record, Refused}
 use Rattle.sfdu.specs.Nesting.{kindNumber}
-use Rattle.sfdu.specs.Read.{wordsOf, faultWords, primaryWords, DifferentReads}
+use Rattle.sfdu.specs.Read.{faultWords, primaryWords, DifferentReads}
 use Rattle.sfdu.proofs.Accepted.{same-kind}
 
 pub same-primary : (p q : Primary) → primaryWords p ≡ primaryWords q → p ≡ q
@@ -35,6 +32,6 @@ same-read (Record k n p) (Record l m q) e =
     let primary : p ≡ q = same-primary p q words in
     let size : n ≡ m = cc in
     cc
-same-read (Record k n p) (Refused f) e = zero-is-one cc
-same-read (Refused f) (Record k n p) e = zero-is-one cc
+same-read (Record k n p) (Refused f) e = cc
+same-read (Refused f) (Record k n p) e = cc
 same-read (Refused f) (Refused g) e = ap Refused (same-fault f g e)

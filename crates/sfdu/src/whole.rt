@@ -1,6 +1,6 @@
 // How long the record at the start of a slice is, where read one accepts it: all that a walk asks of a record, and asked of each. A tag
 // and a block's label are each one word, and each kind is judged by itself, its offsets and lengths constants.
-ghost use mathlib.Core.Bool.{cond, _&&_};
+ghost use mathlib.Core.Bool.{cond};
 ghost use mathlib.Core.List.{_++_};
 ghost use mathlib.Core.Path.{_≡_};
 ghost use Prim.Native.Nat.{_+_, _-_, _≤_};

@@ -1,6 +1,5 @@
 // The walk, the number lists and the table for a host, their answers in numbers: what `reference/table` compares.
 ghost use mathlib.Core.Path.{_≡_};
-ghost use lib.ListN.{length};
 ghost use Rattle.sfdu_stream.specs.Walk.{wordsOf};
 ghost use Rattle.sfdu_stream.specs.Listing.{walked, listNumbers, listEntries};
 ghost use Rattle.sfdu_exported.specs.Numbers.{numbersOf};

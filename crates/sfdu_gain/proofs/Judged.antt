@@ -2,11 +2,10 @@
 use Prim.Native.Nat.{ℕ}
 use mathlib.Core.Bool.{Bool, true, false}
 use mathlib.Core.List.{List, [], _∷_, _++_, map}
-use mathlib.Core.Path.{_≡_, refl, sym, ap, _∙_}
+use mathlib.Core.Path.{_≡_, refl, sym, _∙_}
 use Rattle.refusals.specs.Judge.{Rule, judge}
 use Rattle.refusals.specs.Table.{numberOf}
 use Rattle.refusals.proofs.Judged.{NoneHolds, First, none-judge, first-judge, judge-append}
-use Rattle.refusals.proofs.Numerals.{zero-is-one}
 use Rattle.dates.specs.Calendar.{dayCount}
 use Rattle.settings.specs.declared.Asked.{Asked}
 use Rattle.settings.specs.declared.Asked.the-variants.{Given, Refused}
@@ -19,7 +18,7 @@ use Rattle.settings.specs.Layout.{onSheet}
 use Rattle.sfdu_headers.specs.Words.{Word, number}
 use Rattle.sfdu_headers.specs.Fields.{year, day}
 use Rattle.sfdu_rsr.specs.Record.{only, rsrRules, mission}
-use Rattle.sfdu_gain.specs.Gain.{gainOf, gainRules, gaining, agreed, editionOf, askedRules, agreedRules, agreedGain}
+use Rattle.sfdu_gain.specs.Gain.{gainOf, gaining, agreed, editionOf, askedRules, agreedGain}
 use Rattle.sfdu_gain.specs.inner.Told.{toldGain}
 
 -- Rules behind those of read headers: where one of these applies it decides, and else they do.
@@ -64,8 +63,8 @@ module _ (sheet s : List ℕ) where
       by (Given edition first frame) true (Latest x) r a e =
           let same : edition ≡ x .edition = cc (rw (r, a) at e) in
           rw (r, a, same)
-      by (Given edition first frame) true Nothing r a e = zero-is-one (cc (rw (r, a) at e))
-      by (Given edition first frame) false f r a e = zero-is-one (cc (rw r at e))
-      by (Refused why) true (Latest x) r a e = zero-is-one (cc (rw (r, a) at e))
+      by (Given edition first frame) true Nothing r a e = cc (rw (r, a) at e)
+      by (Given edition first frame) false f r a e = cc (rw r at e)
+      by (Refused why) true (Latest x) r a e = cc (rw (r, a) at e)
       by (Refused why) true Nothing r a e = let n : numberOf why ≡ 47 = cc (rw (r, a) at e) in rw (r, a, n)
       by (Refused why) false f r a e = let n : numberOf why ≡ 43 = cc (rw r at e) in rw (r, n)

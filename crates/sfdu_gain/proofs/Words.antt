@@ -3,9 +3,8 @@ use mathlib.Core.Path.{_≡_, refl, ap}
 use Rattle.refusals.proofs.Laws.{number-injective, number-positive}
 use Rattle.refusals.specs.Table.{numberOf}
 use Rattle.sfdu.proofs.Words.{same-fault}
-use Rattle.sfdu_gain.specs.declared.GainAnswer.{GainAnswer}
 use Rattle.sfdu_gain.specs.declared.GainAnswer.the-variants.{Multiplier, Nothing, Header, Refused}
-use Rattle.sfdu_gain.specs.Gain.{wordsOf, DifferentGains}
+use Rattle.sfdu_gain.specs.Gain.{DifferentGains}
 
 pub same-gain : DifferentGains
 same-gain (Multiplier n) (Multiplier m) e = cc

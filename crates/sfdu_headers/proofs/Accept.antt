@@ -1,9 +1,9 @@
 -- The words of accepted headers, from the words of their parts. Assumes nothing.
-use Prim.Native.Nat.{ℕ, zero, _+_, _*_, _/_, _%_, _^_, _<_}
+use Prim.Native.Nat.{ℕ, zero, _+_, _*_, _/_, _%_, _<_}
 use native.Mathlib.Nat.{add-zero, mod-eq-of-lt, div-eq-of-lt, mul-add-div-right, mul-add-mod-self-right}
 use native.Mathlib.Omega.{arith}
 use mathlib.Core.List.{List, [], _∷_, _++_}
-use mathlib.Core.Path.{_≡_, sym, ap, _∙_}
+use mathlib.Core.Path.{_≡_, ap, _∙_}
 use Rattle.octets.specs.Octets.{numberAt}
 use Rattle.octets.proofs.Laws.{Bytes, number-lt, number-join}
 use Rattle.sfdu.specs.Nesting.{secondaryAt}
@@ -13,7 +13,7 @@ use Rattle.sfdu.specs.declared.Kind.the-variants.{Telemetry, Rsr}
 use Rattle.sfdu_headers.specs.declared.TelemetryFields.{TelemetryFields}
 use Rattle.sfdu_headers.specs.declared.RsrSource.{RsrSource}
 use Rattle.sfdu_headers.specs.Words.{Word, number}
-use Rattle.sfdu_headers.specs.Fields.{spacecraft, source, received, equipment, virtualStream, rsrSpacecraft, station, receiver, subchannel}
+use Rattle.sfdu_headers.specs.Fields.{spacecraft, source, equipment, virtualStream, rsrSpacecraft, station, receiver, subchannel}
 use Rattle.sfdu_headers.specs.Headers.{accepted, telemetryFieldWords, sourceWords, sourceOf, fieldsOf, keyOf, addedOf}
 use Rattle.sfdu_headers.specs.inner.Parts.{extendedValues, millisecondValues}
 

@@ -1,17 +1,15 @@
 -- A record's year and day: a date with its count, or the field that is wrong. Assumes nothing.
 use Prim.Native.Nat.{ℕ, _+_}
-use mathlib.Core.Bool.{Bool, true, false, cond}
+use mathlib.Core.Bool.{Bool, true, false, cond, false≢true}
 use mathlib.Core.List.{List}
 use mathlib.Core.Path.{_≡_, refl, _∙_}
 use Rattle.refusals.specs.Judge.{judge}
-use Rattle.refusals.proofs.Numerals.{zero-is-one}
 use Rattle.sfdu.specs.declared.Checked.the-variants.{Right, Wrong}
 use Rattle.sfdu.specs.Nesting.{secondaryAt}
 use Rattle.dates.specs.declared.CountAnswer.{CountAnswer}
 use Rattle.dates.specs.declared.CountAnswer.the-variants.{Day, NotADate}
 use Rattle.dates.specs.Calendar.{isYear, isDay, isDate, dayCount}
 use Rattle.dates.specs.Answers.{countOf}
-use Rattle.sfdu_headers.specs.declared.Dated.{Dated}
 use Rattle.sfdu_headers.specs.Fields.{year, day, yearAt, dayAt}
 use Rattle.sfdu_headers.specs.inner.Dated.{IsDated}
 
@@ -35,8 +33,8 @@ is-dated s n h = by (isYear (year s)) (isDay (year s) (day s)) refl refl
     by true true e f =
         let same : Day n ≡ Day (dayCount (year s) (day s)) = h ∙ answer-is (year s) (day s) true true e f in
         record { judged = rw (e, f); counted = λ r. cc same }
-    by true false e f = let none : Day n ≡ NotADate = h ∙ answer-is (year s) (day s) true false e f in zero-is-one (cc none)
-    by false b e f = let none : Day n ≡ NotADate = h ∙ answer-is (year s) (day s) false b e f in zero-is-one (cc none)
+    by true false e f = let none : Day n ≡ NotADate = h ∙ answer-is (year s) (day s) true false e f in absurd (false≢true (cc none))
+    by false b e f = let none : Day n ≡ NotADate = h ∙ answer-is (year s) (day s) false b e f in absurd (false≢true (cc none))
 
 pub is-no-date : (s : List ℕ) (at : ℕ) → NotADate ≡ countOf (year s) (day s) → at ≡ cond (isYear (year s)) (secondaryAt + dayAt) (secondaryAt + yearAt)
     → IsDated s (record { checked = Wrong at; count = 0 })
@@ -46,6 +44,6 @@ is-no-date s at h i = by (isYear (year s)) (isDay (year s) (day s)) refl refl
     by : (a b : Bool) → isYear (year s) ≡ a → isDay (year s) (day s) ≡ b → IsDated s (record { checked = Wrong at; count = 0 })
     by true true e f =
         let none : NotADate ≡ Day (dayCount (year s) (day s)) = h ∙ answer-is (year s) (day s) true true e f in
-        zero-is-one (cc none)
-    by true false e f = record { judged = rw (i, e, f); counted = λ r. zero-is-one (cc r) }
-    by false b e f = record { judged = rw (i, e); counted = λ r. zero-is-one (cc r) }
+        absurd (false≢true (cc none))
+    by true false e f = record { judged = rw (i, e, f); counted = λ r. cc r }
+    by false b e f = record { judged = rw (i, e); counted = λ r. cc r }

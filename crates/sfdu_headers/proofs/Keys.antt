@@ -2,10 +2,7 @@
 use Prim.Native.Nat.{ℕ, _+_, _<_, _^_}
 use native.Mathlib.Omega.{arith}
 use mathlib.Core.List.{List}
-use lib.ListN.{getD}
 use mathlib.Core.Path.{_≡_}
-use mir.Syntax.{w8}
-use mir.Val.{Fits}
 use Rattle.octets.specs.Octets.{numberAt}
 use Rattle.octets.proofs.Laws.{Bytes}
 use Rattle.keys.specs.Stream.{telemetry, rsr}

@@ -7,7 +7,6 @@ use mathlib.Core.Path.{_≡_, sym, ap, _∙_}
 use borrow.Author.Tests.{eq-eqb, ne-eqb}
 use Rattle.refusals.specs.Judge.{judge}
 use Rattle.refusals.proofs.Judged.{Outcome, none, first, outcome, none-judge, first-judge}
-use Rattle.refusals.proofs.Numerals.{zero-is-one}
 use lib.ListN.{length}
 use Rattle.sfdu.specs.declared.Kind.{Kind}
 use Rattle.sfdu.specs.Nesting.{kindNumber, dataValueAt}
@@ -24,7 +23,7 @@ module _ (wanted : ℕ) (s : List ℕ) where
     where
       by : Outcome (readRules s) → readHeaders wanted s ≡ number n ∷ number m ∷ []
       by (none h) =
-          zero-is-one (cc (none-judge (λ given. given) (readRules s) (recordWords (kindOf s) s) h, e))
+          cc (none-judge (λ given. given) (readRules s) (recordWords (kindOf s) s) h, e)
       by (first g f) = first-judge (map number) _ f ∙ ap (map number) (sym (first-judge (λ given. given) (recordWords (kindOf s) s) f) ∙ e)
 
   pub wrong-kind : accepts s ≡ true → (wanted ≡ kindNumber (kindOf s) → ⊥) → readHeaders wanted s ≡ wrongKind

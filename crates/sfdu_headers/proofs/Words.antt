@@ -1,10 +1,9 @@
 -- Different answers have different words. Assumes nothing.
 use Prim.Native.Nat.{ℕ}
-use native.Mathlib.Omega.{arith}
 use mathlib.Core.List.{List, _∷_, [], map}
 use mathlib.Core.Path.{_≡_, refl, ap}
 use Rattle.refusals.specs.Table.{numberOf}
-use Rattle.refusals.proofs.Numerals.{zero-is-one}
+use mathlib.Core.Bool.{false≢true}
 use lib.ListN.{take, drop}
 use Rattle.sfdu.specs.declared.Primary.{Primary}
 use Rattle.sfdu.specs.Read.{primaryWords}
@@ -16,10 +15,9 @@ use Rattle.sfdu_headers.specs.declared.RsrSource.{RsrSource}
 use Rattle.sfdu_headers.specs.declared.RsrSignal.{RsrSignal}
 use Rattle.sfdu_headers.specs.declared.RsrReading.{RsrReading}
 use Rattle.sfdu_headers.specs.declared.ReceivedTime.{ReceivedTime}
-use Rattle.sfdu_headers.specs.declared.Headers.{Headers}
 use Rattle.sfdu_headers.specs.declared.Headers.the-variants.{Telemetry, Rsr, Refused, WrongKind}
 use Rattle.sfdu_headers.specs.Words.{Word, number}
-use Rattle.sfdu_headers.specs.Headers.{bandWord, telemetryFieldWords, sourceWords, signalWords, timeWords, receivedWords, wordsOf, DifferentHeaders}
+use Rattle.sfdu_headers.specs.Headers.{bandWord, telemetryFieldWords, sourceWords, signalWords, timeWords, receivedWords, DifferentHeaders}
 
 same-band : (a b : Band) → bandWord a ≡ bandWord b → a ≡ b
 same-band (Letter x) (Letter y) e = cc
@@ -128,15 +126,15 @@ same-headers (Refused f) (Refused g) e =
     let at : f .at ≡ g .at = cc in
     ap Refused (same-fault f g (rw (n, at)))
 same-headers WrongKind WrongKind e = refl
-same-headers (Telemetry n p f key r) (Rsr m q g u v l d) e = let z : _≡_ {A = ℕ} 1 2 = cc in absurd (omega arith)
-same-headers (Rsr m q g u v l d) (Telemetry n p f key r) e = let z : _≡_ {A = ℕ} 2 1 = cc in absurd (omega arith)
-same-headers (Telemetry n p f key r) WrongKind e = zero-is-one cc
-same-headers WrongKind (Telemetry n p f key r) e = zero-is-one cc
-same-headers (Rsr m q g u v l d) WrongKind e = zero-is-one cc
-same-headers WrongKind (Rsr m q g u v l d) e = zero-is-one cc
-same-headers (Telemetry n p f key r) (Refused h) e = zero-is-one cc
-same-headers (Refused h) (Telemetry n p f key r) e = zero-is-one cc
-same-headers (Rsr m q g u v l d) (Refused h) e = zero-is-one cc
-same-headers (Refused h) (Rsr m q g u v l d) e = zero-is-one cc
-same-headers WrongKind (Refused h) e = zero-is-one cc
-same-headers (Refused h) WrongKind e = zero-is-one cc
+same-headers (Telemetry n p f key r) (Rsr m q g u v l d) e = absurd (false≢true cc)
+same-headers (Rsr m q g u v l d) (Telemetry n p f key r) e = absurd (false≢true cc)
+same-headers (Telemetry n p f key r) WrongKind e = cc
+same-headers WrongKind (Telemetry n p f key r) e = cc
+same-headers (Rsr m q g u v l d) WrongKind e = cc
+same-headers WrongKind (Rsr m q g u v l d) e = cc
+same-headers (Telemetry n p f key r) (Refused h) e = cc
+same-headers (Refused h) (Telemetry n p f key r) e = cc
+same-headers (Rsr m q g u v l d) (Refused h) e = cc
+same-headers (Refused h) (Rsr m q g u v l d) e = cc
+same-headers WrongKind (Refused h) e = cc
+same-headers (Refused h) WrongKind e = cc

@@ -1,5 +1,5 @@
 -- What a turn ensures, from what its calls ensure. Assumes nothing.
-use Prim.Native.Nat.{ℕ, _+_, _*_, _≤_, _<_, _^_}
+use Prim.Native.Nat.{ℕ, _+_, _*_, _≤_, _^_}
 use native.Mathlib.Omega.{arith}
 use mathlib.Core.Bool.{false, true}
 use mathlib.Core.List.{List, [], _++_}
@@ -13,7 +13,6 @@ use Rattle.text.specs.State.{emptied}
 use Rattle.sfdu_listing.specs.Text.{heading}
 use Rattle.sfdu_listing.specs.Listing.{bufferSize}
 use Rattle.sfdu_listing.specs.Window.{mostText, Lists}
-use Rattle.sfdu_listing.specs.inner.Window.{Ready}
 use Rattle.sfdu_listing.specs.Run.{Run, begins, lists, writes, begun}
 use Rattle.text.proofs.Laid.{grown}
 use Rattle.turns.specs.declared.Piece.{Piece}
@@ -58,14 +57,6 @@ writes-on w out s x = record { read = x .read; ended = x .ended; written = x .wr
 module _ (w w₁ out : List ℕ) (s : State) (p : Piece) (going : Going w out s) (behind : Behind w (s .have) w₁ p) (same : length w₁ ≡ length w) where
   pub turn-fails : Turns w out s w₁ out (record { state = s; failed = true })
   turn-fails = turns.turn-fails w w₁ out s going (same-run w w₁ out s (behind .held))
-
-  pub ready : Ready w₁ out s (p .got)
-  ready = record {
-    window = omega (arith, same, going .window);
-    held = behind .within;
-    text = omega (arith, going .text, going .buffer);
-    place = going .place;
-  }
 
   module _ (w′ out′ : List ℕ) (r : State) (listed : Lists w₁ out s (p .got) w′ out′ r) where
     far : r .place ≤ s .place + bufferSize

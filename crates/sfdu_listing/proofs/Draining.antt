@@ -1,12 +1,11 @@
 -- The loop of `drain`: what holds each time it comes round. Assumes nothing.
 use Prim.Native.Nat.{ℕ, _+_, _-_, _*_, _≤_, _<_, _^_}
 use native.Mathlib.Omega.{arith}
-use mathlib.Core.Bool.{Bool, true, false}
+use mathlib.Core.Bool.{Bool, true, false, false≢true}
 use mathlib.Core.List.{List, [], _∷_, _++_}
 use mathlib.Core.Path.{_≡_, refl, ap, _∙_}
 use lib.ListN.{length, take, drop, length-drop}
 use lib.Seq.{take-length}
-use Rattle.refusals.proofs.Numerals.{zero-is-one}
 use Rattle.text.specs.Text.{Puts}
 use Rattle.sfdu.specs.declared.Kind.{Kind}
 use Rattle.sfdu.specs.Nesting.{kindNumber}
@@ -116,7 +115,7 @@ module _ (w : List ℕ) (place : ℕ) (last : Bool) (out₀ : List ℕ) (start :
       lines = record {
         within = r .under .within;
         says = stops w place last at (r .t) (r .under) n m f;
-        wants = λ (z : _≡_ {A = Bool} true false). zero-is-one cc;
+        wants = λ (z : _≡_ {A = Bool} true false). absurd (false≢true cc);
       };
       puts = then (r .puts) p (omega (arith, r .same, last-room));
       within = omega (arith, last-room);

@@ -9,7 +9,7 @@ use mathlib.Core.Path.{_≡_, refl, sym, ap, _∙_}
 use borrow.Author.Tests.{ltb-true, ltb-false, lt-ltb, le-ltb, eq-eqb, ne-eqb, not-false}
 use lib.Dec.{eqb, ltb, lit<}
 use lib.ListN.{length}
-use Rattle.refusals.specs.Judge.{Rule, _when_, judge, answered}
+use Rattle.refusals.specs.Judge.{Rule, judge, answered}
 use Rattle.refusals.proofs.Judged.{
   NoneHolds,
   AllGive,
@@ -26,7 +26,6 @@ use Rattle.refusals.proofs.Judged.{
   none-hold,
   one-first,
 }
-use Rattle.refusals.proofs.Numerals.{zero-is-one}
 use Rattle.sfdu.specs.declared.Kind.{Kind}
 use Rattle.octets.specs.Octets.{numberAt}
 use Rattle.sfdu.specs.Nesting.{kindNumber, labelSize, lengthAt, lengthSize, dataValueAt}
@@ -242,7 +241,7 @@ read-first s n m e = by (outcome (readRules s))
   where
     by : Outcome (readRules s) → First (readRules s) (n ∷ m ∷ [])
     by (none h) =
-        zero-is-one (cc (none-judge (λ given. given) (readRules s) (recordWords (kindOf s) s) h, e))
+        absurd (false≢true (cc (none-judge (λ given. given) (readRules s) (recordWords (kindOf s) s) h, e)))
     by (first g f) = rw (e ∙ first-judge (λ given. given) (recordWords (kindOf s) s) f) f
 
 module _ (s : List ℕ) (fits : length s ≤ bufferSize) (n m : ℕ) (e : n ∷ m ∷ [] ≡ readOne s) where
@@ -388,7 +387,7 @@ module _ (place : ℕ) (s : List ℕ) (last : Bool) where
   found-at x xs e = by (cutShort s && not last) refl
     where
       by : (b : Bool) → (cutShort s && not last) ≡ b → (b ≡ false) × (x ∷ xs ≡ foundAt place s)
-      by true q = let z : x ∷ xs ≡ [] = e ∙ rw q in zero-is-one cc
+      by true q = let z : x ∷ xs ≡ [] = e ∙ rw q in absurd (false≢true cc)
       by false q = (refl, e ∙ rw q)
 
   pub found-record : (k : Kind) (n m : ℕ) → 0 ∷ kindNumber k ∷ n ∷ m ∷ [] ≡ foundIn place s last → FoundRecord s k n m
@@ -411,7 +410,7 @@ module _ (place : ℕ) (s : List ℕ) (last : Bool) where
       by : (b : Bool) → whole s ≡ b → FoundStop place s last n m
       by true w =
           let f : n ∷ m ∷ [] ≡ 0 ∷ kindNumber (kindOf s) ∷ recordLength s ∷ recordNumber (kindOf s) s ∷ [] = found-at _ _ e .1 ∙ rw w in
-          zero-is-one cc
+          absurd (false≢true cc)
       by false w = record { none = w; known = found-at _ _ e .0; words = found-at _ _ e .1 ∙ rw w }
 
   pub found-more : [] ≡ foundIn place s last → (last ≡ false) × (cutShort s ≡ true)
@@ -424,7 +423,7 @@ module _ (place : ℕ) (s : List ℕ) (last : Bool) where
           two : (b : Bool) → whole s ≡ b → ⊥
           two true w =
               let q : [] ≡ 0 ∷ kindNumber (kindOf s) ∷ recordLength s ∷ recordNumber (kindOf s) s ∷ [] = f ∙ rw w in
-              zero-is-one cc
+              false≢true cc
           two false w = let q : [] ≡ stopWords place s = f ∙ rw w in omega (arith, ap length q, two-words place s w)
 
       by : (b l : Bool) → cutShort s ≡ b → last ≡ l → (l ≡ false) × (b ≡ true)

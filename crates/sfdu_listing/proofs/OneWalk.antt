@@ -1,22 +1,22 @@
 -- The laws of `specs/OneWalk.antt`. Assumes nothing.
 use Prim.Native.Nat.{ℕ, zero, suc, _+_, _≤_, _<_}
 use native.Mathlib.Omega.{arith}
-use mathlib.Core.Bool.{Bool, true, false, cond, _&&_, false≢true}
+use mathlib.Core.Bool.{Bool, true, false, false≢true}
 use mathlib.Core.List.{List, [], _∷_, _++_}
 use mathlib.Core.Logic.{_⊎_, inl, inr}
 use mathlib.Core.Path.{_≡_, refl, sym, ap, subst, _∙_}
-use borrow.Author.Tests.{ltb-true, ltb-false, le-ltb, ne-eqb}
+use borrow.Author.Tests.{ltb-true, ltb-false, ne-eqb}
 use lib.Dec.{ltb}
-use lib.ListN.{length, drop, length-drop}
+use lib.ListN.{length, drop}
 use lib.Seq.{drop-drop}
 use Rattle.octets.proofs.Laws.{and-split}
-use Rattle.refusals.specs.Judge.{Rule, judge, noneApplies}
+use Rattle.refusals.specs.Judge.{judge, noneApplies}
 use Rattle.refusals.proofs.Judged.{NoneHolds, First, here, none-hold, none-applies, first-judge}
 use Rattle.sfdu.specs.Nesting.{labelSize}
 use Rattle.sfdu.specs.Read.{kindOf, recordLength, cutRule, readRules, accepts, inStream, readOne}
 use Rattle.sfdu.proofs.Accepted.{Reads, accepted-one, refused-one, reads}
 use Rattle.sfdu_stream.specs.declared.Entry.{Entry}
-use Rattle.sfdu_stream.specs.Walk.{Rules, wholeBy, full, refusalBy, whole, past}
+use Rattle.sfdu_stream.specs.Walk.{wholeBy, full, refusalBy, whole, past}
 use Rattle.sfdu_stream.specs.inner.Refusal.{refusal}
 use Rattle.sfdu_stream.specs.Listing.{Listing as Walk, entryOf, entryAt, stopped, prepend, walkBy, walkFrom}
 use Rattle.sfdu_stream.specs.Laws.{StopsAtEnd, StopsRefused}
@@ -26,7 +26,7 @@ use Rattle.sfdu_stream.proofs.Listings.{goes-by, stops-by, goes-on, stops}
 use Rattle.sfdu_listing.specs.Text.{heading}
 use Rattle.sfdu_listing.specs.inner.Stops as Listed
 use Rattle.sfdu_listing.specs.Listing.{bufferSize, overRule, listRules, textOf, linesFrom, listing}
-use Rattle.sfdu_listing.specs.OneWalk.{programWalk, rulesTo5, over, overAt, UpToOver, EveryStream, AllFit, NoneOver, Same, WhereNoneIsOver}
+use Rattle.sfdu_listing.specs.OneWalk.{programWalk, rulesTo5, over, overAt, EveryStream, AllFit, WhereNoneIsOver}
 use Rattle.sfdu_listing.proofs.Judging.{back, whole-accepted}
 use Rattle.sfdu_listing.proofs.Rows.{first-behind, agree}
 use Rattle.sfdu_listing.proofs.Streams.{list-bounded}
@@ -125,7 +125,7 @@ unfolding whole wholeBy accepts inStream
 two-numbers s = by (walk-right s .stops)
   where
     of : (at : ℕ) → Reads (drop at s) → accepts (drop at s) ≡ false → length (inStream at (readOne (drop at s))) ≡ 2
-    of at (accepted-one a) e = absurd (false≢true (sym e ∙ a))
+    of at (accepted-one a) e = cc
     of at (refused-one r) e = rw (r .words)
 
     by : StopsAtEnd s (walkFrom s 0) ⊎ StopsRefused s (walkFrom s 0) → length (walkFrom s 0 .why) ≡ 2

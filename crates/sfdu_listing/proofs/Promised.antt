@@ -1,12 +1,11 @@
 -- The promise of a run. Assumes nothing.
 use Prim.Native.Nat.{ℕ}
 use native.Mathlib.Omega.{arith}
-use mathlib.Core.Bool.{Bool, true, false}
-use mathlib.Core.List.{List, [], _++_, append-assoc, append-nil}
+use mathlib.Core.Bool.{Bool, false}
+use mathlib.Core.List.{List, _++_, append-assoc, append-nil}
 use mathlib.Core.Path.{_≡_, refl, sym, ap, _∙_}
 use borrow.Author.Tests.{ne-eqb}
 use lib.ListN.{length, take}
-use Rattle.refusals.proofs.Numerals.{zero-is-one}
 use Rattle.text.proofs.Laid.{grown}
 use Rattle.text.specs.declared.State.{State}
 use Rattle.sfdu_listing.specs.Listing.{linesFrom, listing}
@@ -18,9 +17,6 @@ record Kept (read : List ℕ) (ended : Bool) (written : List ℕ) (s : State) (h
   pub going : s .done ≡ false → ended ≡ false
   pub says : (more : List ℕ) → GoesOn ended more
       → listing (read ++ more) ≡ written ++ (text ++ unless (s .done) (linesFrom (s .place) (held ++ more)))
-
-never : {A : Type 0} (b : Bool) → b ≡ true → b ≡ false → A
-never b p q = zero-is-one cc
 
 kept : {read : List ℕ} {ended : Bool} {written : List ℕ} {s : State} {held text : List ℕ} → Run read ended written s held text
     → Kept read ended written s held text
@@ -38,7 +34,7 @@ kept (lists {read} {ended} {written} {s} {held} {text} run going piece w out w�
           sym (append-assoc text (listed .t) rest)
           ∙ ap (λ (x : List ℕ). x ++ rest) (ap (λ (x : List ℕ). x ++ listed .t) (sym laid) ∙ sym (grown (listed .puts))) in
           ap listing (append-assoc read piece more)
-          ∙ k .says (piece ++ more) (λ e. never ended e (k .going going))
+          ∙ k .says (piece ++ more) (λ e. cc (k .going going))
           ∙ ap (λ (x : List ℕ). written ++ (text ++ x)) (ap (λ (b : Bool). unless b (linesFrom (s .place) (held ++ (piece ++ more)))) going ∙ before)
           ∙ ap (λ (x : List ℕ). written ++ x) laid′;
     }

@@ -1,6 +1,6 @@
 -- What a window says of the record at the start of s, where s is not cut short, the stream says however it goes on: s with any m
 -- behind it has the same refusal, the same kind, length and number. Assumes nothing.
-use Prim.Native.Nat.{ℕ, zero, suc, _+_, _-_, _≤_, _<_}
+use Prim.Native.Nat.{ℕ, zero, suc, _+_, _≤_, _<_}
 use native.Mathlib.Nat.{le-refl}
 use native.Mathlib.Omega.{arith}
 use mathlib.Core.Bool.{Bool, true, false, false≢true}
@@ -14,7 +14,7 @@ use Rattle.octets.specs.Octets.{all, sameAt}
 use Rattle.octets.proofs.Parts.{number-first}
 use Rattle.sfdu.specs.declared.Kind.{Kind}
 use Rattle.sfdu.specs.declared.Kind.the-variants.{Telemetry, Rsr}
-use Rattle.refusals.proofs.Judged.{NoneHolds, First, here}
+use Rattle.refusals.proofs.Judged.{NoneHolds, here}
 use Rattle.sfdu.specs.Nesting.{
   authority,
   versionClass,
@@ -35,7 +35,7 @@ use Rattle.sfdu.specs.Read.{hasKind, kindOf, labelLength, recordLength, lengthI
 use Rattle.sfdu.proofs.Placed.{placed}
 use Rattle.sfdu_headers.specs.Fields.{recordNumber}
 use Rattle.sfdu_stream.specs.Listing.{entryOf}
-use Rattle.sfdu_listing.specs.Listing.{overRule, listRules}
+use Rattle.sfdu_listing.specs.Listing.{overRule}
 use Rattle.sfdu_listing.specs.inner.Stops.{whole, stopWords}
 use Rattle.sfdu_listing.specs.Window.{givesCount, cutShort}
 use Rattle.sfdu_listing.proofs.Rows.{pass, first-behind, agree}

@@ -1,13 +1,12 @@
 -- The lines of a stream, from a place on. Assumes nothing.
-use Prim.Native.Nat.{ℕ, zero, suc, _+_, _≤_, _<_}
+use Prim.Native.Nat.{ℕ, _+_, _≤_}
 use native.Mathlib.Nat.{add-zero, add-assoc}
 use native.Mathlib.Omega.{arith}
-use mathlib.Core.Bool.{Bool, true, false, not, cond, _&&_}
+use mathlib.Core.Bool.{Bool, true, false, not, _&&_}
 use mathlib.Core.List.{List, [], _∷_, _++_, append-assoc, append-nil}
 use mathlib.Core.Path.{_≡_, refl, sym, ap, _∙_}
 use lib.ListN.{length, drop, length-drop}
 use lib.Seq.{drop-drop, drop-append-le}
-use Rattle.refusals.proofs.Numerals.{zero-is-one}
 use Rattle.sfdu.specs.declared.Kind.{Kind}
 use Rattle.sfdu.specs.Nesting.{kindNumber}
 use Rattle.sfdu.specs.Read.{recordLength}
@@ -52,7 +51,7 @@ window-stop place s more last on e c = by (cutShort s) last refl refl
     by : (b l : Bool) → cutShort s ≡ b → last ≡ l → linesFrom place (s ++ more) ≡ lastLine place (stopWords place s)
     by b true q t = rw (on t, append-nil) (lines-stop place s e)
     by false false q t = let k = stop-stays s more e q in lines-stop place (s ++ more) (k .0) ∙ ap (lastLine place) (k .1 place)
-    by true false q t = let z : _≡_ {A = Bool} true false = sym (rw (q, t)) ∙ c in zero-is-one cc
+    by true false q t = let z : _≡_ {A = Bool} true false = sym (rw (q, t)) ∙ c in cc
 
 -- ---- a window under way: t is the text for its first `at` bytes
 

@@ -1,7 +1,7 @@
 -- What the program's buffer, a window onto the stream, gives: what the whole stream would give, however it goes on. Assumes
 -- nothing.
 use Prim.Native.Nat.{ℕ, _+_, _-_, _/_, _≤_, _<_}
-use mathlib.Core.Bool.{Bool, true, false, not, cond}
+use mathlib.Core.Bool.{Bool, true, false, cond}
 use mathlib.Core.List.{List, [], _∷_, _++_}
 use mathlib.Core.Path.{_≡_}
 use lib.ListN.{length, take}
@@ -13,7 +13,6 @@ use Rattle.sfdu.specs.Read.{isCount}
 use Rattle.text.specs.declared.State.{State}
 use Rattle.sfdu_listing.specs.Text.{mostLast}
 use Rattle.sfdu_listing.specs.Listing.{bufferSize, listRules, linesFrom}
-use Rattle.sfdu_listing.specs.inner.Stops.{whole}
 
 -- ---- the record at the start of s, what the window holds from a place on
 

@@ -1,6 +1,6 @@
 // The lines of a listing, laid out in a lent slice. Each function puts its text from index `at` on and answers where it ends.
 ghost use mathlib.Core.Path.{_≡_};
-ghost use Prim.Native.Nat.{_+_, _≤_, _<_};
+ghost use Prim.Native.Nat.{_+_, _≤_};
 ghost use lib.ListN.{length};
 ghost use mathlib.Core.List.{[], _∷_};
 ghost use Rattle.sfdu.specs.Nesting.{kindNumber};

@@ -8,7 +8,6 @@ use mathlib.Core.Path.{_≡_, refl, sym, ap, _∙_}
 use lib.Dec.{ltb}
 use lib.ListN.{length, take, drop, length-append}
 use borrow.Author.Tests.{le-ltb, lt-ltb, ltb-true}
-use Rattle.refusals.proofs.Numerals.{zero-is-one}
 use Rattle.octets.proofs.Laws.{and-split}
 use Rattle.sfdu.specs.declared.Kind.{Kind}
 use Rattle.sfdu.specs.Nesting.{kindNumber}
@@ -40,15 +39,15 @@ module _ (s : List ℕ) (at count size : ℕ) where
     listed = rw (is-whole, lt-ltb count size free);
     entry = λ _. same;
     next = λ _. moved;
-    answer = λ z. zero-is-one cc;
+    answer = λ z. cc;
   }
 
   turn-stops : (w : Walked) → whole s at && ltb count size ≡ false → wordsOf w ≡ count ∷ at ∷ cond (whole s at) full (refusal s at)
       → TurnAt s at count size (noTurn w)
   turn-stops w none words = record {
     listed = sym none;
-    entry = λ z. zero-is-one cc;
-    next = λ z. zero-is-one cc;
+    entry = λ z. cc;
+    next = λ z. cc;
     answer = λ _. words;
   }
 
@@ -108,7 +107,7 @@ module _ (s : List ℕ) (n at : ℕ) (es : List Entry) (t : Turn) (turn : TurnAt
       by (whole s at) refl (rw b at (sym (turn .listed) ∙ l))
     where
       by : (b : Bool) → whole s at ≡ b → whole s at && true ≡ false → listing (suc free) s at ≡ stopped at (cond (whole s at) full (refusal s at))
-      by true e z = let q = rw e at z in zero-is-one cc
+      by true e z = let q = rw e at z in cc
       by false e z = lists-none (suc free) s at e ∙ rw e
 
   pub finished : (free : ℕ) → Underway s n free at es → t .listed ≡ false → Finished s n es t

@@ -1,17 +1,15 @@
 -- What a caller knows by the answer of `read_rsr`. Assumes nothing.
 use Prim.Native.Nat.{ℕ, _-_, _≤_}
 use native.Mathlib.Omega.{arith}
-use mathlib.Core.Bool.{true}
-use mathlib.Core.List.{List, [], _∷_, _++_}
+use mathlib.Core.List.{List, [], _∷_}
 use mathlib.Core.Path.{_≡_, refl, sym, ap, subst, _∙_}
 use borrow.Author.Tests.{eqb-true, not-false}
 use lib.ListN.{length, getD}
 use Rattle.refusals.proofs.Judged.{NoneHolds, First, Outcome, none, first, outcome, first-judge, none-applies}
 use Rattle.dates.specs.Calendar.{dayCount}
 use Rattle.octets.specs.Octets.{part}
-use Rattle.sfdu.specs.declared.Kind.{Kind}
 use Rattle.sfdu.specs.declared.Kind.the-variants.{Rsr}
-use Rattle.sfdu.specs.Nesting.{kindNumber, dataValueAt}
+use Rattle.sfdu.specs.Nesting.{dataValueAt}
 use Rattle.sfdu.specs.Read.{kindOf, recordLength, readRules, accepts, primaryOf, dataPart}
 use Rattle.sfdu.proofs.Accepted.{Found, same-kind}
 use Rattle.sfdu.proofs.Parts.{room, data-part}

@@ -1,21 +1,19 @@
 -- The rules are read headers', and what its answer says of them. Assumes nothing.
-use Prim.Native.Nat.{ℕ, _<_, _≤_}
+use Prim.Native.Nat.{ℕ, _≤_}
 use native.Mathlib.Omega.{arith}
-use mathlib.Core.Bool.{true, not}
-use mathlib.Core.List.{List, [], _∷_, _++_, map}
+use mathlib.Core.Bool.{true, not, false≢true}
+use mathlib.Core.List.{List, [], _∷_, map}
 use mathlib.Core.Path.{_≡_, refl, sym, ap, _∙_}
-use borrow.Author.Tests.{eqb-true, not-false}
 use lib.Dec.{eqb}
-use lib.ListN.{getD, take, drop, length}
+use lib.ListN.{getD, length}
 use Rattle.refusals.specs.Judge.{_when_, judge, answered, each}
-use Rattle.refusals.proofs.Judged.{NoneHolds, First, Outcome, none, first, outcome, none-judge, first-judge, none-applies, judge-append}
+use Rattle.refusals.proofs.Judged.{NoneHolds, Outcome, none, first, outcome, none-judge, first-judge, judge-append}
 use Rattle.dates.specs.Calendar.{dayCount}
 use Rattle.sfdu.specs.declared.Kind.{Kind}
 use Rattle.sfdu.specs.declared.Kind.the-variants.{Telemetry, Rsr}
 use Rattle.sfdu.specs.declared.Primary.{Primary}
-use Rattle.sfdu.specs.Nesting.{kindNumber, dataValueAt}
-use Rattle.sfdu.specs.Read.{kindOf, recordLength, readRules, accepts, _giving_, primaryOf}
-use Rattle.sfdu.proofs.Accepted.{same-kind}
+use Rattle.sfdu.specs.Nesting.{kindNumber}
+use Rattle.sfdu.specs.Read.{kindOf, recordLength, readRules, _giving_}
 use Rattle.sfdu_headers.specs.Words.{Word, number, signed, none as no-number}
 use Rattle.sfdu_headers.specs.Fields.{year, day}
 use Rattle.sfdu_headers.specs.Ranges.{fieldRules}
@@ -27,7 +25,7 @@ use Rattle.sfdu_headers.specs.declared.ReceivedTime.{ReceivedTime}
 use Rattle.sfdu_headers.specs.declared.Headers.the-variants.{Telemetry as TelemetryHeaders, Rsr as RsrHeaders}
 use Rattle.sfdu_headers.specs.Headers.{wordsOf, wrongKind, acceptedFields, judgedFields, readHeaders}
 use Rattle.sfdu_rsr.specs.Record.{only, rsrRules, HeadersRefuse, mission, readRsr}
-use Rattle.sfdu_rsr.proofs.Rules.{refuse, first-refuses, refuse-each, judge-each-of, none-of-both}
+use Rattle.sfdu_rsr.proofs.Rules.{refuse, first-refuses, refuse-each, judge-each-of}
 
 -- ---- the rules are read headers'
 
@@ -102,6 +100,4 @@ module _ (s : List ℕ) where
 
   pub telemetry-words : (size : ℕ) (p : Primary) (fields : TelemetryFields) (key : ℕ) (time : ReceivedTime)
       → wordsOf (TelemetryHeaders size p fields key time) ≡ readHeaders (kindNumber Rsr) s → ⊥
-  telemetry-words size p fields key time e =
-      let kind : _≡_ {A = ℕ} 1 2 = ap (λ (l : List Word). getD (map back l) 1 0) (accepted-words _ e .1) in
-      omega arith
+  telemetry-words size p fields key time e = false≢true (cc (accepted-words _ e .1))

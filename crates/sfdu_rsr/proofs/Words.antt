@@ -1,9 +1,8 @@
 -- Different answers have different words. Assumes nothing.
-use mathlib.Core.Path.{_≡_, refl, ap}
+use mathlib.Core.Path.{refl, ap}
 use Rattle.sfdu.proofs.Words.{same-fault}
-use Rattle.sfdu_rsr.specs.declared.Rsr.{Rsr}
 use Rattle.sfdu_rsr.specs.declared.Rsr.the-variants.{Record, Refused, WrongKind}
-use Rattle.sfdu_rsr.specs.Record.{wordsOf, DifferentRsr}
+use Rattle.sfdu_rsr.specs.Record.{DifferentRsr}
 
 pub same-rsr : DifferentRsr
 same-rsr (Record n m d) (Record o p q) e = cc

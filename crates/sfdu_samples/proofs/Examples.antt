@@ -1,5 +1,5 @@
 -- Words worked out by hand after table 3-2: [Q2, Q1], [I2, I1] at 8 bits, [Q1], [I1] at 16. Assumes nothing.
-use mathlib.Core.List.{List, [], _∷_}
+use mathlib.Core.List.{[], _∷_}
 use mathlib.Core.Path.{_≡_, refl}
 use lib.IntN.{pos, negsuc}
 use Rattle.octets.specs.Octets.{numberAt, bytesOf}

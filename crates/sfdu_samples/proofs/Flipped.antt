@@ -18,7 +18,7 @@ use native.Mathlib.Nat.{
   mul-add,
 }
 use native.Mathlib.Omega.{arith}
-use mathlib.Core.Bool.{Bool, true, false, false≢true, not, _&&_, _||_}
+use mathlib.Core.Bool.{Bool, true, false, not, _&&_, _||_}
 use mathlib.Core.Path.{_≡_, refl, sym, ap, _∙_}
 use borrow.Author.Needs.{sfits-of}
 use borrow.Author.Tests.{lt-ltb, le-ltb, le-leb, eq-eqb, ltb-true, ltb-false, eqb-true}
@@ -75,7 +75,7 @@ every-width = refl
 
 or-right : (a b : Bool) → a ≡ true → (not a || b) ≡ true → b ≡ true
 or-right true b e h = h
-or-right false b e h = absurd (false≢true e)
+or-right false b e h = cc
 
 pub half-bits : (w : ℕ) → Width w → w * perHalf w ≡ 16
 half-bits w h =

@@ -2,7 +2,7 @@
 use Prim.Native.Nat.{ℕ, zero, suc, _+_, _*_, _/_, _%_, _-_, _^_, _≤_, _<_}
 use native.Mathlib.Nat.{pow-zero, pow-suc, suc-mul, add-mul, mul-assoc, pow-le-pow-right, not-suc-le-zero, add-mul-mod-self-right, mod-eq-of-lt, one-le-pow}
 use native.Mathlib.Omega.{arith}
-use mathlib.Core.Bool.{Bool, true, false, _&&_}
+use mathlib.Core.Bool.{Bool, true, false, _&&_, false≢true}
 use mathlib.Core.Path.{_≡_, refl, sym, ap, _∙_}
 use borrow.Author.Tests.{lt-ltb, le-ltb, ltb-true, ltb-false, eqb-true, eqb-false, eq-eqb, ne-eqb}
 use lib.Dec.{eqb, ltb, lit<}
@@ -39,7 +39,7 @@ pub record Multiple (b : ℕ) : Type 0 where
   pub is : 1073741824 ≡ b + rest * b
 
 multiple-of : (b n : ℕ) → 0 < b → b ^ n ≡ 65536 → Multiple b
-multiple-of b zero p e = let f : _≡_ {A = ℕ} 1 65536 = sym (pow-zero b) ∙ e in absurd (omega arith)
+multiple-of b zero p e = absurd (false≢true (cc (pow-zero b, e)))
 multiple-of b (suc n) p e = by (b ^ n) (one-le-pow n b p) (sym (pow-suc b n) ∙ e)
   where
     by : (m : ℕ) → 0 < m → m * b ≡ 65536 → Multiple b

@@ -1,10 +1,9 @@
 -- Different answers have different words. Assumes nothing.
-use mathlib.Core.Path.{_≡_, ap}
+use mathlib.Core.Path.{ap}
 use Rattle.refusals.proofs.Laws.{number-injective, number-positive}
 use Rattle.sfdu.proofs.Words.{same-fault}
-use Rattle.sfdu_samples.specs.declared.Answer.{Answer}
 use Rattle.sfdu_samples.specs.declared.Answer.the-variants.{Count, Header, Refused}
-use Rattle.sfdu_samples.specs.Calls.{wordsOf, DifferentAnswers}
+use Rattle.sfdu_samples.specs.Calls.{DifferentAnswers}
 
 pub same-answer : DifferentAnswers
 same-answer (Count n) (Count m) e = cc

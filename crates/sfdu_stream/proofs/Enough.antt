@@ -2,22 +2,22 @@
 use Prim.Native.Nat.{ℕ, zero, suc, _+_, _*_, _/_, _≤_, _<_}
 use native.Mathlib.Nat.{le-div-iff-mul-le, lt-div-mul-add, mul-le-mul-right}
 use native.Mathlib.Omega.{arith}
-use mathlib.Core.Bool.{Bool, true, false}
+use mathlib.Core.Bool.{Bool, true, false, false≢true}
 use mathlib.Core.List.{List, [], _∷_}
 use mathlib.Core.Logic.{_⊎_, inl, inr, _≢_}
 use mathlib.Core.Path.{_≡_, refl, sym, ap, subst, _∙_}
 use lib.ListN.{length, drop}
 use Rattle.sfdu.specs.declared.Kind.{Kind}
 use Rattle.sfdu.specs.declared.Kind.the-variants.{Telemetry, Rsr}
-use Rattle.sfdu.specs.Nesting.{kindNumber, dataValueAt}
+use Rattle.sfdu.specs.Nesting.{dataValueAt}
 use Rattle.sfdu.specs.Read.{kindOf, recordLength, accepts}
 use Rattle.sfdu.proofs.Placed.{placed}
 use Rattle.sfdu.proofs.Accepted.{accepted, same-kind}
 use Rattle.sfdu_stream.specs.declared.Entry.{Entry}
 use Rattle.sfdu_stream.specs.Walk.{whole, past, wholeBy}
-use Rattle.sfdu_stream.specs.Listing.{Listing, entryAt, prepend, listing, walkFrom, walked, answer, Columns, shortest, listNumbers, listEntries, entryOf}
+use Rattle.sfdu_stream.specs.Listing.{Listing, entryAt, prepend, listing, walkFrom, walked, answer, shortest, listNumbers, listEntries, entryOf}
 use Rattle.sfdu_stream.specs.Laws.{BackToBack, StopsAtEnd, StopsRefused}
-use Rattle.sfdu_stream.specs.Room.{mostRecords, stopNumber, Enough, EveryStream, AllRsr, RsrStreams}
+use Rattle.sfdu_stream.specs.Room.{stopNumber, Enough, EveryStream, AllRsr, RsrStreams}
 use Rattle.sfdu_stream.proofs.Places.{whole-record}
 use Rattle.sfdu_stream.proofs.Listings.{lists, lists-none, goes-on, stops}
 use Rattle.sfdu_stream.proofs.Laws.{walk-right, refused-16}
@@ -113,7 +113,7 @@ walk-never-16 s e = by (walk-right s .stops)
     l = walkFrom s 0
 
     by : StopsAtEnd s l ⊎ StopsRefused s l → ⊥
-    by (inl x) = let z : _≡_ {A = ℕ} 0 16 = cc (x .1, e) in omega arith
+    by (inl x) = false≢true (cc (x .1, e))
     by (inr x) = refused-16 (drop (l .stop) s) (l .stop) (l .why) (x .1) (x .2) e
 
 enough : (m : ℕ) (s : List ℕ) → 0 < m → AllLong m (walkFrom s 0 .entries) → Enough s (length s / m)

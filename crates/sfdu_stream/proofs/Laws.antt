@@ -115,13 +115,13 @@ list-right size s =
     none-full at e h = refused-16 (drop at s) at full e (sym h) refl
 
     told : StopsAtEnd s l ⊎ (StopsRefused s l ⊎ (Full s size l × (l .why ≡ full))) → l .why ≡ full → Full s size l
-    told (inl x) e = let z : _≡_ {A = ℕ} 0 16 = cc (x .1, e) in absurd (omega arith)
+    told (inl x) e = absurd (false≢true (cc (x .1, e)))
     told (inr (inl x)) e = absurd (none-full (l .stop) (x .1) (sym (x .2) ∙ e))
     told (inr (inr x)) e = x .0
 
     full-there : StopsAtEnd s l ⊎ (StopsRefused s l ⊎ (Full s size l × (l .why ≡ full))) → whole s (l .stop) ≡ true → l .why ≡ full
     full-there (inl x) e = let w = whole-record s (l .stop) e in absurd (omega (arith, x .0))
-    full-there (inr (inl x)) e = absurd (false≢true (sym (x .1) ∙ e))
+    full-there (inr (inl x)) e = cc
     full-there (inr (inr x)) e = x .1
 
 -- ---- walks

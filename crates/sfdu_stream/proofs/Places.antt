@@ -10,7 +10,6 @@ use lib.Seq.{take-length}
 use borrow.Author.Tests.{le-leb, lt-leb, leb-true, leb-false, eq-eqb, ne-eqb}
 use Rattle.refusals.specs.Judge.{judge}
 use Rattle.refusals.proofs.Judged.{Outcome, none, first, outcome, none-judge, first-judge}
-use Rattle.refusals.proofs.Numerals.{zero-is-one}
 use Rattle.sfdu.specs.declared.Kind.{Kind}
 use Rattle.sfdu.specs.Nesting.{kindNumber, dataValueAt}
 use Rattle.sfdu.specs.Read.{kindOf, recordLength, readRules, inStream, accepts, recordWords, readOne}
@@ -145,7 +144,7 @@ unfolding step
 found-words s at k n rest next e = by (leb (length s) at) refl
   where
     by : (b : Bool) → leb (length s) at ≡ b → 0 ∷ kindNumber k ∷ n ∷ rest ≡ readOne (drop at s)
-    by true t = let z = rw t at e in zero-is-one cc
+    by true t = let z = rw t at e in cc
     by false t = let z = rw t at e in cc
 
 pub found-there : (s : List ℕ) (at : ℕ) (k : Kind) (n : ℕ) (rest : List ℕ) (next : ℕ) → next ∷ 0 ∷ kindNumber k ∷ n ∷ rest ≡ step s at
@@ -161,8 +160,8 @@ no-words : (s : List ℕ) → [] ≡ readOne s → ⊥
 no-words s e = by (reads s)
   where
     by : Reads s → ⊥
-    by (accepted-one a) = zero-is-one (cc (accepted-words s a, e))
-    by (refused-one r) = zero-is-one (cc (r .words, e))
+    by (accepted-one a) = false≢true (cc (accepted-words s a, e))
+    by (refused-one r) = false≢true (cc (r .words, e))
 
 pub done-there : (s : List ℕ) (at place : ℕ) → place ∷ [] ≡ step s at → StepNone s at place atEnd
 unfolding step
@@ -180,7 +179,7 @@ unfolding step
 refused-words s at place n m e = by (leb (length s) at) refl
   where
     by : (b : Bool) → leb (length s) at ≡ b → readOne (drop at s) ≡ n ∷ m ∷ []
-    by true t = let z = rw t at e in zero-is-one cc
+    by true t = let z = rw t at e in cc
     by false t = let z = rw t at e in cc
 
 pub refused-there : (s : List ℕ) (at place n m : ℕ) → place ∷ n ∷ m ∷ [] ≡ step s at → StepNone s at place (inStream at (n ∷ m ∷ []))
@@ -188,7 +187,7 @@ unfolding step whole wholeBy accepts
 refused-there s at place n m e = by (leb (length s) at) refl
   where
     by : (b : Bool) → leb (length s) at ≡ b → StepNone s at place (inStream at (n ∷ m ∷ []))
-    by true t = let z = rw t at e in zero-is-one cc
+    by true t = let z = rw t at e in absurd (false≢true cc)
     by false t =
         let r : readOne (drop at s) ≡ n ∷ m ∷ [] = refused-words s at place n m e in
         let n = words-refused (drop at s) _ _ r in
@@ -201,7 +200,7 @@ unfolding step
 offset-there s at place n m e = by (leb (length s) at) refl
   where
     by : (b : Bool) → leb (length s) at ≡ b → at + m ≤ length s
-    by true t = let z = rw t at e in zero-is-one cc
+    by true t = let z = rw t at e in absurd (false≢true cc)
     by false t =
         let h : at < length s = leb-false (length s) at t in
         let i = second-inside (drop at s) n m (refused-words s at place n m e) in

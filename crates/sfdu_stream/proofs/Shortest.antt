@@ -1,9 +1,9 @@
 -- Streams of the shortest records, with zeros behind them: no smaller number of entries would do. Assumes nothing.
-use Prim.Native.Nat.{ℕ, zero, suc, _+_, _*_, _%_, _≤_, _<_}
+use Prim.Native.Nat.{ℕ, zero, suc, _+_, _*_, _%_, _<_}
 use native.Mathlib.Nat.{div-add-mod'}
 use native.Mathlib.Omega.{arith}
-use mathlib.Core.Bool.{Bool, true, false, not}
-use mathlib.Core.List.{List, [], _∷_, _++_}
+use mathlib.Core.Bool.{Bool, true, false}
+use mathlib.Core.List.{List, [], _++_}
 use mathlib.Core.Path.{_≡_, refl, sym, ap, _∙_}
 use borrow.Author.Tests.{eqb-true, not-false}
 use lib.ListN.{length, getD, drop, replicate, length-append, length-replicate}
@@ -19,10 +19,9 @@ use Rattle.sfdu.proofs.Accepted.{none-holds, Found, found}
 use Rattle.sfdu_write.specs.Write.{recordBytes, sizeOf}
 use Rattle.sfdu_write.proofs.Written.{length-record}
 use Rattle.sfdu_write.proofs.Back.{slice, record-read}
-use Rattle.sfdu_stream.specs.declared.Entry.{Entry}
 use Rattle.sfdu_stream.specs.Walk.{whole, past, full, wholeBy}
 use Rattle.sfdu_stream.specs.Listing.{entryAt, listing, walkFrom, shortest, listNumbers, listEntries, entryOf}
-use Rattle.sfdu_stream.specs.Room.{mostRecords, AllRsr, RsrAlone, stopNumber, Needed, LeastNumber}
+use Rattle.sfdu_stream.specs.Room.{mostRecords, AllRsr, LeastNumber}
 use Rattle.sfdu_stream.proofs.Listings.{lists, lists-full, goes-on, stops}
 
 -- ---- the shortest record of a kind: no data

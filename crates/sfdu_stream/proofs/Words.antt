@@ -1,19 +1,15 @@
 -- Different answers have different words. Assumes nothing.
-use Prim.Native.Nat.{ℕ}
 use mathlib.Core.Path.{_≡_, refl, ap}
 use Rattle.refusals.proofs.Laws.{number-positive}
-use Rattle.refusals.proofs.Numerals.{zero-is-one}
 use Rattle.sfdu.specs.Nesting.{kindNumber}
 use Rattle.sfdu.specs.Read.{primaryWords, faultWords}
 use Rattle.sfdu.proofs.Accepted.{same-kind}
 use Rattle.sfdu.proofs.Words.{same-primary, same-fault}
 use Rattle.sfdu_stream.specs.declared.Cursor.{Cursor}
-use Rattle.sfdu_stream.specs.declared.Step.{Step}
 use Rattle.sfdu_stream.specs.declared.Step.the-variants.{Found, Done, Refused}
 use Rattle.sfdu_stream.specs.declared.Stop.{Stop}
 use Rattle.sfdu_stream.specs.declared.Stop.the-variants.{End, Refused as StopRefused}
-use Rattle.sfdu_stream.specs.declared.Walked.{Walked}
-use Rattle.sfdu_stream.specs.Walk.{stepWords, stopWords, wordsOf, DifferentSteps, DifferentWalks}
+use Rattle.sfdu_stream.specs.Walk.{stopWords, DifferentSteps, DifferentWalks}
 
 same-cursor : (c d : Cursor) → c .at ≡ d .at → c ≡ d
 same-cursor c d e = λ j. record { at = e j }
@@ -28,13 +24,13 @@ same-step (Found k n p c) (Found l m q d) e =
     let size : n ≡ m = cc in
     let cursor : c ≡ d = same-cursor c d places in
     cc
-same-step (Found k n p c) (Done d) e = zero-is-one cc
-same-step (Found k n p c) (Refused r d) e = zero-is-one cc
-same-step (Done c) (Found l m q d) e = zero-is-one cc
+same-step (Found k n p c) (Done d) e = cc
+same-step (Found k n p c) (Refused r d) e = cc
+same-step (Done c) (Found l m q d) e = cc
 same-step (Done c) (Done d) e = let places : c .at ≡ d .at = cc in ap Done (same-cursor c d places)
-same-step (Done c) (Refused r d) e = zero-is-one cc
-same-step (Refused r c) (Found l m q d) e = zero-is-one cc
-same-step (Refused r c) (Done d) e = zero-is-one cc
+same-step (Done c) (Refused r d) e = cc
+same-step (Refused r c) (Found l m q d) e = cc
+same-step (Refused r c) (Done d) e = cc
 same-step (Refused f c) (Refused g d) e =
     let words : faultWords f ≡ faultWords g = cc in
     let places : c .at ≡ d .at = cc in

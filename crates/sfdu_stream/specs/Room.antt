@@ -1,6 +1,6 @@
 -- Document 02, Req 12: how many entries a list needs, so that it is never full (16). Assumes nothing.
 -- The manual, docs/INTERFACE.md: "Streams".
-use Prim.Native.Nat.{ℕ, _*_, _/_, _≤_, _<_}
+use Prim.Native.Nat.{ℕ, _/_, _≤_, _<_}
 use mathlib.Core.List.{List, [], _∷_}
 use mathlib.Core.Logic.{_≢_}
 use mathlib.Core.Path.{_≡_}

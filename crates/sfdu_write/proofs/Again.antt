@@ -6,7 +6,6 @@ use native.Mathlib.Omega.{arith}
 use mathlib.Core.Bool.{true}
 use mathlib.Core.List.{List, _++_}
 use mathlib.Core.Path.{_≡_, refl, sym, ap, _∙_}
-use borrow.Author.Tests.{eq-eqb}
 use lib.Seq.{drop-cons}
 use lib.ListN.{length}
 use Rattle.octets.specs.Octets.{bytesOf, part, sameAt}

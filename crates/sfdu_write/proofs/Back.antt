@@ -27,7 +27,6 @@ use Rattle.sfdu.specs.Nesting.{
   lengthSize,
   labelSize,
   wordSize,
-  blockLabelSize,
   aggregationAt,
   primaryAt,
   primaryValueAt,

@@ -1,7 +1,7 @@
 -- The round trip, both ways. Assumes nothing.
 use Prim.Native.Nat.{ℕ, _-_, _≤_}
 use native.Mathlib.Omega.{arith}
-use mathlib.Core.Bool.{Bool, true, false}
+use mathlib.Core.Bool.{Bool, true, false, false≢true}
 use mathlib.Core.List.{List, [], _∷_, _++_}
 use mathlib.Core.Path.{_≡_, refl, sym, ap, subst, _∙_}
 use borrow.Author.Tests.{eq-eqb, le-leb, eqb-true, eqb-false, ltb-false, ltb-true}
@@ -39,12 +39,10 @@ module _ (p : Primary) (secondary value out : List ℕ) (n : ℕ) where
       by : (b : Bool) → isInput k secondary value ≡ b → (c : Bool) → ltb (length out) (sizeOf k value) ≡ c → Wrote (kindNumber k) secondary value out n
       by false i c l =
           let w : 14 ∷ [] ≡ 0 ∷ n ∷ [] = sym (ap (λ x. x .0) (input-refused k p secondary value out i)) ∙ e in
-          let z : _≡_ {A = ℕ} 14 0 = cc in
-          absurd (omega arith)
+          absurd (false≢true cc)
       by true i true l =
           let w : 13 ∷ [] ≡ 0 ∷ n ∷ [] = sym (ap (λ x. x .0) (space-refused k p secondary value out i (ltb-true _ _ l))) ∙ e in
-          let z : _≡_ {A = ℕ} 13 0 = cc in
-          absurd (omega arith)
+          absurd (false≢true cc)
       by true i false l =
           let w : 0 ∷ sizeOf k value ∷ [] ≡ 0 ∷ n ∷ [] = sym (ap (λ x. x .0) (written k p secondary value out i (ltb-false _ _ l))) ∙ e in
           record { kind = k; named = refl; input = i; size = cc; room = ltb-false _ _ l }
@@ -63,8 +61,7 @@ module _ (p : Primary) (secondary value out : List ℕ) (n : ℕ) where
       by false t false r =
           let w : 14 ∷ [] ≡ 0 ∷ n ∷ [] =
           sym (ap (λ x. x .0) (kind-refused number p secondary value out (eqb-false _ _ t) (eqb-false _ _ r))) ∙ e in
-          let z : _≡_ {A = ℕ} 14 0 = cc in
-          absurd (omega arith)
+          absurd (false≢true cc)
 
 -- ---- what the writer makes the reader gives back
 

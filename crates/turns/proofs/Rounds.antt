@@ -3,10 +3,9 @@ use Prim.Native.Nat.{ℕ, _+_, _*_, _≤_, _<_, _^_}
 use native.Mathlib.Nat.{mul-suc}
 use native.Mathlib.Numerals.{add-one}
 use native.Mathlib.Omega.{arith}
-use mathlib.Core.Bool.{Bool, true, false, _||_}
+use mathlib.Core.Bool.{Bool, true, false, true≢false, _||_}
 use mathlib.Core.List.{List}
 use mathlib.Core.Path.{_≡_, refl, sym, ap, _∙_, subst}
-use lib.Dec.{lit≤}
 use lib.ListN.{length}
 use Rattle.text.specs.declared.State.{State}
 use Rattle.text.specs.State.{emptied}
@@ -14,16 +13,12 @@ use Rattle.turns.specs.declared.Turn.{Turn}
 use Rattle.turns.specs.Turn.{textSize, Keeps, Turns, Ends}
 use Rattle.turns.specs.inner.Turn.{Going}
 
--- a test does not come out both ways
-never : {A : Type 0} (b : Bool) → b ≡ true → b ≡ false → A
-never b p q = let z : _≡_ {A = ℕ} 0 1 = cc in absurd (omega arith)
-
 or-false : (a b : Bool) → (a || b) ≡ false → (a ≡ false) × (b ≡ false)
-or-false true b e = never true refl e
+or-false true b e = absurd (true≢false e)
 or-false false b e = (refl, e)
 
 or-other : (a b : Bool) → (a || b) ≡ true → a ≡ false → b ≡ true
-or-other true b e f = never true refl f
+or-other true b e f = cc
 or-other false b e f = e
 
 -- with turns left: the listing goes on, and the place stays low
@@ -41,7 +36,7 @@ module _ {Stands : Keeps} {size most : ℕ} where
   turn-fails w w₁ out s going same = record {
     stands = same;
     text = omega (arith, going .text, going .buffer);
-    next = λ (e : _≡_ {A = Bool} true false). never true refl e;
+    next = λ e. absurd (true≢false e);
     far = omega arith;
   }
 
@@ -62,7 +57,7 @@ module _ {Stands : Keeps} {size most : ℕ} where
     round-gives-up = record {
       stands = r .stands;
       text = omega (arith, r .going .text, r .going .buffer);
-      over = λ (e : _≡_ {A = Bool} true false). never true refl e;
+      over = λ e. cc;
     }
 
     -- after a turn that did not fail and did not end the listing

@@ -1,6 +1,6 @@
 -- `answers::date` meets its contract. Assumes nothing.
 use Rattle.answers.proofs.Told.{told-few}
-use Rattle.answers.specs.Numbers.{plain, withNone}
+use Rattle.answers.specs.Numbers.{plain}
 use Rattle.dates.specs.Answers.{wordsOf}
 use borrow.Author.Needs.{needs}
 use Rattle.answers.proofs.date.Statement.{statement}

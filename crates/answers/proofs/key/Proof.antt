@@ -1,6 +1,6 @@
 -- `answers::key` meets its contract. Assumes nothing.
 use Rattle.answers.proofs.Told.{told-few}
-use Rattle.answers.specs.Numbers.{plain, withNone}
+use Rattle.answers.specs.Numbers.{plain}
 use Rattle.keys.specs.Words.{wordsOf}
 use borrow.Author.Needs.{needs}
 use Rattle.answers.proofs.key.Statement.{statement}

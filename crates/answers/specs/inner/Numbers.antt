@@ -3,7 +3,7 @@ use Prim.Native.Nat.{ℕ, _-_, _^_, _<_}
 use mathlib.Core.List.{List, _++_}
 use mathlib.Core.Path.{_≡_}
 use lib.ListN.{getD, replicate}
-use Rattle.sfdu_headers.specs.Words.{Word, number, none}
+use Rattle.sfdu_headers.specs.Words.{Word}
 use Rattle.idr.specs.declared.Count.{Count}
 use Rattle.idr.specs.declared.Count.the-variants.{Samples, Unknown}
 use Rattle.answers.specs.Numbers.{numberCount, allOnes, numbersOf}

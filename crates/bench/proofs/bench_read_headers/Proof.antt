@@ -1,8 +1,6 @@
 -- `bench::bench_read_headers` meets its contract. Assumes nothing.
-use mathlib.Core.List.{List}
 use mathlib.Core.Path.{ap, _∙_}
 use borrow.Author.Needs.{needs}
-use Rattle.sfdu_headers.specs.Words.{Word}
 use Rattle.answers.specs.Numbers.{numbersOf}
 use Rattle.bench.specs.inner.Digest.{xorOf}
 use Rattle.bench.proofs.bench_read_headers.Statement.{statement}

@@ -1,8 +1,8 @@
 -- `bench::xor_of` meets its contract. The invariant: the number is that of the numbers from i on. Assumes nothing.
 use Prim.Native.Nat.{ℕ, suc, _-_, _≤_}
 use native.Mathlib.Omega.{arith}
-use mathlib.Core.List.{List, []}
-use mathlib.Core.Path.{_≡_, refl, sym, ap, _∙_}
+use mathlib.Core.List.{List}
+use mathlib.Core.Path.{_≡_, sym, ap, _∙_}
 use lib.Bits.{bitXor, xor-comm}
 use lib.ListN.{length, getD, drop}
 use lib.Seq.{drop-cons, drop-length}

@@ -6,7 +6,7 @@ use mathlib.Core.Path.{_≡_}
 use Rattle.text.specs.Text.{Puts}
 use Rattle.idr.specs.Read.{accepts}
 use Rattle.idr_listing.specs.declared.Listed.{Listed}
-use Rattle.idr_listing.specs.Listing.{lineOf, listing}
+use Rattle.idr_listing.specs.Listing.{lineOf}
 
 -- `list_record`: what stands at a place is r, and its line was put in; the listing goes on where it is a record that is accepted.
 pub record Lists (r : List ℕ) (place : ℕ) (old new : List ℕ) (at : ℕ) (l : Listed) : Type 0 where

@@ -1,6 +1,5 @@
 -- The most bytes of each part of a line. Assumes nothing.
 use Prim.Native.Nat.{ℕ}
-use Rattle.idr_listing.specs.Text.{clock, line, why}
 
 -- The most bytes of each, by those of a word: a line has nine and the clock.
 abbrev pub mostWhy : ℕ

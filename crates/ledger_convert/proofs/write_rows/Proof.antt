@@ -4,7 +4,6 @@ use mathlib.Core.Path.{_≡_}
 use native.Mathlib.Omega.{arith}
 use Rattle.ledger_sheet.specs.Sheet.{keyStart}
 use Rattle.ledger_sheet.specs.Sheet.{used}
-use Rattle.ledger_convert.specs.Old as Old
 use Rattle.ledger_convert.specs.inner.Laid.{Laid}
 use Rattle.ledger_convert.proofs.Read.{few, long, value-ticks}
 use Rattle.ledger_convert.proofs.Laying.{row-laid, rows-laid, row-copied}

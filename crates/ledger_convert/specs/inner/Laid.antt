@@ -10,7 +10,6 @@ use Rattle.ledger_sheet.specs.Sheet.{sheetSize, rowSize, rowCount, rowsStart, d
 use Rattle.ledger_changes.specs.Bytes.{headerBytes}
 use Rattle.ledger_layout.specs.Layout.{placeBytes, deskBytes}
 use Rattle.ledger_sheet.specs.Sheet.{used}
-use Rattle.ledger_convert.specs.Old as Old
 use Rattle.ledger_convert.specs.Convert.{oldPlaceIn, oldDeskIn, oldBookOf}
 
 -- Of the new sheet the header, the first k rows and the first d desks are laid out, and the rest is zero.

@@ -4,7 +4,7 @@ use mathlib.Core.List.{List}
 use mathlib.Core.Path.{_≡_}
 use lib.ListN.{length}
 use Rattle.ledger_sheet.specs.Sheet.{rowCount, used}
-use Rattle.ledger_convert.specs.Old.{sheetSize, right}
+use Rattle.ledger_convert.specs.Old.{sheetSize}
 
 pub record Sized (s : List ℕ) : Type 0 where
   pub long : length s ≡ sheetSize

@@ -1,7 +1,5 @@
 -- `ledger_counts::ticks_start` meets its contract. Assumes nothing.
-use Prim.Native.Nat.{_-_, _^_, _<_}
 use native.Mathlib.Omega.{arith}
-use lib.Count.{trailingZeros}
 use borrow.Author.Needs.{needs}
 use borrow.Author.Tests.{not-false}
 use Rattle.ledger_model.specs.Positions.{rowLength}

@@ -9,7 +9,7 @@ use Rattle.ledger_season.specs.Report.{mostSheets}
 use Rattle.ledger_season.specs.declared.SeasonReport.{SeasonReport}
 use Rattle.season_page.specs.declared.Files.{Files}
 use Rattle.season_page.specs.declared.Laid.{Laid}
-use Rattle.season_page.specs.Page.{heading, nameSize, linesTo, rowsTo, page}
+use Rattle.season_page.specs.Page.{nameSize, linesTo, rowsTo}
 
 -- The most bytes of each part, a word being 21 at most.
 abbrev pub mostCounts : ℕ

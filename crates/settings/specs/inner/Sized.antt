@@ -4,7 +4,7 @@ use mathlib.Core.List.{List}
 use mathlib.Core.Path.{_≡_}
 use lib.ListN.{length}
 use Rattle.settings.specs.Model.{places}
-use Rattle.settings.specs.Sheet.{sheetSize, count, right}
+use Rattle.settings.specs.Sheet.{sheetSize, count}
 
 pub record Sized (s : List ℕ) : Type 0 where
   pub long : length s ≡ sheetSize

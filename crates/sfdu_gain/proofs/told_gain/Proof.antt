@@ -1,6 +1,5 @@
 -- `sfdu_gain::told_gain` meets its contract. Assumes nothing.
 use mathlib.Core.Path.{sym, ap, _∙_}
-use mathlib.Core.List.{List}
 use Rattle.settings.specs.declared.Asked.{Asked}
 use Rattle.sfdu_gain.specs.inner.Told.{toldGain}
 use borrow.Author.Needs.{needs}

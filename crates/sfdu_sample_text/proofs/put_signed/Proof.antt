@@ -1,11 +1,10 @@
 -- `sfdu_sample_text::put_signed` meets its contract: the bits say the sign. Assumes nothing.
-use Prim.Native.Nat.{ℕ, _≤_, _<_}
+use Prim.Native.Nat.{_≤_, _<_}
 use native.Mathlib.Omega.{arith}
-use mathlib.Core.Path.{ap, _∙_, subst}
+use mathlib.Core.Path.{ap, _∙_}
 use lib.ListN.{length-set}
 use mir.Syntax.{w32}
 use mir.ValLaws.{toZ-ofZ}
-use Rattle.text.specs.Text.{Puts, word}
 use Rattle.text.proofs.Laid.{nothing, then, then-byte}
 use Rattle.sfdu_samples.specs.Bits.{bitsOf}
 use Rattle.sfdu_sample_text.specs.Text.{minus}

@@ -1,7 +1,5 @@
 -- The most bytes of a word. Assumes nothing.
 use Prim.Native.Nat.{ℕ}
-use Rattle.io.specs.Digits.{digits}
-use Rattle.text.specs.Text.{word}
 
 -- The most bytes of a word of a number of 64 bits: 20 digits, and the byte behind them.
 abbrev pub mostWord : ℕ

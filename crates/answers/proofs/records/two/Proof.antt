@@ -24,7 +24,7 @@ low (negsuc n) e = refl
 
 high : (z : ℤ) → ltZ z (pos 0) ≡ false → z ≡ pos (mag z)
 high (pos n) e = refl
-high (negsuc n) e = absurd (false≢true (sym e))
+high (negsuc n) e = cc
 
 -- what the local holds, and what the branch on it says of the parameter
 held : (z : ℤ) → SFits w8 z → toZ w8 (ofZ w8 z) ≡ z

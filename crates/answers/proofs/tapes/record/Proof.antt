@@ -1,5 +1,5 @@
 -- `answers::tapes::record` meets its contract. Assumes nothing.
-use mathlib.Core.Path.{_≡_, sym, ap, _∙_}
+use mathlib.Core.Path.{sym, ap, _∙_}
 use Rattle.idr.specs.declared.Read.{Read}
 use Rattle.idr.specs.Read.{wordsOf}
 use Rattle.answers.specs.Numbers.{numbersIn, withNone}

@@ -1,6 +1,5 @@
 -- `replays::said` meets its contract. Assumes nothing.
 use native.Mathlib.Omega.{arith}
-use mathlib.Core.Path.{sym, ap, _∙_}
 use borrow.Author.Needs.{needs}
 use Rattle.bench.proofs.replays.said.Statement.{statement}
 use Rattle.bench.proofs.replays.said.Tie as tie

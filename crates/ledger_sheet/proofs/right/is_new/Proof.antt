@@ -3,9 +3,6 @@ use Rattle.ledger_sheet.proofs.RowsRead.{unmarked-new}
 use borrow.Author.Needs.{needs}
 use Rattle.ledger_sheet.proofs.right.is_new.Statement.{statement}
 use Rattle.ledger_sheet.proofs.right.is_new.Tie as tie
-use Rattle.ledger_sheet.proofs.right.is_new.Reads as reads
-use Rattle.ledger_sheet.proofs.right.is_new.Lts as lts
-use Rattle.ledger_sheet.proofs.right.is_other.Reads as is-other-reads
 
 -- src/right.rt:173:15
 rem-if1 : tie.Need-rem-if1

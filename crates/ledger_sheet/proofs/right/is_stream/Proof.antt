@@ -1,10 +1,6 @@
 use borrow.Author.Needs.{needs}
 use Rattle.ledger_sheet.proofs.right.is_stream.Statement.{statement}
 use Rattle.ledger_sheet.proofs.right.is_stream.Tie as tie
-use Rattle.ledger_sheet.proofs.right.is_stream.Reads as reads
-use Rattle.ledger_sheet.proofs.right.is_stream.Lts as lts
-use Rattle.keys.proofs.is_number.Reads as is-number-reads
-use Rattle.keys.proofs.valid.Reads as valid-reads
 
 -- src/right.rt:165:5
 valid-requires : tie.Need-valid-requires

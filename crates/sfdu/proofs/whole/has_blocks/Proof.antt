@@ -1,7 +1,7 @@
 -- `sfdu::whole::has_blocks` meets its contract. Assumes nothing.
 use native.Mathlib.Omega.{arith}
 use lib.Dec.{lit≤}
-use mathlib.Core.Path.{sym, _∙_}
+use mathlib.Core.Path.{sym}
 use Rattle.sfdu.proofs.Placed.{placed}
 use Rattle.sfdu.proofs.Wholes.{blocks-test}
 use borrow.Author.Needs.{needs}

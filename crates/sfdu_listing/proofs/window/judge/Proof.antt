@@ -1,7 +1,6 @@
 -- `sfdu_listing::window::judge` meets its contract, from what read one answers. Assumes nothing.
 use native.Mathlib.Omega.{arith}
-use Prim.Native.Nat.{ℕ, _≤_}
-use mathlib.Core.List.{[], _∷_}
+use Prim.Native.Nat.{_≤_}
 use mathlib.Core.Path.{ap, sym, _∙_}
 use Rattle.sfdu.specs.Read.{wordsOf, primaryWords, recordLength}
 use Rattle.sfdu.proofs.Accepted.{found}

@@ -1,5 +1,4 @@
 -- `sfdu_listing::window::stop` meets its contract: 1 and 6 are judged by the window, and the others are read one's. Assumes nothing.
-use Prim.Native.Nat.{_+_}
 use native.Mathlib.Omega.{arith}
 use mathlib.Core.Bool.{false}
 use mathlib.Core.Path.{_≡_, sym, _∙_}

@@ -1,5 +1,4 @@
 -- `sfdu_stream::walking::stop_at` meets its contract. Assumes nothing.
-use mathlib.Core.Bool.{false≢true}
 use mathlib.Core.Path.{sym, ap, _∙_}
 use Rattle.sfdu.specs.Read.{primaryWords}
 use Rattle.sfdu_stream.specs.Walk.{stepWords}
@@ -31,7 +30,7 @@ returns c =
     let g = c .enum-told .given .0 in
     let f = found-there (k .args .s .now) (k .args .at) (g .0) (g .1 .0) (primaryWords (g .1 .1 .0)) (g .1 .1 .1 .0 .at)
     (sym (ap stepWords (c .enum-told .given .1)) ∙ c .before .before .step .ensures) in
-    absurd (false≢true (sym (k .pre) ∙ f .there .is-whole))
+    cc
 
 returns-2 : tie.Need-returns-2
 returns-2 c =
