@@ -112,28 +112,28 @@ pub record SoFar (count : ℕ) (names sheets : List ℕ) (files : Files) (i : �
 
 module _ {count : ℕ} {names sheets : List ℕ} {files : Files} {i : ℕ} (so-far : SoFar count names sheets files i) where
   -- no file is left
-  pub all-loaded : (count ≤ mostSheets → count ≤ i) → LoadsAll count names sheets (record { files = files; ok = true })
-  all-loaded h =
-      record {
-        named = so-far .named;
-        each = λ j l. so-far .each j (omega (arith, so-far .counted));
-        whole = λ _ few. omega (arith, so-far .counted, so-far .most, h few);
-      }
+  pub all-loaded : (count ≤ mostSheets → count ≤ i) → Named names files × LoadsAll count sheets (record { files = files; ok = true })
+  all-loaded h = (
+    so-far .named,
+    record {
+      each = λ j l. so-far .each j (omega (arith, so-far .counted));
+      whole = λ _ few. omega (arith, so-far .counted, so-far .most, h few);
+    },
+  )
 
-  module _ (below : i < mostSheets) (new : List ℕ) (names′ : List ℕ) where
+  module _ (below : i < mostSheets) (new : List ℕ) where
     within : sheetSize * i + sheetSize ≤ length sheets
     within = omega (arith, so-far .room)
 
     -- a file that is none: those before it stay
-    pub one-wrong : Named names′ files → LoadsAll count names′ (after sheets new i) (record { files = files; ok = false })
-    one-wrong named =
+    pub one-wrong : LoadsAll count (after sheets new i) (record { files = files; ok = false })
+    one-wrong =
         record {
-          named = named;
           each = λ j l. let before : j < i = omega (arith, so-far .counted) in kept sheets new i within before (so-far .each j before);
           whole = λ e _. absurd (false≢true e);
         }
 
-    module _ (found : Found) (size : ℕ) (slot : List ℕ) where
+    module _ (names′ : List ℕ) (found : Found) (size : ℕ) (slot : List ℕ) where
       abbrev more : Files
       more = record { count = i + 1; sizes = set (files .sizes) i size; converted = set (files .converted) i (found .converted) }
 

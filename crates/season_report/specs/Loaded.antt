@@ -14,7 +14,6 @@ use Rattle.ledger_convert.specs.Convert.{convertOn}
 use Rattle.ledger_season.specs.Report.{mostSheets}
 use Rattle.ledger_season.specs.Season.{sheetAt}
 use Rattle.season_page.specs.declared.Files.{Files}
-use Rattle.season_page.specs.inner.Room.{Named}
 use Rattle.season_report.specs.declared.Loaded.{Loaded}
 use Rattle.season_report.specs.declared.files.Found.{Found}
 
@@ -49,7 +48,6 @@ pub record IsLoaded (sheets : List ℕ) (files : Files) (i : ℕ) : Type 0 where
   pub is-right : right (sheetAt sheets i) ≡ true
 
 -- So many are loaded, and where all files were sheets, as many as there were.
-pub record LoadsAll (count : ℕ) (names sheets : List ℕ) (r : Loaded) : Type 0 where
-  pub named : Named names (r .files)
+pub record LoadsAll (count : ℕ) (sheets : List ℕ) (r : Loaded) : Type 0 where
   pub each : (i : ℕ) → i < r .files .count → IsLoaded sheets (r .files) i
   pub whole : r .ok ≡ true → count ≤ mostSheets → r .files .count ≡ count

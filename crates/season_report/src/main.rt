@@ -49,7 +49,7 @@ fn tell_usage(fd: i32) {
 // Loads the sheets that the arguments name, and these names, up to the first that is none.
 fn load_all(names: &mut [u8], sheets: &mut [u8], count: usize) -> Loaded
     requires { ⌜ (length (now names) ≡ nameSize * mostSheets) × (length (now sheets) ≡ sheetSize * mostSheets) ⌝ }
-    ensures { λ r. ⌜ LoadsAll count (now (names .exit)) (now (sheets .exit)) r ⌝ }
+    ensures { λ r. ⌜ Named (now (names .exit)) (r .files) × LoadsAll count (now (sheets .exit)) r ⌝ }
 {
     let mut files = Files {
         count: 0,

@@ -89,8 +89,10 @@ returns-2 c =
     let load = c .before .before .before .before .before .before .before in
     let turn = load .before .before .before .before .before .loop in
     let so-far = turn .inv .2 in
-    let named = so-far .named in
-    one-wrong so-far (omega arith) (load .load .last .1 .1 .0) _ (record { few = named .few; slots = search needs; all = named .all; short = named .short })
+    let named = so-far .named in (
+      record { few = named .few; slots = search needs; all = named .all; short = named .short },
+      one-wrong so-far (omega arith) (load .load .last .1 .1 .0),
+    )
 
 add-files : tie.Need-add-files Inv-loop μ-loop
 add-files c = search needs

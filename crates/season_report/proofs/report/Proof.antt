@@ -34,14 +34,14 @@ array-share-prefix-sheets c = search needs
 slice-aggregate-tell-2 : tie.Need-slice-aggregate-tell-2
 slice-aggregate-tell-2 c =
     let loaded = c .before .before .before .before .before .before .before .before .load-all .ensures in
-    sym (length-take-le _ _ (omega (arith, loaded .named .few)))
+    sym (length-take-le _ _ (omega (arith, loaded .0 .few)))
 
 tell-requires : tie.Need-tell-requires
 tell-requires c κs =
     let load = c .before .before .before .before .before .before .before .before .load-all in
     let loaded = load .ensures in
-    let fits : sheetSize * load .result .files .count ≤ length (load .last .1 .0) = omega (arith, loaded .named .few) in
-    (loaded .named, length-take-le _ _ fits, right-first (load .last .1 .0) (load .result .files .count) fits (λ j l. loaded .each j l .is-right))
+    let fits : sheetSize * load .result .files .count ≤ length (load .last .1 .0) = omega (arith, loaded .0 .few) in
+    (loaded .0, length-take-le _ _ fits, right-first (load .last .1 .0) (load .result .files .count) fits (λ j l. loaded .1 .each j l .is-right))
 
 returns-2 : tie.Need-returns-2
 returns-2 c = search needs
