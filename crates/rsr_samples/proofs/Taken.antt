@@ -1,5 +1,5 @@
 -- What becomes of a record, by what it is judged to be. Assumes nothing.
-use Prim.Native.Nat.{ℕ, _≤_}
+use Prim.Native.Nat.{ℕ, _+_, _≤_}
 use native.Mathlib.Omega.{arith}
 use mathlib.Core.Bool.{Bool, true, false, cond}
 use mathlib.Core.List.{List, [], _∷_}
@@ -65,30 +65,30 @@ module _ (place : ℕ) (s : List ℕ) (old new : List ℤ) (n : ℕ) (e : (Sampl
 
 module _ (raw : Bool) (place : ℕ) (filled : Filled) (window : List ℕ) (old : List ℤ) (out : List ℕ) where
   -- not gone past, nothing is said of calls
-  kept : (r : Step) → r ≡ stepOf true place filled window old → ((size : ℕ) → r ≡ S.Passed size → ⊥) → Takes raw place filled window old out r
-  kept r e never = record { written = true; step = e; came = λ size p. absurd (never size p) }
+  kept : (r : Step) → r ≡ stepOf true place filled window old → ((next : ℕ) → r ≡ S.Passed next → ⊥) → Takes raw place filled window old out r
+  kept r e never = record { written = true; step = e; came = λ next p. absurd (never next p) }
 
   pub unread : filled .failed ≡ true → Takes raw place filled window old out S.Unread
   unfolding stepOf
-  unread f = kept S.Unread (rw f) (λ size p. zero-is-one (cc))
+  unread f = kept S.Unread (rw f) (λ next p. zero-is-one (cc))
 
   module _ (f : filled .failed ≡ false) where
     pub ended : filled .have ≡ 0 → Takes raw place filled window old out S.Ended
     unfolding stepOf
-    ended z = kept S.Ended (rw (f, z)) (λ size p. zero-is-one (cc))
+    ended z = kept S.Ended (rw (f, z)) (λ next p. zero-is-one (cc))
 
     module _ (some : filled .have ≡ 0 → ⊥) where
       pub stopped : (stop : Stop) (new : List ℤ) → (Stopped stop, new) ≡ judging place (take (filled .have) window) old
           → Takes raw place filled window old out (S.Stopped stop)
       unfolding stepOf
       stopped stop new e =
-          kept (S.Stopped stop) (rw (f, ne-eqb (filled .have) 0 some, ← ap (λ (p : Judged × List ℤ). p .0) e)) (λ size p. zero-is-one (cc))
+          kept (S.Stopped stop) (rw (f, ne-eqb (filled .have) 0 some, ← ap (λ (p : Judged × List ℤ). p .0) e)) (λ next p. zero-is-one (cc))
 
       pub passed : (n : ℕ) (new : List ℤ) (r : Step) → OfOne window (filled .have) → (Samples n, new) ≡ judging place (take (filled .have) window) old
-          → Writes raw new n (filled .have) out r → Takes raw place filled window old out r
+          → Writes raw new n (place + filled .have) out r → Takes raw place filled window old out r
       unfolding stepOf
       passed n new r one e w =
-          record { written = w .written; step = w .step ∙ rw (f, ne-eqb (filled .have) 0 some, ← is, ← size); came = λ size p. came (w .written) refl p }
+          record { written = w .written; step = w .step ∙ rw (f, ne-eqb (filled .have) 0 some, ← is, ← size); came = λ next p. came (w .written) refl p }
         where
           s : List ℕ
           s = take (filled .have) window
@@ -99,32 +99,33 @@ module _ (raw : Bool) (place : ℕ) (filled : Filled) (window : List ℕ) (old :
           size : filled .have ≡ recordLength s
           size = whole place s old new n e (filled .have) (length-take-le _ _ (one .within)) (one .one)
 
-          came : (b : Bool) {size : ℕ} → w .written ≡ b → r ≡ S.Passed size → Came raw (numbersOf s) (length (numbersOf s)) out
+          came : (b : Bool) {next : ℕ} → w .written ≡ b → r ≡ S.Passed next → Came raw (numbersOf s) (length (numbersOf s)) out
           came true q p = rw (← numbers place s old new n e) (w .came q)
           came false q p = let step = rw q at (w .step) in zero-is-one (cc)
 
 -- ---- a record that is gone past was all that was read
 
-module _ (written : Bool) (s : List ℕ) (size : ℕ) where
+module _ (written : Bool) (place : ℕ) (s : List ℕ) (next : ℕ) where
   abbrev Sampled : Judged → Type 0
-  Sampled j = (n : ℕ) × (j ≡ Samples n) × (size ≡ recordLength s)
+  Sampled j = (n : ℕ) × (j ≡ Samples n) × (next ≡ place + recordLength s)
 
-  sampled-by : (j : Judged) (b : Bool) → S.Passed size ≡ stepBy b s j → Sampled j
+  sampled-by : (j : Judged) (b : Bool) → S.Passed next ≡ stepBy b place s j → Sampled j
   sampled-by (Samples n) true e = (n, refl, cc)
   sampled-by (Samples n) false e = zero-is-one (cc)
   sampled-by (Stopped stop) b e = zero-is-one (cc)
 
-  sampled-of : (j : Judged) (failed none : Bool) → S.Passed size ≡ cond failed S.Unread (cond none S.Ended (stepBy written s j)) → Sampled j
+  sampled-of : (j : Judged) (failed none : Bool) → S.Passed next ≡ cond failed S.Unread (cond none S.Ended (stepBy written place s j)) → Sampled j
   sampled-of j true none e = zero-is-one (cc)
   sampled-of j false true e = zero-is-one (cc)
   sampled-of j false false e = sampled-by j written e
 
-pub all-read : {raw : Bool} {place : ℕ} {filled : Filled} {window : List ℕ} {old : List ℤ} {out : List ℕ} {r : Step} {size : ℕ}
-    → Takes raw place filled window old out r → OfOne window (filled .have) → r ≡ S.Passed size → size ≡ filled .have
+pub all-read : {raw : Bool} {place : ℕ} {filled : Filled} {window : List ℕ} {old : List ℤ} {out : List ℕ} {r : Step} {next : ℕ}
+    → Takes raw place filled window old out r → OfOne window (filled .have) → r ≡ S.Passed next → next ≡ place + filled .have
 unfolding stepOf
-all-read {raw} {place} {filled} {window} {old} {out} {r} {size} t one p =
+all-read {raw} {place} {filled} {window} {old} {out} {r} {next} t one p =
     let s = take (filled .have) window in
     let j = judging place s old in
-    let past = sampled-of (t .written) s size (j .0) (filled .failed) (eqb (filled .have) 0) (sym p ∙ t .step) in
+    let past = sampled-of (t .written) place s next (j .0) (filled .failed) (eqb (filled .have) 0) (sym p ∙ t .step) in
     let is : (Samples (past .0), j .1) ≡ j = ap (λ (x : Judged). (x, j .1)) (sym (past .1)) in
-    past .2 ∙ sym (whole place s old (j .1) (past .0) is (filled .have) (length-take-le _ _ (one .within)) (one .one))
+    let size = whole place s old (j .1) (past .0) is (filled .have) (length-take-le _ _ (one .within)) (one .one) in
+    past .2 ∙ ap (λ (n : ℕ). place + n) (sym size)

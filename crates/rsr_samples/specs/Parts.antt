@@ -1,7 +1,7 @@
 -- What the program keeps of a record. No contract can say what the system reads or writes; this says what becomes of the bytes that were
 -- read, and which calls laid out what was handed on. Assumes nothing.
 -- The manual, docs/INTERFACE.md: "Samples".
-use Prim.Native.Nat.{ℕ, _≤_}
+use Prim.Native.Nat.{ℕ, _+_, _≤_}
 use mathlib.Core.Bool.{Bool, cond}
 use mathlib.Core.List.{List}
 use mathlib.Core.Path.{_≡_}
@@ -41,20 +41,20 @@ numbersOf s = unpacked (sizeOf s) (dataPart s)
 
 -- ---- what becomes of a record
 
--- Where a record is accepted, it is gone past, by its own length, if all its text could be written; where it is not, the stream stops.
-abbrev pub stepBy : (written : Bool) → (s : List ℕ) → Judged → Step
-stepBy written s (J.Samples n) = cond written (S.Passed (recordLength s)) S.Unwritten
-stepBy written s (J.Stopped stop) = S.Stopped stop
+-- Where a record is accepted, the stream goes on behind it, by its own length, if all its text could be written; else the stream stops.
+abbrev pub stepBy : (written : Bool) → (place : ℕ) → (s : List ℕ) → Judged → Step
+stepBy written place s (J.Samples n) = cond written (S.Passed (place + recordLength s)) S.Unwritten
+stepBy written place s (J.Stopped stop) = S.Stopped stop
 
 -- Of the bytes that were read, none at the stream's end.
 unfoldable pub stepOf : (written : Bool) → (place : ℕ) → Filled → (window : List ℕ) → List ℤ → Step
 stepOf written place filled window old =
     cond (filled .failed) S.Unread
-    (cond (eqb (filled .have) 0) S.Ended (stepBy written (take (filled .have) window) (judging place (take (filled .have) window) old .0)))
+    (cond (eqb (filled .have) 0) S.Ended (stepBy written place (take (filled .have) window) (judging place (take (filled .have) window) old .0)))
 
 -- Whether all its text could be written is the system's to say. Where the record is gone past, calls came to the end of its numbers.
 pub record Takes (raw : Bool) (place : ℕ) (filled : Filled) (window : List ℕ) (old : List ℤ) (out : List ℕ) (r : Step) : Type 0 where
   pub written : Bool
   pub step : r ≡ stepOf written place filled window old
-  pub came : (size : ℕ) → r ≡ S.Passed size
+  pub came : (next : ℕ) → r ≡ S.Passed next
       → Came raw (numbersOf (take (filled .have) window)) (length (numbersOf (take (filled .have) window))) out

@@ -27,8 +27,8 @@ const RECORDS: u64 = 140737488355328;
 
 // What became of the next record. (Public for the prover's sake.)
 pub enum Step {
-    // Its samples are written; its size.
-    Passed(usize),
+    // Its samples are written; the place behind it.
+    Passed(u64),
     // There is none: the input ended before it.
     Ended,
     Stopped(Stop),
@@ -58,18 +58,18 @@ fn take_record(
     }
     let judged = judging::judge(&w[..have], place, list);
     match judged {
-        Judged::Samples(n) => written(list, n, raw, have, out),
+        Judged::Samples(n) => written(list, n, raw, place + have as u64, out),
         Judged::Stopped(stop) => Step::Stopped(stop),
     }
 }
 
-// Writes the list's first n numbers.
-fn written(list: &[i32], n: usize, raw: bool, size: usize, out: &mut [u8]) -> Step
+// Writes the list's first n numbers, and goes on to the next place.
+fn written(list: &[i32], n: usize, raw: bool, next: u64, out: &mut [u8]) -> Step
     requires { ⌜ (n ≤ length (now list)) × (mostNumber ≤ length (now out)) ⌝ }
-    ensures { λ r. ⌜ Writes raw (now (list .entry)) n size (now (out .exit)) r ⌝ }
+    ensures { λ r. ⌜ Writes raw (now (list .entry)) n next (now (out .exit)) r ⌝ }
 {
     if output::write_parts(&list[..n], raw, out) {
-        return Step::Passed(size);
+        return Step::Passed(next);
     }
     Step::Unwritten
 }
@@ -82,10 +82,10 @@ fn write_stream(fd: i32, name: &[u8], raw: bool, w: &mut [u8], list: &mut [i32],
     while 0 < left {
         let filled = input::next_record(fd, w);
         let step = take_record(filled, place, raw, w, list, out);
-        let Step::Passed(size) = step else {
+        let Step::Passed(next) = step else {
             return tell_end(name, place, step);
         };
-        place += size as u64;
+        place = next;
         left -= 1;
     }
 }

@@ -29,6 +29,9 @@ judge-requires c κs =
 enum-known-judged : tie.Need-enum-known-judged
 enum-known-judged c = search needs
 
+add-written : tie.Need-add-written
+add-written c = search needs
+
 written-requires : tie.Need-written-requires
 written-requires c κs =
     let told = c .before .before .before in
@@ -75,6 +78,7 @@ take-record-spec =
     slice-aggregate-judge
     judge-requires
     enum-known-judged
+    add-written
     written-requires
     enum-known-judged-2
     same-length

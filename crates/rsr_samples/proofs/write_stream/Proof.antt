@@ -43,14 +43,6 @@ same-length-3 c = search needs
 returns : tie.Need-returns Inv-loop μ-loop
 returns c = search needs
 
-add-place : tie.Need-add-place Inv-loop μ-loop
-add-place c =
-    let told = c .before in
-    let took = told .before .before .before .before .before in
-    let read = took .before .before .before .before .before .before in
-    let size = all-read (took .take-record .ensures) (read .next-record .ensures) (told .step .given .1) in
-    omega (arith, size, read .next-record .ensures .within)
-
 sub-left : tie.Need-sub-left Inv-loop μ-loop
 sub-left c = search needs
 
@@ -92,7 +84,6 @@ write-stream-spec =
     same-length-2
     same-length-3
     returns
-    add-place
     sub-left
     loop-less
     loop-again

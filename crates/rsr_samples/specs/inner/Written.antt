@@ -23,8 +23,8 @@ pub record Ready (place : ℕ) (filled : Filled) (window out : List ℕ) : Type 
 abbrev pub Ends : Bool → List ℤ → (out : List ℕ) → (written : Bool) → Type 0
 Ends raw zs out written = written ≡ true → Came raw zs (length zs) out
 
--- The same of a list's first n numbers: then the record's size is answered.
-pub record Writes (raw : Bool) (zs : List ℤ) (n size : ℕ) (out : List ℕ) (r : Step) : Type 0 where
+-- The same of a list's first n numbers: then the next place is answered.
+pub record Writes (raw : Bool) (zs : List ℤ) (n next : ℕ) (out : List ℕ) (r : Step) : Type 0 where
   pub written : Bool
-  pub step : r ≡ cond written (S.Passed size) S.Unwritten
+  pub step : r ≡ cond written (S.Passed next) S.Unwritten
   pub came : written ≡ true → Came raw (take n zs) (length (take n zs)) out
