@@ -25,8 +25,8 @@ use Rattle.sfdu_rsr.proofs.Reading.{all-refuse}
 use Rattle.sfdu_samples.specs.declared.Answer.{Answer}
 use Rattle.sfdu_samples.specs.Calls.{wordsOf, fills, sizeOf, rateOf, dataRules, unpackRules, unpacking}
 use Rattle.rsr_samples.specs.declared.judging.Judged.{Judged}
-use Rattle.rsr_samples.specs.declared.judging.Judged.the-variants.{Stopped}
-use Rattle.rsr_samples.specs.Judging.{windowSize, stopOf, judgedBy, judging}
+use Rattle.rsr_samples.specs.declared.judging.Judged.the-variants.{Samples, Stopped}
+use Rattle.rsr_samples.specs.Judging.{windowSize, isOver, stopOf, judgedBy, judging}
 use Rattle.rsr_samples.specs.Parts.{numbersOf}
 
 -- ---- an answer judged
@@ -39,12 +39,19 @@ judged-as place s old new a j e is = rw is (ap (λ (p : List ℕ × List ℤ). (
 pub words : {p : List ℕ × List ℤ} {new : List ℤ} {a b : Answer} → a ≡ b → (wordsOf a, new) ≡ p → p .0 ≡ wordsOf b
 words {p} {new} {a} {b} is e = sym (ap (λ (p : List ℕ × List ℤ). p .0) e) ∙ ap wordsOf is
 
+pub count-judged : (place n : ℕ) → Samples n ≡ judgedBy place (0 ∷ n ∷ [])
+count-judged place n = refl
+
 pub fault-judged : (place : ℕ) (f : Fault) → Stopped (stopOf place (faultWords f)) ≡ judgedBy place (faultWords f)
 fault-judged place f = rw (ne-eqb (numberOf (f .refusal)) 0 (number-positive (f .refusal)))
 
 pub refusal-judged : (place : ℕ) (r : Refusal) → Stopped (record { number = numberOf r; beside = 0 }) ≡ judgedBy place (only (numberOf r))
 unfolding stopOf inStream
 refusal-judged place r = rw (ne-eqb (numberOf r) 0 (number-positive r), and-false)
+
+pub over-stop : (place : ℕ) (f : Fault) → isOver (faultWords f) ≡ true → record { number = 17; beside = 0 } ≡ stopOf place (faultWords f)
+unfolding stopOf
+over-stop place f over = rw over
 
 -- ---- what unpack's rules give
 

@@ -1,6 +1,6 @@
 -- `rsr_samples::judging::judge` meets its contract: unpack's answer, case by case. Assumes nothing.
 use native.Mathlib.Omega.{arith}
-use Rattle.rsr_samples.proofs.Stops.{judged-as, fault-judged, refusal-judged, words, second-near}
+use Rattle.rsr_samples.proofs.Stops.{judged-as, count-judged, fault-judged, refusal-judged, words, second-near}
 use borrow.Author.Needs.{needs}
 use Rattle.rsr_samples.proofs.judging.judge.Statement.{statement}
 use Rattle.rsr_samples.proofs.judging.judge.Tie as tie
@@ -33,8 +33,11 @@ same-length c = search needs
 
 returns : tie.Need-returns
 returns c =
+    let told = c .before .answer .given in
     let asked = c .before .before .before .before in
-    judged-as _ _ _ _ (asked .unpack .result) _ (asked .unpack .ensures) (rw (c .before .answer .given .1))
+    let given = asked .before .before .before .args in
+    let is = count-judged (given .place) (told .0 .0) in
+    judged-as _ _ _ _ (asked .unpack .result) _ (asked .unpack .ensures) (rw (told .1) is)
 
 same-length-2 : tie.Need-same-length-2
 same-length-2 c = search needs

@@ -2,6 +2,7 @@
 use mathlib.Core.Path.{sym, _∙_}
 use Rattle.sfdu.specs.Read.{inStream}
 use Rattle.rsr_samples.specs.Judging.{stopOf}
+use Rattle.rsr_samples.proofs.Stops.{over-stop}
 use borrow.Author.Needs.{needs}
 use Rattle.rsr_samples.proofs.judging.stop_in.Statement.{statement}
 use Rattle.rsr_samples.proofs.judging.stop_in.Tie as tie
@@ -13,10 +14,11 @@ number-requires : tie.Need-number-requires
 number-requires c κs = search needs
 
 returns : tie.Need-returns
-unfolding stopOf
 returns c =
-    let over = sym (c .before .before .is-over .ensures) ∙ c .before .if1 .taken in
-    rw (c .number .ensures, over)
+    let asked = c .before .before in
+    let given = asked .before .args in
+    let over = sym (asked .is-over .ensures) ∙ c .before .if1 .taken in
+    rw (c .number .ensures) (over-stop (given .place) (given .fault) over)
 
 is-count-requires : tie.Need-is-count-requires
 is-count-requires c κs = search needs
