@@ -1,6 +1,10 @@
 // A record of the stream, read into a window.
-ghost use Prim.Native.Nat.{_≤_};
+ghost use mathlib.Core.Path.{_≡_};
+ghost use Prim.Native.Nat.{_+_, _≤_};
 ghost use lib.ListN.{length};
+ghost use Rattle.rsr_samples.specs.Judging.{windowSize};
+ghost use Rattle.rsr_samples.specs.Parts.{OfOne};
+ghost use Rattle.rsr_samples.specs.inner.Reading.{wantedOf, Fills};
 use octets::numbers;
 use sfdu::nesting;
 
@@ -19,7 +23,10 @@ struct Piece {
 }
 
 // The next record, from the window's start: its label first, which says how long it is.
-pub(crate) fn next_record(fd: i32, w: &mut [u8]) -> Filled {
+pub(crate) fn next_record(fd: i32, w: &mut [u8]) -> Filled
+    requires { ⌜ length (now w) ≡ windowSize ⌝ }
+    ensures { λ r. ⌜ OfOne (now (w .exit)) (r .have) ⌝ }
+{
     let label = fill(fd, w, 0, nesting::LABEL);
     if label.failed {
         return label;
@@ -32,10 +39,10 @@ pub(crate) fn next_record(fd: i32, w: &mut [u8]) -> Filled {
 }
 
 // The length of the record by its label, or the window's where that is less.
-fn wanted(w: &[u8]) -> usize {
-    if w.len() < nesting::LABEL {
-        return 0;
-    }
+fn wanted(w: &[u8]) -> usize
+    requires { ⌜ length (now w) ≡ windowSize ⌝ }
+    ensures { λ r. ⌜ r ≡ wantedOf (now (w .entry)) ⌝ }
+{
     let after = numbers::read_be(w, nesting::LENGTH_AT, nesting::LENGTH);
     if (WINDOW - nesting::LABEL) as u64 <= after {
         return WINDOW;
@@ -43,26 +50,21 @@ fn wanted(w: &[u8]) -> usize {
     nesting::LABEL + after as usize
 }
 
-// Reads on from `have` until there are as many bytes as wanted, or the input ends. Each turn but the last reads a byte at least.
-fn fill(fd: i32, w: &mut [u8], have: usize, want: usize) -> Filled {
+// Reads on from `have` until there are as many bytes as wanted, or none comes: the input has ended, or a read failed.
+fn fill(fd: i32, w: &mut [u8], have: usize, want: usize) -> Filled
+    requires { ⌜ (have ≤ want) × (want ≤ length (now w)) ⌝ }
+    ensures { λ r. ⌜ Fills (now (w .entry)) (now (w .exit)) have want (r .have) ⌝ }
+{
     let mut at = have;
-    let mut turns = w.len();
-    while 0 < turns {
-        if want <= at {
-            return Filled {
-                have: at,
-                failed: false,
-            };
-        }
+    while at < want {
         let piece = read_at(fd, w, at, want);
-        if piece.failed | (piece.got == 0) {
+        if piece.got == 0 {
             return Filled {
                 have: at,
                 failed: piece.failed,
             };
         }
-        at = std::num::wrapping_add_usize(at, piece.got);
-        turns -= 1;
+        at += piece.got;
     }
     Filled {
         have: at,
@@ -70,20 +72,10 @@ fn fill(fd: i32, w: &mut [u8], have: usize, want: usize) -> Filled {
     }
 }
 
-// None where the window ends before.
-fn read_at(fd: i32, w: &mut [u8], at: usize, want: usize) -> Piece {
-    if w.len() < want {
-        return Piece {
-            got: 0,
-            failed: false,
-        };
-    }
-    if want < at {
-        return Piece {
-            got: 0,
-            failed: false,
-        };
-    }
+fn read_at(fd: i32, w: &mut [u8], at: usize, want: usize) -> Piece
+    requires { ⌜ (at ≤ want) × (want ≤ length (now w)) ⌝ }
+    ensures { λ r. ⌜ Fills (now (w .entry)) (now (w .exit)) at want (at + r .got) ⌝ }
+{
     let part = &mut w[at..want];
     let count = libc::read(fd, part);
     Piece {

@@ -1,18 +1,20 @@
 // The samples of streams of RSR records: of the files that its arguments name, one after the other, or of standard input where there
 // is none. A pair a line, I and Q; with --raw as 32-bit little-endian integers.
 mod input;
+mod judging;
 mod output;
 
 ghost use mathlib.Core.Path.{_≡_};
 ghost use Prim.Native.Nat.{_≤_};
 ghost use lib.ListN.{length};
 ghost use Rattle.sfdu_sample_text.specs.inner.Room.{mostNumber};
+ghost use Rattle.rsr_samples.specs.Judging.{windowSize};
 ghost use Rattle.rsr_samples.specs.Parts.{Takes};
-ghost use Rattle.rsr_samples.specs.inner.Written.{Writes};
+ghost use Rattle.rsr_samples.specs.inner.Written.{Ready, Writes};
 use arguments::Asked;
-use refusals::Refusal;
-use sfdu::Fault;
-use sfdu_samples::Answer;
+use input::Filled;
+use judging::Judged;
+use judging::Stop;
 
 // The program's own option.
 const RAW: [u8; 5] = *b"--raw";
@@ -23,84 +25,86 @@ const NUMBERS: usize = 524288;
 // A proved loop has to end, and nothing says that a stream does: so the loop counts its records down, from 2^47, which no run uses up.
 const RECORDS: u64 = 140737488355328;
 
-// Writes the samples of the next record. Answers its size, or 0 where the stream has ended or cannot go on.
+// What became of the next record. (Public for the prover's sake.)
+pub enum Step {
+    // Its samples are written; the place behind it.
+    Passed(u64),
+    // There is none: the input ended before it.
+    Ended,
+    Stopped(Stop),
+    // A read or a write failed.
+    Unread,
+    Unwritten,
+}
+
+// Writes the samples of the record that was read into the window.
 fn take_record(
-    fd: i32,
-    name: &[u8],
+    filled: Filled,
     place: u64,
     raw: bool,
-    w: &mut [u8],
+    w: &[u8],
     list: &mut [i32],
     out: &mut [u8],
-) -> usize
-    requires { ⌜ mostNumber ≤ length (now out) ⌝ }
-    ensures { λ r. ⌜ Takes raw (now (w .exit)) (now (out .exit)) r ⌝ }
+) -> Step
+    requires { ⌜ Ready place filled (now w) (now out) ⌝ }
+    ensures { λ r. ⌜ Takes raw place filled (now (w .entry)) (now (list .entry)) (now (out .exit)) r ⌝ }
 {
-    let filled = input::next_record(fd, w);
     if filled.failed {
-        os::fail(name);
-        return 0;
+        return Step::Unread;
     }
     let have = filled.have;
     if have == 0 {
-        return 0;
+        return Step::Ended;
     }
-    if w.len() < have {
-        return 0;
-    }
-    let answer = sfdu_samples::unpack(&w[..have], list);
-    match answer {
-        Answer::Count(n) => written(list, n, raw, have, out),
-        Answer::Header(fault) => stopped_in(name, place, fault, have),
-        Answer::Refused(why) => stopped(name, place, refusals::number(why), 0),
+    let judged = judging::judge(&w[..have], place, list);
+    match judged {
+        Judged::Samples(n) => written(list, n, raw, place + have as u64, out),
+        Judged::Stopped(stop) => Step::Stopped(stop),
     }
 }
 
-// The record's size, or 0 where its samples could not be written.
-fn written(list: &[i32], n: usize, raw: bool, size: usize, out: &mut [u8]) -> usize
-    requires { ⌜ mostNumber ≤ length (now out) ⌝ }
-    ensures { λ r. ⌜ Writes raw (now (list .entry)) n size (now (out .exit)) r ⌝ }
+// Writes the list's first n numbers, and goes on to the next place.
+fn written(list: &[i32], n: usize, raw: bool, next: u64, out: &mut [u8]) -> Step
+    requires { ⌜ (n ≤ length (now list)) × (mostNumber ≤ length (now out)) ⌝ }
+    ensures { λ r. ⌜ Writes raw (now (list .entry)) n next (now (out .exit)) r ⌝ }
 {
-    if list.len() < n {
-        return 0;
-    }
     if output::write_parts(&list[..n], raw, out) {
-        return size;
+        return Step::Passed(next);
     }
-    os::fail(b"standard output");
-    0
+    Step::Unwritten
 }
 
-// A record that is cut where the window is full is too long for it: 17, as the listing says.
-fn stopped_in(name: &[u8], place: u64, fault: Fault, have: usize) -> usize
-    ensures { λ r. ⌜ r ≡ 0 ⌝ }
+fn write_stream(fd: i32, name: &[u8], raw: bool, w: &mut [u8], list: &mut [i32], out: &mut [u8])
+    requires { ⌜ (length (now w) ≡ windowSize) × (mostNumber ≤ length (now out)) ⌝ }
 {
-    let why = fault.refusal;
-    let number = refusals::number(why);
-    let cut = refusals::number(Refusal::Truncated);
-    if (number == cut) & (have == input::WINDOW) {
-        return stopped(name, place, refusals::number(Refusal::BufferSize), 0);
+    let mut place: u64 = 0;
+    let mut left = RECORDS;
+    while 0 < left {
+        let filled = input::next_record(fd, w);
+        let step = take_record(filled, place, raw, w, list, out);
+        let Step::Passed(next) = step else {
+            return tell_end(name, place, step);
+        };
+        place = next;
+        left -= 1;
     }
-    let short = refusals::number(Refusal::TooShort);
-    if (number == cut) | (number == short) {
-        return stopped(name, place, number, fault.at as u64);
-    }
-    stopped(
-        name,
-        place,
-        number,
-        std::num::wrapping_add_u64(place, fault.at as u64),
-    )
 }
 
-fn stopped(name: &[u8], place: u64, number: u32, beside: u64) -> usize
-    ensures { λ r. ⌜ r ≡ 0 ⌝ }
-{
+// Why a stream is not gone on with.
+fn tell_end(name: &[u8], place: u64, step: Step) {
+    match step {
+        Step::Passed(_) | Step::Ended => {}
+        Step::Stopped(stop) => tell_stop(name, place, stop),
+        Step::Unread => os::fail(name),
+        Step::Unwritten => os::fail(b"standard output"),
+    }
+}
+
+fn tell_stop(name: &[u8], place: u64, stop: Stop) {
     io::write_all(libc::STDERR_FILENO, name);
     io::write_all(libc::STDERR_FILENO, b": stopped at byte ");
     io::print_decimal(libc::STDERR_FILENO, place);
-    tell_refusal(number, beside);
-    0
+    tell_refusal(stop.number, stop.beside);
 }
 
 fn tell_refusal(number: u32, beside: u64) {
@@ -115,21 +119,6 @@ fn tell_why(number: u32) {
     io::write_all(libc::STDERR_FILENO, b" ");
     refusal_words::tell(libc::STDERR_FILENO, number);
     io::write_all(libc::STDERR_FILENO, b"\n");
-}
-
-fn write_stream(fd: i32, name: &[u8], raw: bool, w: &mut [u8], list: &mut [i32], out: &mut [u8])
-    requires { ⌜ mostNumber ≤ length (now out) ⌝ }
-{
-    let mut place: u64 = 0;
-    let mut left = RECORDS;
-    while 0 < left {
-        let size = take_record(fd, name, place, raw, w, list, out);
-        if size == 0 {
-            return;
-        }
-        place = std::num::wrapping_add_u64(place, size as u64);
-        left -= 1;
-    }
 }
 
 fn stream(fd: i32, name: &[u8], raw: bool) {

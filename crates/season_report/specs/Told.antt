@@ -3,7 +3,6 @@ use Prim.Native.Nat.{ℕ, _≤_}
 use mathlib.Core.List.{List}
 use mathlib.Core.Path.{_≡_}
 use lib.ListN.{length, getD}
-use Rattle.refusals.specs.Table.{numberOf}
 use Rattle.text.specs.Text.{Puts}
 use Rattle.ledger_sheet.specs.declared.Answer.the-variants as A
 use Rattle.ledger_season.specs.Season.{season, Answers}
@@ -21,11 +20,11 @@ pub record Paged (names sheets : List ℕ) (files : Files) (old new : List ℕ) 
   pub puts : Puts old new 0 end (page names sheets files report)
   pub room : end ≤ length new
 
--- Or it is refused, and nothing is laid out: the first word of its answer is the refusal's number.
-pub record Unpaged (sheets old new : List ℕ) (number : ℕ) : Type 0 where
-  pub why : number ≡ getD (season sheets) 0 0
+-- Or it is refused with 41, a key in two sheets, and nothing is laid out.
+pub record Unpaged (sheets old new : List ℕ) : Type 0 where
+  pub twice : getD (season sheets) 0 0 ≡ 41
   pub kept : new ≡ old
 
 abbrev pub Tells : (names sheets : List ℕ) → Files → (old new : List ℕ) → Told → Type 0
 Tells names sheets files old new (T.Page end) = Paged names sheets files old new end
-Tells names sheets files old new (T.Refused why) = Unpaged sheets old new (numberOf why)
+Tells names sheets files old new T.Twice = Unpaged sheets old new

@@ -3,19 +3,22 @@ use ledger_convert::old;
 use ledger_sheet::Answer;
 use ledger_sheet::right;
 ghost use Prim.Native.Nat.{_≤_};
-ghost use lib.ListN.{length};
+ghost use mathlib.Core.Path.{_≡_};
+ghost use lib.Dec.{eqb};
+ghost use lib.ListN.{length, getD};
 ghost use Rattle.io.specs.Counts.{Counts};
+ghost use Rattle.ledger_sheet.specs.Words.{answerWords};
+ghost use Rattle.season_report.specs.Loaded.{noSheet, placing, Loads};
 
-// What a file was: a sheet, as it stands or converted, or none.
-struct Found {
-    is_sheet: bool,
-    converted: bool,
+// What a file was: a sheet, as it stands or converted, or none. (Public for the prover's sake.)
+pub struct Found {
+    pub is_sheet: bool,
+    pub converted: bool,
 }
 
 // The same with the length of the file's name.
 pub struct File {
-    pub is_sheet: bool,
-    pub converted: bool,
+    pub found: Found,
     pub size: usize,
 }
 
@@ -25,7 +28,9 @@ struct Got {
     failed: bool,
 }
 
-fn no_sheet() -> Found {
+fn no_sheet() -> Found
+    ensures { λ r. ⌜ r ≡ noSheet ⌝ }
+{
     Found {
         is_sheet: false,
         converted: false,
@@ -34,28 +39,25 @@ fn no_sheet() -> Found {
 
 // Reads the file that argument i names into the slot, its name into the name's, and says what is wrong with one that is no sheet.
 pub(crate) fn load(i: usize, name: &mut [u8], slot: &mut [u8]) -> File
-    ensures { λ r. ⌜ r .size ≤ length (now (name .entry)) ⌝ }
+    ensures { λ r. ⌜ (r .size ≤ length (now (name .entry))) × Loads (now (slot .entry)) (now (slot .exit)) (r .found) ⌝ }
 {
     let opened = arguments::open_at(i, name);
     let fd = opened.fd;
     let size = opened.size;
     if fd < 0 {
         return File {
-            is_sheet: false,
-            converted: false,
+            found: no_sheet(),
             size,
         };
     }
     let found = load_open(fd, &name[..size], slot);
     libc::close(fd);
-    File {
-        is_sheet: found.is_sheet,
-        converted: found.converted,
-        size,
-    }
+    File { found, size }
 }
 
-fn load_open(fd: i32, name: &[u8], slot: &mut [u8]) -> Found {
+fn load_open(fd: i32, name: &[u8], slot: &mut [u8]) -> Found
+    ensures { λ r. ⌜ Loads (now (slot .entry)) (now (slot .exit)) r ⌝ }
+{
     let mut room = io::large_buffer();
     let got = read_all(fd, &mut room);
     if got.failed {
@@ -101,7 +103,9 @@ fn read_all(fd: i32, room: &mut [u8]) -> Got
 }
 
 // Puts a sheet into the slot, converted where it has the length of an old one.
-fn place(file: &[u8], slot: &mut [u8]) -> Found {
+fn place(file: &[u8], slot: &mut [u8]) -> Found
+    ensures { λ r. ⌜ (r, now (slot .exit)) ≡ placing (now (file .entry)) (now (slot .entry)) ⌝ }
+{
     if file.len() == old::SHEET {
         return Found {
             is_sheet: is_done(ledger_convert::convert(file, slot)),
@@ -118,7 +122,9 @@ fn place(file: &[u8], slot: &mut [u8]) -> Found {
     }
 }
 
-fn is_done(answer: Answer) -> bool {
+fn is_done(answer: Answer) -> bool
+    ensures { λ r. ⌜ r ≡ eqb (getD (answerWords answer) 0 0) 0 ⌝ }
+{
     match answer {
         Answer::Done => true,
         Answer::Refused(_) => false,

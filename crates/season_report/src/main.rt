@@ -5,31 +5,33 @@ mod files;
 use arguments::Asked;
 use ledger_sheet as sheet;
 use ledger_sheet::Answer;
-use refusals::Refusal;
 use season_page::Files;
 ghost use Prim.Native.Nat.{_*_};
+ghost use mathlib.Core.Bool.{true};
 ghost use mathlib.Core.Path.{_≡_};
 ghost use lib.ListN.{length};
 ghost use Rattle.ledger_sheet.specs.Sheet.{sheetSize};
 ghost use Rattle.ledger_season.specs.Report.{mostSheets};
+ghost use Rattle.ledger_season.specs.Season.{rightTo};
 ghost use Rattle.season_page.specs.Page.{nameSize};
 ghost use Rattle.season_page.specs.inner.Room.{Named, Ready};
+ghost use Rattle.season_report.specs.Loaded.{LoadsAll};
 ghost use Rattle.season_report.specs.Told.{Tells};
 
 const MOST_NAMES: usize = ledger_season::MOST_SHEETS * season_page::NAME;
 
 const MOST_BYTES: usize = ledger_season::MOST_SHEETS * sheet::SHEET;
 
-// The sheets that are loaded, and whether all files were sheets.
-struct Loaded {
-    files: Files,
-    ok: bool,
+// The sheets that are loaded, and whether all files were sheets. (Public for the prover's sake.)
+pub struct Loaded {
+    pub files: Files,
+    pub ok: bool,
 }
 
-// What is told of them: where the season's page ends, or why there is none. (Public for the prover's sake.)
+// What is told of them: where the season's page ends; or there is none, since a key stands in two of them. (Public for the prover's sake.)
 pub enum Told {
     Page { end: usize },
-    Refused(Refusal),
+    Twice,
 }
 
 fn tell_usage(fd: i32) {
@@ -47,7 +49,7 @@ fn tell_usage(fd: i32) {
 // Loads the sheets that the arguments name, and these names, up to the first that is none.
 fn load_all(names: &mut [u8], sheets: &mut [u8], count: usize) -> Loaded
     requires { ⌜ (length (now names) ≡ nameSize * mostSheets) × (length (now sheets) ≡ sheetSize * mostSheets) ⌝ }
-    ensures { λ r. ⌜ Named (now (names .exit)) (r .files) ⌝ }
+    ensures { λ r. ⌜ Named (now (names .exit)) (r .files) × LoadsAll count (now (sheets .exit)) r ⌝ }
 {
     let mut files = Files {
         count: 0,
@@ -63,34 +65,20 @@ fn load_all(names: &mut [u8], sheets: &mut [u8], count: usize) -> Loaded
         let a = sheet::SHEET * i;
         let e = a + sheet::SHEET;
         let file = files::load(i + 1, &mut names[b..f], &mut sheets[a..e]);
-        if !file.is_sheet {
+        let found = file.found;
+        if !found.is_sheet {
             return Loaded { files, ok: false };
         }
         files.count = i + 1;
         files.sizes[i] = file.size;
-        files.converted[i] = file.converted;
+        files.converted[i] = found.converted;
     }
     Loaded { files, ok: true }
 }
 
-// The files are sheets, and not too many, so that a key in two of them is all that is left to refuse.
-fn tell_refusal(why: Refusal) {
-    match why {
-        Refusal::KeyInTwoSheets => {
-            io::write_all(
-                libc::STDERR_FILENO,
-                b"a stream stands in two of the sheets (41)\n",
-            );
-        }
-        _ => {
-            io::write_all(libc::STDERR_FILENO, b"no season\n");
-        }
-    }
-}
-
-// The page of the season's report.
+// The page of the season's report. The files are sheets, and not too many, so that a key in two of them is all that is left to refuse.
 fn lay_out(out: &mut [u8], names: &[u8], sheets: &[u8], files: Files) -> Told
-    requires { ⌜ Ready (now out) (now names) (now sheets) files ⌝ }
+    requires { ⌜ Ready (now out) (now names) (now sheets) files × (rightTo (now sheets) (files .count) ≡ true) ⌝ }
     ensures { λ r. ⌜ Tells (now (names .entry)) (now (sheets .entry)) files (now (out .entry)) (now (out .exit)) r ⌝ }
 {
     let report = ledger_season::season(sheets);
@@ -100,15 +88,15 @@ fn lay_out(out: &mut [u8], names: &[u8], sheets: &[u8], files: Files) -> Told
             let end = season_page::lay_out(out, names, sheets, files, report);
             return Told::Page { end };
         }
-        Answer::Refused(why) => {
-            return Told::Refused(why);
+        Answer::Refused(_) => {
+            return Told::Twice;
         }
     }
 }
 
 // Writes it, or says why there is none.
 fn tell(names: &[u8], sheets: &[u8], files: Files)
-    requires { ⌜ Named (now names) files × (length (now sheets) ≡ sheetSize * files .count) ⌝ }
+    requires { ⌜ Named (now names) files × (length (now sheets) ≡ sheetSize * files .count) × (rightTo (now sheets) (files .count) ≡ true) ⌝ }
 {
     let mut page = season_page::room();
     let told = lay_out(&mut page, names, sheets, files);
@@ -118,8 +106,15 @@ fn tell(names: &[u8], sheets: &[u8], files: Files)
                 os::fail(b"standard output");
             }
         }
-        Told::Refused(why) => tell_refusal(why),
+        Told::Twice => tell_twice(),
     }
+}
+
+fn tell_twice() {
+    io::write_all(
+        libc::STDERR_FILENO,
+        b"a stream stands in two of the sheets (41)\n",
+    );
 }
 
 fn report(count: usize) {

@@ -1,25 +1,37 @@
--- `season_report::load_all` meets its contract. The invariant: so many files are named as were loaded. Assumes nothing.
+-- `season_report::load_all` meets its contract. The invariant: the files before this one are loaded, each into its slot. Assumes nothing.
 use Prim.Native.Nat.{_+_, _*_, _-_, _≤_}
 use native.Mathlib.Omega.{arith}
 use mathlib.Core.Path.{_≡_, refl}
 use lib.ListN.{length, drop, length-take}
+use borrow.Author.Tests.{not-false}
 use borrow.Author.Needs.{needs}
 use Rattle.ledger_season.specs.Report.{mostSheets}
 use Rattle.season_page.specs.Page.{nameSize}
-use Rattle.season_page.specs.inner.Room.{Named}
 use Rattle.season_report.proofs.Names.{short-none, short-more}
+use Rattle.season_report.proofs.Sheets.{SoFar, all-loaded, one-wrong, one-more}
 use Rattle.season_report.proofs.load_all.Statement.{statement}
 use Rattle.season_report.proofs.load_all.Tie as tie
 
 abbrev Inv-loop : tie.InvT-loop
 Inv-loop names₀ sheets₀ count files₀ i₀ names sheets files i =
-    (i ≤ mostSheets) × (length sheets ≡ length sheets₀) × Named names files
+    (i ≤ mostSheets) × (length sheets ≡ length sheets₀) × SoFar count names sheets files i
 
 abbrev μ-loop : tie.MeasureT-loop
 μ-loop names₀ sheets₀ count files₀ i₀ names sheets files i = mostSheets - i
 
 loop-holds : tie.Need-loop-holds Inv-loop μ-loop
-loop-holds c = (omega arith, refl, record { few = omega arith; slots = omega arith; all = refl; short = short-none 16 })
+loop-holds c = (
+  omega arith,
+  refl,
+  record {
+    named = record { few = omega arith; slots = omega arith; all = refl; short = short-none 16 };
+    room = omega arith;
+    counted = refl;
+    most = omega arith;
+    slots = refl;
+    each = λ j l. absurd (omega arith);
+  },
+)
 
 same-length : tie.Need-same-length Inv-loop μ-loop
 same-length c = search needs
@@ -28,7 +40,7 @@ same-length-2 : tie.Need-same-length-2 Inv-loop μ-loop
 same-length-2 c = search needs
 
 returns : tie.Need-returns Inv-loop μ-loop
-returns c = c .before .before .loop .inv .2
+returns c = all-loaded (c .before .before .loop .inv .2) (λ _. c .if1 .taken)
 
 mul-b : tie.Need-mul-b Inv-loop μ-loop
 mul-b c = search needs
@@ -74,9 +86,13 @@ same-length-4 c = search needs
 
 returns-2 : tie.Need-returns-2 Inv-loop μ-loop
 returns-2 c =
-    let load = c .before .before .before .before .before .before in
-    let named = load .before .before .before .before .before .loop .inv .2 in
-    record { few = named .few; slots = search needs; all = named .all; short = named .short }
+    let load = c .before .before .before .before .before .before .before in
+    let turn = load .before .before .before .before .before .loop in
+    let so-far = turn .inv .2 in
+    let named = so-far .named in (
+      record { few = named .few; slots = search needs; all = named .all; short = named .short },
+      one-wrong so-far (omega arith) (load .load .last .1 .1 .0),
+    )
 
 add-files : tie.Need-add-files Inv-loop μ-loop
 add-files c = search needs
@@ -98,19 +114,23 @@ loop-less c = search needs
 
 loop-again : tie.Need-loop-again Inv-loop μ-loop
 loop-again c =
-    let load = c .before .before .before .before .before .before in
+    let load = c .before .before .before .before .before .before .before in
     let turn = load .before .before .before .before .before .loop in
+    let so-far = turn .inv .2 in
+    let named = so-far .named in
     let few = length-take (nameSize * turn .i + nameSize - nameSize * turn .i) (drop (nameSize * turn .i) (turn .names)) in
-    let short : load .load .result .size ≤ nameSize = omega (arith, few, load .load .ensures) in
-    let named = turn .inv .2 in (
+    let short : load .load .result .size ≤ nameSize = omega (arith, few, load .load .ensures .0) in
+    let found = load .load .result .found in (
       omega arith,
       search needs,
-      record {
-        few = omega arith;
-        slots = search needs;
-        all = search needs;
-        short = short-more (turn .files .sizes) (turn .i) (load .load .result .size) (named .short) (omega (arith, named .all)) short;
-      },
+      one-more so-far (omega arith) (load .load .last .1 .1 .0) _ found (load .load .result .size) _ (search needs) (omega arith) (load .load .ensures .1)
+          (not-false _ (c .if2 .left))
+          (record {
+            few = omega arith;
+            slots = search needs;
+            all = search needs;
+            short = short-more (turn .files .sizes) (turn .i) (load .load .result .size) (named .short) (omega (arith, named .all)) short;
+          }),
     )
 
 same-length-5 : tie.Need-same-length-5 Inv-loop μ-loop
@@ -120,7 +140,7 @@ same-length-6 : tie.Need-same-length-6 Inv-loop μ-loop
 same-length-6 c = search needs
 
 returns-3 : tie.Need-returns-3 Inv-loop μ-loop
-returns-3 c = c .before .loop .inv .2
+returns-3 c = all-loaded (c .before .loop .inv .2) (λ few. omega arith)
 
 pub load-all-spec : {M : Type 1} → statement M
 load-all-spec =

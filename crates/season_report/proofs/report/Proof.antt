@@ -1,7 +1,11 @@
--- `season_report::report` is safe: as many sheets are loaded as are told of. Assumes nothing.
+-- `season_report::report` is safe: the sheets that are told of are those that were loaded. Assumes nothing.
+use Prim.Native.Nat.{_*_, _≤_}
 use native.Mathlib.Omega.{arith}
 use mathlib.Core.Path.{sym}
+use lib.ListN.{length}
 use lib.Seq.{length-take-le}
+use Rattle.ledger_sheet.specs.Sheet.{sheetSize}
+use Rattle.season_report.proofs.Sheets.{right-first}
 use borrow.Author.Needs.{needs}
 use Rattle.season_report.proofs.report.Statement.{statement}
 use Rattle.season_report.proofs.report.Tie as tie
@@ -29,13 +33,15 @@ array-share-prefix-sheets c = search needs
 
 slice-aggregate-tell-2 : tie.Need-slice-aggregate-tell-2
 slice-aggregate-tell-2 c =
-    let named = c .before .before .before .before .before .before .before .before .load-all .ensures in
-    sym (length-take-le _ _ (omega (arith, named .few)))
+    let loaded = c .before .before .before .before .before .before .before .before .load-all .ensures in
+    sym (length-take-le _ _ (omega (arith, loaded .0 .few)))
 
 tell-requires : tie.Need-tell-requires
 tell-requires c κs =
-    let named = c .before .before .before .before .before .before .before .before .load-all .ensures in
-    (named, length-take-le _ _ (omega (arith, named .few)))
+    let load = c .before .before .before .before .before .before .before .before .load-all in
+    let loaded = load .ensures in
+    let fits : sheetSize * load .result .files .count ≤ length (load .last .1 .0) = omega (arith, loaded .0 .few) in
+    (loaded .0, length-take-le _ _ fits, right-first (load .last .1 .0) (load .result .files .count) fits (λ j l. loaded .1 .each j l .is-right))
 
 returns-2 : tie.Need-returns-2
 returns-2 c = search needs

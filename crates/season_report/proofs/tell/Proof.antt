@@ -13,9 +13,7 @@ slice-aggregate-lay-out : tie.Need-slice-aggregate-lay-out
 slice-aggregate-lay-out c = search needs
 
 lay-out-requires : tie.Need-lay-out-requires
-lay-out-requires c κs =
-    let pre = c .before .before .before .before .pre in
-    record { room = omega arith; named = pre .0; whole = pre .1 }
+lay-out-requires c κs = search needs
 
 enum-known-told : tie.Need-enum-known-told
 enum-known-told c = search needs
@@ -41,11 +39,11 @@ slice-aggregate-fail c = search needs
 fail-requires : tie.Need-fail-requires
 fail-requires c κs = search needs
 
-enum-known-told-2 : tie.Need-enum-known-told-2
-enum-known-told-2 c = search needs
+enum-told : tie.Need-enum-told
+enum-told c = search needs
 
-tell-refusal-requires : tie.Need-tell-refusal-requires
-tell-refusal-requires c κs = search needs
+tell-twice-requires : tie.Need-tell-twice-requires
+tell-twice-requires c κs = search needs
 
 returns : tie.Need-returns
 returns c = search needs
@@ -69,8 +67,8 @@ tell-spec =
     write-all-requires
     slice-aggregate-fail
     fail-requires
-    enum-known-told-2
-    tell-refusal-requires
+    enum-told
+    tell-twice-requires
     returns
     returns-2
     returns-3)

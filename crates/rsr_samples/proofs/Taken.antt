@@ -1,0 +1,131 @@
+-- What becomes of a record, by what it is judged to be. Assumes nothing.
+use Prim.Native.Nat.{ℕ, _+_, _≤_}
+use native.Mathlib.Omega.{arith}
+use mathlib.Core.Bool.{Bool, true, false, cond}
+use mathlib.Core.List.{List, [], _∷_}
+use mathlib.Core.Path.{_≡_, refl, sym, ap, _∙_}
+use borrow.Author.Tests.{eqb-true, ne-eqb}
+use lib.Dec.{eqb}
+use lib.IntN.{ℤ}
+use lib.ListN.{length, getD, take}
+use lib.Seq.{length-take-le}
+use Rattle.refusals.proofs.Judged.{none-applies}
+use Rattle.refusals.proofs.Numerals.{zero-is-one}
+use Rattle.sfdu.specs.Read.{recordLength, readRules, accepts}
+use Rattle.sfdu.proofs.Accepted as record-of
+use Rattle.sfdu_rsr.specs.Record.{kindRules}
+use Rattle.sfdu_rsr.proofs.Rules.{none-of-both}
+use Rattle.sfdu_samples.specs.Calls.{unpacking}
+use Rattle.sfdu_samples.proofs.Judged.{unpacks}
+use Rattle.rsr_samples.specs.declared.input.Filled.{Filled}
+use Rattle.rsr_samples.specs.declared.judging.Stop.{Stop}
+use Rattle.rsr_samples.specs.declared.judging.Judged.{Judged}
+use Rattle.rsr_samples.specs.declared.judging.Judged.the-variants.{Samples, Stopped}
+use Rattle.rsr_samples.specs.declared.Step.{Step}
+use Rattle.rsr_samples.specs.declared.Step.the-variants as S
+use Rattle.rsr_samples.specs.Judging.{judgedBy, judging}
+use Rattle.rsr_samples.specs.Parts.{OfOne, Came, numbersOf, stepBy, stepOf, Takes}
+use Rattle.rsr_samples.specs.inner.Written.{Writes}
+use Rattle.rsr_samples.proofs.Numbers.{first-numbers}
+use Rattle.rsr_samples.proofs.Stops.{accepted-words}
+
+-- ---- an accepted record
+
+module _ (place : ℕ) (s : List ℕ) (old new : List ℤ) (n : ℕ) (e : (Samples n, new) ≡ judging place s old) where
+  sampled : unpacking s old .0 ≡ 0 ∷ n ∷ []
+  unfolding judging
+  sampled = by (eqb (getD (unpacking s old .0) 0 0) 0) refl
+    where
+      is : Samples n ≡ judgedBy place (unpacking s old .0)
+      is = ap (λ (p : Judged × List ℤ). p .0) e
+
+      by : (b : Bool) → eqb (getD (unpacking s old .0) 0 0) 0 ≡ b → unpacking s old .0 ≡ 0 ∷ n ∷ []
+      by true q =
+          let words = accepted-words s old (eqb-true _ _ q) in
+          let same : Samples n ≡ Samples (length (numbersOf s)) = is ∙ rw words in
+          cc
+      by false q = let other = rw q at is in zero-is-one (cc)
+
+  pub numbers : take n new ≡ numbersOf s
+  unfolding judging
+  numbers = ap (λ (p : Judged × List ℤ). take n (p .1)) e ∙ first-numbers s old n sampled
+
+  pub room : n ≤ length old
+  room = let u = unpacks s old n sampled in omega (arith, u .count, u .room)
+
+  -- all the bytes that were read are the record's
+  pub whole : (have : ℕ) → length s ≡ have → (20 ≤ have → have ≤ recordLength s) → have ≡ recordLength s
+  unfolding accepts
+  whole have l one =
+      let none = none-of-both (readRules s) (kindRules s) (unpacks s old n sampled .headers) .0 in
+      let a = record-of.accepted s (none-applies (readRules s) none) in
+      omega (arith, a .label, a .whole, one (omega (arith, a .label)))
+
+-- ---- the steps
+
+module _ (raw : Bool) (place : ℕ) (filled : Filled) (window : List ℕ) (old : List ℤ) (out : List ℕ) where
+  -- not gone past, nothing is said of calls
+  kept : (r : Step) → r ≡ stepOf true place filled window old → ((next : ℕ) → r ≡ S.Passed next → ⊥) → Takes raw place filled window old out r
+  kept r e never = record { written = true; step = e; came = λ next p. absurd (never next p) }
+
+  pub unread : filled .failed ≡ true → Takes raw place filled window old out S.Unread
+  unfolding stepOf
+  unread f = kept S.Unread (rw f) (λ next p. zero-is-one (cc))
+
+  module _ (f : filled .failed ≡ false) where
+    pub ended : filled .have ≡ 0 → Takes raw place filled window old out S.Ended
+    unfolding stepOf
+    ended z = kept S.Ended (rw (f, z)) (λ next p. zero-is-one (cc))
+
+    module _ (some : filled .have ≡ 0 → ⊥) where
+      pub stopped : (stop : Stop) (new : List ℤ) → (Stopped stop, new) ≡ judging place (take (filled .have) window) old
+          → Takes raw place filled window old out (S.Stopped stop)
+      unfolding stepOf
+      stopped stop new e =
+          kept (S.Stopped stop) (rw (f, ne-eqb (filled .have) 0 some, ← ap (λ (p : Judged × List ℤ). p .0) e)) (λ next p. zero-is-one (cc))
+
+      pub passed : (n : ℕ) (new : List ℤ) (r : Step) → OfOne window (filled .have) → (Samples n, new) ≡ judging place (take (filled .have) window) old
+          → Writes raw new n (place + filled .have) out r → Takes raw place filled window old out r
+      unfolding stepOf
+      passed n new r one e w =
+          record { written = w .written; step = w .step ∙ rw (f, ne-eqb (filled .have) 0 some, ← is, ← size); came = λ next p. came (w .written) refl p }
+        where
+          s : List ℕ
+          s = take (filled .have) window
+
+          is : Samples n ≡ judging place s old .0
+          is = ap (λ (p : Judged × List ℤ). p .0) e
+
+          size : filled .have ≡ recordLength s
+          size = whole place s old new n e (filled .have) (length-take-le _ _ (one .within)) (one .one)
+
+          came : (b : Bool) {next : ℕ} → w .written ≡ b → r ≡ S.Passed next → Came raw (numbersOf s) (length (numbersOf s)) out
+          came true q p = rw (← numbers place s old new n e) (w .came q)
+          came false q p = let step = rw q at (w .step) in zero-is-one (cc)
+
+-- ---- a record that is gone past was all that was read
+
+module _ (written : Bool) (place : ℕ) (s : List ℕ) (next : ℕ) where
+  abbrev Sampled : Judged → Type 0
+  Sampled j = (n : ℕ) × (j ≡ Samples n) × (next ≡ place + recordLength s)
+
+  sampled-by : (j : Judged) (b : Bool) → S.Passed next ≡ stepBy b place s j → Sampled j
+  sampled-by (Samples n) true e = (n, refl, cc)
+  sampled-by (Samples n) false e = zero-is-one (cc)
+  sampled-by (Stopped stop) b e = zero-is-one (cc)
+
+  sampled-of : (j : Judged) (failed none : Bool) → S.Passed next ≡ cond failed S.Unread (cond none S.Ended (stepBy written place s j)) → Sampled j
+  sampled-of j true none e = zero-is-one (cc)
+  sampled-of j false true e = zero-is-one (cc)
+  sampled-of j false false e = sampled-by j written e
+
+pub all-read : {raw : Bool} {place : ℕ} {filled : Filled} {window : List ℕ} {old : List ℤ} {out : List ℕ} {r : Step} {next : ℕ}
+    → Takes raw place filled window old out r → OfOne window (filled .have) → r ≡ S.Passed next → next ≡ place + filled .have
+unfolding stepOf
+all-read {raw} {place} {filled} {window} {old} {out} {r} {next} t one p =
+    let s = take (filled .have) window in
+    let j = judging place s old in
+    let past = sampled-of (t .written) place s next (j .0) (filled .failed) (eqb (filled .have) 0) (sym p ∙ t .step) in
+    let is : (Samples (past .0), j .1) ≡ j = ap (λ (x : Judged). (x, j .1)) (sym (past .1)) in
+    let size = whole place s old (j .1) (past .0) is (filled .have) (length-take-le _ _ (one .within)) (one .one) in
+    past .2 ∙ ap (λ (n : ℕ). place + n) (sym size)

@@ -1,0 +1,21 @@
+-- `rsr_samples::judging::is_count` meets its contract. Assumes nothing.
+use Rattle.sfdu.specs.Read.{isCount}
+use borrow.Author.Needs.{needs}
+use Rattle.rsr_samples.proofs.judging.is_count.Statement.{statement}
+use Rattle.rsr_samples.proofs.judging.is_count.Tie as tie
+
+number-requires : tie.Need-number-requires
+number-requires c κs = search needs
+
+number-requires-2 : tie.Need-number-requires-2
+number-requires-2 c κs = search needs
+
+number-requires-3 : tie.Need-number-requires-3
+number-requires-3 c κs = search needs
+
+returns : tie.Need-returns
+unfolding isCount
+returns c = rw (c .before .before .number .ensures, c .before .number2 .ensures, c .number3 .ensures)
+
+pub is-count-spec : {M : Type 1} → statement M
+is-count-spec = tie.close (tie.spec number-requires number-requires-2 number-requires-3 returns)
