@@ -1,11 +1,11 @@
 -- Bytes read behind others, and the bytes of one record. Assumes nothing.
-use Prim.Native.Nat.{ℕ, zero, suc, _+_, _≤_, _<_}
+use Prim.Native.Nat.{ℕ, zero, suc, _+_, _-_, _≤_, _<_}
 use native.Mathlib.Omega.{arith}
 use mathlib.Core.Bool.{Bool, true, false}
 use mathlib.Core.List.{List}
 use mathlib.Core.Path.{_≡_, refl, sym, ap, _∙_}
-use borrow.Author.Tests.{le-leb, lt-leb, leb-true, leb-false}
-use lib.Dec.{leb}
+use borrow.Author.Tests.{ltb-true, ltb-false, lt-ltb, le-ltb, le-leb, lt-leb, leb-true, leb-false}
+use lib.Dec.{ltb, leb}
 use lib.ListN.{length, take}
 use lib.Seq.{take-take, getD-take}
 use Rattle.octets.specs.Octets.{numberAt}
@@ -31,6 +31,18 @@ module _ (s : List ℕ) where
 
   pub wanted-whole : recordLength s < windowSize → wantedOf s ≡ recordLength s
   wanted-whole h = rw (lt-leb windowSize (recordLength s) h)
+
+  -- a label that says more bytes than the window has, or not
+  pub long-label : (after : ℕ) → recordLength s ≡ labelSize + after → ltb (windowSize - labelSize) after ≡ ltb windowSize (recordLength s)
+  long-label after e = by (ltb (windowSize - labelSize) after) refl
+    where
+      by : (b : Bool) → ltb (windowSize - labelSize) after ≡ b → ltb (windowSize - labelSize) after ≡ ltb windowSize (recordLength s)
+      by true t =
+          let more = ltb-true (windowSize - labelSize) after t in
+          t ∙ sym (lt-ltb windowSize (recordLength s) (omega arith))
+      by false t =
+          let less = ltb-false (windowSize - labelSize) after t in
+          t ∙ sym (le-ltb windowSize (recordLength s) (omega arith))
 
   pub record Wanted : Type 0 where
     pub least : labelSize ≤ wantedOf s

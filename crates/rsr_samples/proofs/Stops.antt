@@ -1,5 +1,5 @@
 -- Why a stream stops at a record, by unpack's answer. Assumes nothing.
-use Prim.Native.Nat.{ℕ, _+_, _≤_}
+use Prim.Native.Nat.{ℕ, _≤_}
 use native.Mathlib.Omega.{arith}
 use mathlib.Core.Bool.{Bool, true, false, _&&_}
 use mathlib.Core.List.{List, [], _∷_, _++_}
@@ -9,7 +9,7 @@ use borrow.Author.Tests.{ne-eqb, leb-true}
 use lib.Dec.{leb}
 use lib.IntN.{ℤ}
 use lib.ListN.{length, getD}
-use Rattle.octets.proofs.Laws.{and-split, and-false}
+use Rattle.octets.proofs.Laws.{and-split}
 use Rattle.refusals.specs.Judge.{Rule, _when_}
 use Rattle.refusals.specs.Table.{numberOf}
 use Rattle.refusals.specs.declared.Refusal.{Refusal}
@@ -31,27 +31,28 @@ use Rattle.rsr_samples.specs.Parts.{numbersOf}
 
 -- ---- an answer judged
 
-pub judged-as : (place : ℕ) (s : List ℕ) (old new : List ℤ) (a : Answer) (j : Judged) → (wordsOf a, new) ≡ unpacking s old → j ≡ judgedBy place (wordsOf a)
-    → (j, new) ≡ judging place s old
+pub judged-as : (place : ℕ) (s : List ℕ) (old new : List ℤ) (a : Answer) (j : Judged) → (wordsOf a, new) ≡ unpacking s old
+    → j ≡ judgedBy place s (wordsOf a) → (j, new) ≡ judging place s old
 unfolding judging
-judged-as place s old new a j e is = rw is (ap (λ (p : List ℕ × List ℤ). (judgedBy place (p .0), p .1)) e)
+judged-as place s old new a j e is = rw is (ap (λ (p : List ℕ × List ℤ). (judgedBy place s (p .0), p .1)) e)
 
 pub words : {p : List ℕ × List ℤ} {new : List ℤ} {a b : Answer} → a ≡ b → (wordsOf a, new) ≡ p → p .0 ≡ wordsOf b
 words {p} {new} {a} {b} is e = sym (ap (λ (p : List ℕ × List ℤ). p .0) e) ∙ ap wordsOf is
 
-pub count-judged : (place n : ℕ) → Samples n ≡ judgedBy place (0 ∷ n ∷ [])
-count-judged place n = refl
+pub count-judged : (place : ℕ) (s : List ℕ) (n : ℕ) → Samples n ≡ judgedBy place s (0 ∷ n ∷ [])
+count-judged place s n = refl
 
-pub fault-judged : (place : ℕ) (f : Fault) → Stopped (stopOf place (faultWords f)) ≡ judgedBy place (faultWords f)
-fault-judged place f = rw (ne-eqb (numberOf (f .refusal)) 0 (number-positive (f .refusal)))
+pub fault-judged : (place : ℕ) (s : List ℕ) (f : Fault) → Stopped (stopOf place s (faultWords f)) ≡ judgedBy place s (faultWords f)
+fault-judged place s f = rw (ne-eqb (numberOf (f .refusal)) 0 (number-positive (f .refusal)))
 
-pub refusal-judged : (place : ℕ) (r : Refusal) → Stopped (record { number = numberOf r; beside = 0 }) ≡ judgedBy place (only (numberOf r))
+pub refusal-judged : (place : ℕ) (s : List ℕ) (r : Refusal)
+    → Stopped (record { number = numberOf r; beside = 0 }) ≡ judgedBy place s (only (numberOf r))
 unfolding stopOf inStream
-refusal-judged place r = rw (ne-eqb (numberOf r) 0 (number-positive r), and-false)
+refusal-judged place s r = rw (ne-eqb (numberOf r) 0 (number-positive r))
 
-pub over-stop : (place : ℕ) (f : Fault) → isOver (faultWords f) ≡ true → record { number = 17; beside = 0 } ≡ stopOf place (faultWords f)
+pub over-stop : (place : ℕ) (s : List ℕ) (f : Fault) → isOver s (faultWords f) ≡ true → record { number = 17; beside = 0 } ≡ stopOf place s (faultWords f)
 unfolding stopOf
-over-stop place f over = rw over
+over-stop place s f over = rw over
 
 -- ---- what unpack's rules give
 

@@ -1,7 +1,7 @@
 -- What becomes of a record, by what it is judged to be. Assumes nothing.
 use Prim.Native.Nat.{ℕ, _+_, _≤_}
 use native.Mathlib.Omega.{arith}
-use mathlib.Core.Bool.{Bool, true, false, cond}
+use mathlib.Core.Bool.{Bool, true, false, cond, false≢true}
 use mathlib.Core.List.{List, [], _∷_}
 use mathlib.Core.Path.{_≡_, refl, sym, ap, _∙_}
 use borrow.Author.Tests.{eqb-true, ne-eqb}
@@ -10,7 +10,6 @@ use lib.IntN.{ℤ}
 use lib.ListN.{length, getD, take}
 use lib.Seq.{length-take-le}
 use Rattle.refusals.proofs.Judged.{none-applies}
-use Rattle.refusals.proofs.Numerals.{zero-is-one}
 use Rattle.sfdu.specs.Read.{recordLength, readRules, accepts}
 use Rattle.sfdu.proofs.Accepted as record-of
 use Rattle.sfdu_rsr.specs.Record.{kindRules}
@@ -36,7 +35,7 @@ module _ (place : ℕ) (s : List ℕ) (old new : List ℤ) (n : ℕ) (e : (Sampl
   unfolding judging
   sampled = by (eqb (getD (unpacking s old .0) 0 0) 0) refl
     where
-      is : Samples n ≡ judgedBy place (unpacking s old .0)
+      is : Samples n ≡ judgedBy place s (unpacking s old .0)
       is = ap (λ (p : Judged × List ℤ). p .0) e
 
       by : (b : Bool) → eqb (getD (unpacking s old .0) 0 0) 0 ≡ b → unpacking s old .0 ≡ 0 ∷ n ∷ []
@@ -44,7 +43,7 @@ module _ (place : ℕ) (s : List ℕ) (old new : List ℤ) (n : ℕ) (e : (Sampl
           let words = accepted-words s old (eqb-true _ _ q) in
           let same : Samples n ≡ Samples (length (numbersOf s)) = is ∙ rw words in
           cc
-      by false q = let other = rw q at is in zero-is-one (cc)
+      by false q = let other = rw q at is in absurd (false≢true cc)
 
   pub numbers : take n new ≡ numbersOf s
   unfolding judging
@@ -70,19 +69,19 @@ module _ (raw : Bool) (place : ℕ) (filled : Filled) (window : List ℕ) (old :
 
   pub unread : filled .failed ≡ true → Takes raw place filled window old out S.Unread
   unfolding stepOf
-  unread f = kept S.Unread (rw f) (λ next p. zero-is-one (cc))
+  unread f = kept S.Unread (rw f) (λ next p. absurd (false≢true cc))
 
   module _ (f : filled .failed ≡ false) where
     pub ended : filled .have ≡ 0 → Takes raw place filled window old out S.Ended
     unfolding stepOf
-    ended z = kept S.Ended (rw (f, z)) (λ next p. zero-is-one (cc))
+    ended z = kept S.Ended (rw (f, z)) (λ next p. absurd (false≢true cc))
 
     module _ (some : filled .have ≡ 0 → ⊥) where
       pub stopped : (stop : Stop) (new : List ℤ) → (Stopped stop, new) ≡ judging place (take (filled .have) window) old
           → Takes raw place filled window old out (S.Stopped stop)
       unfolding stepOf
       stopped stop new e =
-          kept (S.Stopped stop) (rw (f, ne-eqb (filled .have) 0 some, ← ap (λ (p : Judged × List ℤ). p .0) e)) (λ next p. zero-is-one (cc))
+          kept (S.Stopped stop) (rw (f, ne-eqb (filled .have) 0 some, ← ap (λ (p : Judged × List ℤ). p .0) e)) (λ next p. absurd (false≢true cc))
 
       pub passed : (n : ℕ) (new : List ℤ) (r : Step) → OfOne window (filled .have) → (Samples n, new) ≡ judging place (take (filled .have) window) old
           → Writes raw new n (place + filled .have) out r → Takes raw place filled window old out r
@@ -101,7 +100,7 @@ module _ (raw : Bool) (place : ℕ) (filled : Filled) (window : List ℕ) (old :
 
           came : (b : Bool) {next : ℕ} → w .written ≡ b → r ≡ S.Passed next → Came raw (numbersOf s) (length (numbersOf s)) out
           came true q p = rw (← numbers place s old new n e) (w .came q)
-          came false q p = let step = rw q at (w .step) in zero-is-one (cc)
+          came false q p = let step = rw q at (w .step) in absurd (false≢true cc)
 
 -- ---- a record that is gone past was all that was read
 
@@ -111,12 +110,12 @@ module _ (written : Bool) (place : ℕ) (s : List ℕ) (next : ℕ) where
 
   sampled-by : (j : Judged) (b : Bool) → S.Passed next ≡ stepBy b place s j → Sampled j
   sampled-by (Samples n) true e = (n, refl, cc)
-  sampled-by (Samples n) false e = zero-is-one (cc)
-  sampled-by (Stopped stop) b e = zero-is-one (cc)
+  sampled-by (Samples n) false e = absurd (false≢true cc)
+  sampled-by (Stopped stop) b e = absurd (false≢true cc)
 
   sampled-of : (j : Judged) (failed none : Bool) → S.Passed next ≡ cond failed S.Unread (cond none S.Ended (stepBy written place s j)) → Sampled j
-  sampled-of j true none e = zero-is-one (cc)
-  sampled-of j false true e = zero-is-one (cc)
+  sampled-of j true none e = absurd (false≢true cc)
+  sampled-of j false true e = absurd (false≢true cc)
   sampled-of j false false e = sampled-by j written e
 
 pub all-read : {raw : Bool} {place : ℕ} {filled : Filled} {window : List ℕ} {old : List ℤ} {out : List ℕ} {r : Step} {next : ℕ}

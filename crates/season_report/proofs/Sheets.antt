@@ -12,7 +12,6 @@ use lib.Seq.{length-take-le, take-length, drop-length, getD-set-same, getD-set-o
 use Rattle.octets.proofs.Laws.{all-each}
 use Rattle.octets.proofs.Parts.{part-first, part-seam}
 use Rattle.refusals.specs.Judge.{_when_, judge}
-use Rattle.refusals.proofs.Numerals.{zero-is-one}
 use Rattle.ledger_sheet.specs.Sheet.{sheetSize, right}
 use Rattle.ledger_sheet.specs.Outcome.{Outcome}
 use Rattle.ledger_layout.specs.Layout.{layout}
@@ -55,8 +54,8 @@ module _ (file slot : List ℕ) where
     where
       by : (a b : Bool) → Old.right file ≡ b → Right (asConverted (cond (a && b) (0 ∷ [], layout (oldBookOf file)) (20 ∷ [], slot)))
       by true true r e = layout-right (oldBookOf file) (book-fine file r)
-      by true false r e = zero-is-one (cc)
-      by false b r e = zero-is-one (cc)
+      by true false r e = absurd (false≢true cc)
+      by false b r e = absurd (false≢true cc)
 
   standing-right : Right (asItStands file slot)
   unfolding Right
@@ -64,7 +63,7 @@ module _ (file slot : List ℕ) where
     where
       by : (b : Bool) → Right (cond b (record { «is_sheet» = right file; converted = false }, file) (noSheet, slot))
       by true e = e
-      by false e = zero-is-one (cc)
+      by false e = absurd (false≢true cc)
 
   -- what is found to be a sheet is right
   pub placed-right : {found : Found} {new : List ℕ} → (found, new) ≡ placing file slot → found .«is_sheet» ≡ true → right new ≡ true

@@ -36,7 +36,7 @@ returns c =
     let told = c .before .answer .given in
     let asked = c .before .before .before .before in
     let given = asked .before .before .before .args in
-    let is = count-judged (given .place) (told .0 .0) in
+    let is = count-judged (given .place) (given .s .now) (told .0 .0) in
     judged-as _ _ _ _ (asked .unpack .result) _ (asked .unpack .ensures) (rw (told .1) is)
 
 same-length-2 : tie.Need-same-length-2
@@ -47,7 +47,7 @@ returns-2 c =
     let told = c .before .before .answer2 .given in
     let asked = c .before .before .before .before .before in
     let given = asked .before .before .before .args in
-    let is = fault-judged (given .place) (told .0 .0) in
+    let is = fault-judged (given .place) (given .s .now) (told .0 .0) in
     judged-as _ _ _ _ (asked .unpack .result) _ (asked .unpack .ensures) (rw (told .1, c .stop-in .ensures) is)
 
 same-length-3 : tie.Need-same-length-3
@@ -58,7 +58,7 @@ returns-3 c =
     let told = c .before .before .answer3 .given in
     let asked = c .before .before .before .before .before in
     let given = asked .before .before .before .args in
-    let is = refusal-judged (given .place) (told .0 .0) in
+    let is = refusal-judged (given .place) (given .s .now) (told .0 .0) in
     judged-as _ _ _ _ (asked .unpack .result) _ (asked .unpack .ensures) (rw (told .1, c .number .ensures) is)
 
 pub judge-spec : {M : Type 1} → statement M

@@ -16,9 +16,9 @@ number-requires c κs = search needs
 returns : tie.Need-returns
 returns c =
     let asked = c .before .before in
-    let given = asked .before .args in
+    let given = asked .before .before .args in
     let over = sym (asked .is-over .ensures) ∙ c .before .if1 .taken in
-    rw (c .number .ensures) (over-stop (given .place) (given .fault) over)
+    rw (c .number .ensures) (over-stop (given .place) (given .s .now) (given .fault) over)
 
 is-count-requires : tie.Need-is-count-requires
 is-count-requires c κs = search needs
@@ -37,8 +37,8 @@ returns-2 c =
 number-requires-3 : tie.Need-number-requires-3
 number-requires-3 c κs = search needs
 
-add-t13 : tie.Need-add-t13
-add-t13 c = search needs
+add-t14 : tie.Need-add-t14
+add-t14 c = search needs
 
 returns-3 : tie.Need-returns-3
 unfolding stopOf inStream
@@ -59,5 +59,5 @@ stop-in-spec =
     number-requires-2
     returns-2
     number-requires-3
-    add-t13
+    add-t14
     returns-3)
