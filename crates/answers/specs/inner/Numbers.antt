@@ -10,11 +10,12 @@ use Rattle.idr.specs.declared.Read.{Read}
 use Rattle.idr.specs.Read.{wordsOf}
 use Rattle.answers.specs.Numbers.{numberCount, allOnes, numbersOf}
 
--- The numbers of a medium band record stand in a line of a call script, whose form is fixed and has no tape type: a record's words without
--- that one, which is behind the 0 and two flags.
+-- Words without the one at place k.
 abbrev pub without : ℕ → List ℕ → List ℕ
 without k words = take k words ++ drop (k + 1) words
 
+-- The numbers of a medium band record stand in a line of a call script, whose form is fixed and has no tape type: a record's words without
+-- that one, which is behind the 0 and two flags.
 abbrev pub lineWords : Read → List ℕ
 lineWords found = without 3 (wordsOf found)
 
