@@ -135,7 +135,8 @@ fn tape_number(answer: Result<Idr, u32>) -> u64 {
         ^ f.overflow
         ^ f.pps_out_of_sync
         ^ f.bit_slip;
-    let bytes = f.tape_number
+    let bytes = f.tape_type
+        ^ f.tape_number
         ^ f.spacecraft
         ^ f.station
         ^ f.time.hour

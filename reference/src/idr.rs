@@ -56,6 +56,8 @@ pub struct Fields {
     // Words 1 to 5.
     pub first_of_run: bool,
     pub source_error: bool,
+    /// 0 for a medium band reduction tape.
+    pub tape_type: u8,
     pub tape_number: u8,
     pub record_number: u16,
     pub spacecraft: u8,
@@ -169,6 +171,7 @@ impl<'a> Header<'a> {
         Ok(Some(Fields {
             first_of_run: self.bit(1, 2),
             source_error: self.bit(1, 3),
+            tape_type: self.bits(1, 5, 8) as u8,
             tape_number: self.bits(1, 9, 16) as u8,
             record_number: self.word(2),
             spacecraft: self.bits(4, 1, 8) as u8,

@@ -1,13 +1,14 @@
-// The numbers of what reading a medium band record finds: more than an exported answer has.
+// The numbers of what reading a medium band record finds, as a line of a call script has them: more than an exported answer has, and without
+// the tape type, for which that line has no place.
 use crate::NONE;
 use crate::places;
 ghost use mathlib.Core.Path.{_≡_};
 ghost use mathlib.Core.List.{[], _∷_};
 ghost use lib.Seq.{sets};
 ghost use Rattle.idr.specs.declared.Read.the-variants.{Untagged};
-ghost use Rattle.idr.specs.Read.{wordsOf, originWords, timeWords, recorderWords, reductionWords, statusWords};
+ghost use Rattle.idr.specs.Read.{originWords, timeWords, recorderWords, reductionWords, statusWords};
 ghost use Rattle.answers.specs.Numbers.{numbersIn, withNone};
-ghost use Rattle.answers.specs.inner.Numbers.{tapeCount, countNumber};
+ghost use Rattle.answers.specs.inner.Numbers.{without, lineWords, tapeCount, countNumber};
 
 // How many numbers they are.
 pub const FIELDS: usize = 34;
@@ -80,7 +81,7 @@ pub const COUNTER: usize = 32;
 pub const COUNT: usize = 33;
 
 pub fn record(found: idr::Read) -> [u64; FIELDS]
-    ensures { λ r. ⌜ r ≡ numbersIn tapeCount (withNone tapeCount (wordsOf found)) ⌝ }
+    ensures { λ r. ⌜ r ≡ numbersIn tapeCount (withNone tapeCount (lineWords found)) ⌝ }
 {
     match found {
         idr::Read::Tagged {
@@ -106,7 +107,7 @@ pub fn record(found: idr::Read) -> [u64; FIELDS]
 
 // No field is given.
 fn untagged() -> [u64; FIELDS]
-    ensures { λ r. ⌜ r ≡ numbersIn tapeCount (withNone tapeCount (wordsOf Untagged)) ⌝ }
+    ensures { λ r. ⌜ r ≡ numbersIn tapeCount (withNone tapeCount (lineWords Untagged)) ⌝ }
 {
     let mut numbers = [NONE; FIELDS];
     numbers[places::REFUSAL] = 0;
@@ -114,7 +115,7 @@ fn untagged() -> [u64; FIELDS]
 }
 
 fn with_origin(begun: [u64; FIELDS], origin: idr::Origin) -> [u64; FIELDS]
-    ensures { λ r. ⌜ r ≡ sets begun 1 (originWords origin) ⌝ }
+    ensures { λ r. ⌜ r ≡ sets begun 1 (without 2 (originWords origin)) ⌝ }
 {
     let mut numbers = begun;
     numbers[FIRST] = origin.first as u64;

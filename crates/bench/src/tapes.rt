@@ -46,7 +46,7 @@ fn origin_onto(f: idr::Origin, rest: u64) -> u64
     ensures { λ r. ⌜ r ≡ onto (map number (originWords f)) rest ⌝ }
 {
     let last = f.spacecraft as u64 ^ (f.station as u64 ^ (f.dra_tape as u64 ^ rest));
-    let middle = f.tape as u64 ^ (f.number as u64 ^ last);
+    let middle = f.tape_type as u64 ^ (f.tape as u64 ^ (f.number as u64 ^ last));
     f.first as u64 ^ (f.source_error as u64 ^ middle)
 }
 

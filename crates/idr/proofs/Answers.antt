@@ -27,11 +27,12 @@ same-origin : (f g : Origin) → originWords f ≡ originWords g → f ≡ g
 same-origin f g e = λ i. record {
   first = word 0 e i;
   «source_error» = word 1 e i;
-  tape = word 2 e i;
-  number = word 3 e i;
-  spacecraft = word 4 e i;
-  station = word 5 e i;
-  «dra_tape» = word 6 e i;
+  «tape_type» = word 2 e i;
+  tape = word 3 e i;
+  number = word 4 e i;
+  spacecraft = word 5 e i;
+  station = word 6 e i;
+  «dra_tape» = word 7 e i;
 }
 
 same-time : (f g : Time) → timeWords f ≡ timeWords g → f ≡ g
@@ -77,12 +78,12 @@ same-count Unknown Unknown e = refl
 
 pub same-read : DifferentReads
 same-read (Tagged o t p r q n) (Tagged o′ t′ p′ r′ q′ n′) e =
-    let origin = same-origin o o′ (group 1 7 e) in
-    let time = same-time t t′ (group 8 5 e) in
-    let recorder = same-recorder p p′ (group 13 6 e) in
-    let reduction = same-reduction r r′ (group 19 8 e) in
-    let status = same-status q q′ (group 27 6 e) in
-    let count = same-count n n′ (ap (drop 33) e) in
+    let origin = same-origin o o′ (group 1 8 e) in
+    let time = same-time t t′ (group 9 5 e) in
+    let recorder = same-recorder p p′ (group 14 6 e) in
+    let reduction = same-reduction r r′ (group 20 8 e) in
+    let status = same-status q q′ (group 28 6 e) in
+    let count = same-count n n′ (ap (drop 34) e) in
     λ i. Tagged (origin i) (time i) (recorder i) (reduction i) (status i) (count i)
 same-read (Tagged o t p r q n) Untagged e = cc
 same-read (Tagged o t p r q n) (Refused s) e = absurd (number-positive s (sym (word 0 e)))

@@ -26,7 +26,7 @@ use Rattle.idr.specs.Rules.{wordRules}
 
 abbrev pub originWords : Origin → List ℕ
 originWords f =
-    f .first ∷ f .«source_error» ∷ f .tape ∷ f .number ∷ f .spacecraft ∷ f .station ∷ f .«dra_tape» ∷ []
+    f .first ∷ f .«source_error» ∷ f .«tape_type» ∷ f .tape ∷ f .number ∷ f .spacecraft ∷ f .station ∷ f .«dra_tape» ∷ []
 
 abbrev pub timeWords : Time → List ℕ
 timeWords f = f .day ∷ f .hour ∷ f .minute ∷ f .second ∷ f .micros ∷ []

@@ -127,6 +127,7 @@ fn origin_of(w: &[u16]) -> idr::Origin
     idr::Origin {
         first: words::field(w, 1, 2, 2),
         source_error: words::field(w, 1, 3, 3),
+        tape_type: words::field(w, 1, 5, 8),
         tape: words::field(w, 1, 9, 16),
         number: w[1],
         spacecraft: words::field(w, 4, 1, 8),

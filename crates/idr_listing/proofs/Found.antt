@@ -62,19 +62,19 @@ module _ (s : List ℕ) (place : ℕ) (o : Origin) (t : Time) (p : Recorder) (r 
   time-is : timeText (t .day) (t .hour) (t .minute) (t .second) (t .micros)
       ≡ timeText (day (header s)) (hour (header s)) (minute (header s)) (second (header s)) (micros (header s))
   time-is =
-      let d : t .day ≡ day (header s) = field-is 8 in
-      let h : t .hour ≡ hour (header s) = field-is 9 in
-      let m : t .minute ≡ minute (header s) = field-is 10 in
-      let c : t .second ≡ second (header s) = field-is 11 in
-      let u : t .micros ≡ micros (header s) = field-is 12 in
+      let d : t .day ≡ day (header s) = field-is 9 in
+      let h : t .hour ≡ hour (header s) = field-is 10 in
+      let m : t .minute ≡ minute (header s) = field-is 11 in
+      let c : t .second ≡ second (header s) = field-is 12 in
+      let u : t .micros ≡ micros (header s) = field-is 13 in
       rw (d, h, m, c, u)
 
   reduction-is : reductionText (r .playback) (r .sampling) (r .decimation)
       ≡ reductionText (playback (header s)) (sampling (header s)) (decimationOf (fieldOf (header s) 12 2 4))
   reduction-is =
-      let b : r .playback ≡ playback (header s) = field-is 19 in
-      let a : r .sampling ≡ sampling (header s) = field-is 20 in
-      let x : r .decimation ≡ decimationOf (fieldOf (header s) 12 2 4) = field-is 22 in
+      let b : r .playback ≡ playback (header s) = field-is 20 in
+      let a : r .sampling ≡ sampling (header s) = field-is 21 in
+      let x : r .decimation ≡ decimationOf (fieldOf (header s) 12 2 4) = field-is 23 in
       rw (b, a, x)
 
   pub tagged-says : Says s place true

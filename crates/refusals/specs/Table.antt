@@ -1,4 +1,4 @@
--- Document 01, "Refusal numbers": the number of each row, in the table's order; then the rows that document 02 adds. Assumes nothing.
+-- Document 01, "Refusal numbers": the number of each row, in the table's order, with document 02's rows where it puts them. Assumes nothing.
 -- The manual, docs/INTERFACE.md: "The refusal table".
 use Prim.Native.Nat.{ℕ}
 use Rattle.refusals.specs.declared.Refusal.{Refusal}

@@ -75,7 +75,7 @@ pub(crate) fn fields(s: &[u8], size: usize, primary: Primary) -> Headers
     }
 }
 
-// The band's offset where it means something and is no band, else 0.
+// The band's offset where it means something and is no band, else that all is right.
 fn band_fault(s: &[u8]) -> Checked
     requires { ⌜ dataValueAt Telemetry ≤ length (now s) ⌝ }
     ensures { λ r. ⌜ r ≡ fault Telemetry (now (s .entry)) ⌝ }

@@ -40,6 +40,15 @@ fn block_sizes() {
     assert_eq!(block_size(8_388_607), Err(54));
 }
 
+/// Word 1 bits 5 to 8: read and not judged.
+#[test]
+fn tape_types() {
+    for (word, tape_type, tape_number) in [(0x8F01, 15, 1), (0x8000, 0, 0), (0xF0FF, 0, 255), (0x8801, 8, 1)] {
+        let found = fields(&[(1, word)]).unwrap().unwrap();
+        assert_eq!((found.tape_type, found.tape_number), (tape_type, tape_number));
+    }
+}
+
 #[test]
 fn rates() {
     // As words 10 and 11 list them, speed by speed.
@@ -135,9 +144,10 @@ fn fields_are_cut_out_of_the_bits() {
             without += 1;
             continue;
         };
-        let found: [u64; 31] = [
+        let found: [u64; 32] = [
             f.first_of_run.into(),
             f.source_error.into(),
+            f.tape_type.into(),
             f.tape_number.into(),
             f.record_number.into(),
             f.spacecraft.into(),
@@ -172,6 +182,7 @@ fn fields_are_cut_out_of_the_bits() {
         let expected = [
             s.bits(1, 2, 2),
             s.bits(1, 3, 3),
+            s.bits(1, 5, 8),
             s.bits(1, 9, 16),
             s.bits(2, 1, 16),
             s.bits(4, 1, 8),

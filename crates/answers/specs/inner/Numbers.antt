@@ -1,14 +1,25 @@
 -- The numbers of an answer as the inner functions hand them on, and those of a medium band record. Assumes nothing.
-use Prim.Native.Nat.{ℕ, _-_, _^_, _<_}
+use Prim.Native.Nat.{ℕ, _+_, _-_, _^_, _<_}
 use mathlib.Core.List.{List, _++_}
 use mathlib.Core.Path.{_≡_}
-use lib.ListN.{getD, replicate}
+use lib.ListN.{getD, replicate, take, drop}
 use Rattle.sfdu_headers.specs.Words.{Word}
 use Rattle.idr.specs.declared.Count.{Count}
 use Rattle.idr.specs.declared.Count.the-variants.{Samples, Unknown}
+use Rattle.idr.specs.declared.Read.{Read}
+use Rattle.idr.specs.Read.{wordsOf}
 use Rattle.answers.specs.Numbers.{numberCount, allOnes, numbersOf}
 
--- How many numbers a medium band record's fields have with the 0 before them. Where its time tag is not valid each of them is a none.
+-- Words without the one at place k.
+abbrev pub without : ℕ → List ℕ → List ℕ
+without k words = take k words ++ drop (k + 1) words
+
+-- The numbers of a medium band record stand in a line of a call script, whose form is fixed and has no tape type: a record's words without
+-- that one, which is behind the 0 and two flags.
+abbrev pub lineWords : Read → List ℕ
+lineWords found = without 3 (wordsOf found)
+
+-- How many numbers a medium band record's fields have in that line with the 0 before them. Where its time tag is not valid each of them is a none.
 abbrev pub tapeCount : ℕ
 tapeCount = 34
 

@@ -1,9 +1,8 @@
 -- `answers::tapes::record` meets its contract. Assumes nothing.
 use mathlib.Core.Path.{sym, ap, _∙_}
 use Rattle.idr.specs.declared.Read.{Read}
-use Rattle.idr.specs.Read.{wordsOf}
 use Rattle.answers.specs.Numbers.{numbersIn, withNone}
-use Rattle.answers.specs.inner.Numbers.{tapeCount}
+use Rattle.answers.specs.inner.Numbers.{lineWords, tapeCount}
 use Rattle.answers.proofs.Recorded.{tagged-numbers, refused-numbers}
 use borrow.Author.Needs.{needs}
 use Rattle.answers.proofs.tapes.record.Statement.{statement}
@@ -56,17 +55,17 @@ returns c =
     let reduced = c .before .before in
     rw (c .with-count .ensures, c .before .with-status .ensures, reduced .with-reduction .ensures)
     (rw (recorded .with-recorder .ensures, recorded .before .with-time .ensures, started .with-origin .ensures)
-    (tagged-numbers _ _ _ _ _ (read .0 .1 .1 .1 .1 .1 .0) ∙ sym (ap (λ (x : Read). numbersIn tapeCount (withNone tapeCount (wordsOf x))) (read .1))))
+    (tagged-numbers (read .0 .0) _ _ _ _ (read .0 .1 .1 .1 .1 .1 .0) ∙ sym (ap (λ (x : Read). numbersIn tapeCount (withNone tapeCount (lineWords x))) (read .1))))
 
 returns-2 : tie.Need-returns-2
 returns-2 c =
     let read = c .before .enum-told .given in
-    c .untagged .ensures ∙ sym (ap (λ (x : Read). numbersIn tapeCount (withNone tapeCount (wordsOf x))) (read .1))
+    c .untagged .ensures ∙ sym (ap (λ (x : Read). numbersIn tapeCount (withNone tapeCount (lineWords x))) (read .1))
 
 returns-3 : tie.Need-returns-3
 returns-3 c =
     let read = c .before .before .found2 .given in
-    rw (c .number .ensures) (refused-numbers (read .0 .0) ∙ sym (ap (λ (x : Read). numbersIn tapeCount (withNone tapeCount (wordsOf x))) (read .1)))
+    rw (c .number .ensures) (refused-numbers (read .0 .0) ∙ sym (ap (λ (x : Read). numbersIn tapeCount (withNone tapeCount (lineWords x))) (read .1)))
 
 pub record-spec : {M : Type 1} → statement M
 record-spec =
