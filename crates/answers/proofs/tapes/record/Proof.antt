@@ -55,7 +55,8 @@ returns c =
     let reduced = c .before .before in
     rw (c .with-count .ensures, c .before .with-status .ensures, reduced .with-reduction .ensures)
     (rw (recorded .with-recorder .ensures, recorded .before .with-time .ensures, started .with-origin .ensures)
-    (tagged-numbers (read .0 .0) _ _ _ _ (read .0 .1 .1 .1 .1 .1 .0) ∙ sym (ap (λ (x : Read). numbersIn tapeCount (withNone tapeCount (lineWords x))) (read .1))))
+    (tagged-numbers (read .0 .0) _ _ _ _ (read .0 .1 .1 .1 .1 .1 .0)
+    ∙ sym (ap (λ (x : Read). numbersIn tapeCount (withNone tapeCount (lineWords x))) (read .1))))
 
 returns-2 : tie.Need-returns-2
 returns-2 c =
