@@ -10,7 +10,7 @@ use Rattle.ledger_model.specs.Step.{Call, Answer, Entry}
 use Rattle.ledger_model.specs.Chain.{Chain, stop, next}
 use Rattle.ledger_sheet.specs.Sheet.{sheetSize}
 use Rattle.ledger_sheet.specs.Outcome.{Outcome}
-use Rattle.ledger_changes.specs.Bytes.{freshSheet}
+use Rattle.ledger_layout.specs.Bytes.{freshSheet}
 use Rattle.ledger_layout.specs.Layout.{layout, freshOn}
 use Rattle.ledger_layout.specs.inner.Demand3 as Layout
 use Rattle.ledger_layout.proofs.Demand3.{answer-meets, row-answer-meets, report-answer-meets, gap-answer-meets, demand3}

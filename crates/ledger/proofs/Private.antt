@@ -19,7 +19,7 @@ use Rattle.ledger_model.specs.Private.{Alike}
 use Rattle.ledger_model.proofs.WellFormed.{run-well-formed}
 use Rattle.ledger_model.proofs.Private.{model-private}
 use Rattle.ledger_sheet.specs.Sheet.{workedAt, deskSize, deskCount, deskAt}
-use Rattle.ledger_changes.specs.Bytes.{headerBytes, openDesk}
+use Rattle.ledger_layout.specs.Bytes.{headerBytes, openDesk}
 use Rattle.ledger_layout.specs.Layout.{placeBytes, deskBytes, countUsed, layout}
 use Rattle.octets.specs.Lists.{laid}
 use Rattle.ledger_layout.specs.Demand3.{headerAndRows}

@@ -1,47 +1,63 @@
 -- A row starts blank: the one that `enrol` answers reads back, by its contract, as the value with the
 -- key, the first number and no ticks. Assumes nothing.
-use Prim.Native.Nat.{ℕ, _<_, _^_}
-use mathlib.Core.Bool.{Bool, true, false}
+use Prim.Native.Nat.{ℕ, _+_}
+use native.Mathlib.Omega.{arith}
+use mathlib.Core.Bool.{Bool, true, false, false≢true}
 use mathlib.Core.List.{List, [], _∷_}
 use mathlib.Core.Path.{_≡_, refl, sym, ap, _∙_}
-use lib.Dec.{eqb}
-use borrow.Author.Tests.{eqb-true}
-use Rattle.refusals.specs.Judge.{Rule, verdict}
-use Rattle.ledger_model.specs.Step.{Enrol}
+use lib.ListN.{replicate, length-replicate}
+use lib.Seq.{getD-set-same}
+use Rattle.ledger_model.specs.Positions.{noTicks}
+use Rattle.ledger_model.specs.Book.{free, row, Book, place, putPlace, lowestFree}
+use Rattle.ledger_model.specs.Step.{Enrol, Reply, answerWords, step}
+use Rattle.ledger_model.specs.WellFormed.{WellFormed}
+use Rattle.ledger_model.proofs.Basics.{row-in}
+use Rattle.ledger_model.proofs.Outcome.{Outcome, refusal, enrolment, outcome}
+use Rattle.ledger_model.proofs.WellFormed.{well-formed}
+use Rattle.octets.specs.Octets.{part}
 use Rattle.octets.proofs.Laws.{Bytes}
-use Rattle.ledger_sheet.specs.Sheet.{keySize, firstSize, rowAt}
-use Rattle.ledger_changes.specs.inner.Rows.{rowValueAt, blankRow}
-use Rattle.ledger_sheet.specs.Outcome.{Outcome, judged}
-use Rattle.ledger_rows.specs.inner.Scans.{freeRow}
-use Rattle.ledger_changes.specs.inner.Bytes.{enrolAt}
+use Rattle.ledger_sheet.specs.Sheet.{ticksAt, ticksSize, rowSize, rowAt, right}
+use Rattle.ledger_changes.specs.inner.Rows.{blankTicks, rowValueAt, blankRow}
 use Rattle.ledger_sheet.specs.Words.{rowWords}
 use Rattle.ledger_sheet.specs.declared.RowAnswer.the-variants as R
-use Rattle.ledger_changes.proofs.ReadBack.{enrolled-blank}
-use Rattle.ledger_layout.specs.Layout.{call, onSheet}
-use Rattle.ledger_verdicts.specs.inner.Verdicts.{enrolRules}
-use Rattle.ledger_verdicts.specs.declared.Verdict.the-variants as Case
-use Rattle.ledger_verdicts.proofs.Judged.{enrol-fine}
-use Rattle.ledger_judged.proofs.Calls.{by-rows}
+use Rattle.ledger_layout.specs.Layout.{placeBytes, layout, bookOf, call, onSheet}
+use Rattle.ledger_layout.proofs.RowBytes.{row-ticks}
+use Rattle.ledger_layout.proofs.Parts.{part-within}
+use Rattle.ledger_layout.proofs.Places.{shape, row-part}
+use Rattle.ledger_layout.proofs.Right.{row-read}
+use Rattle.ledger_layout.proofs.Read.{book-fine}
+use Rattle.ledger_layout.proofs.Writers.{blank}
 
-pub enrol-reads-back : (s t : List ℕ) (key first row : ℕ) → Bytes s → key < 256 ^ keySize → first < 256 ^ firstSize
-    → (rowWords (R.Row row), t) ≡ onSheet (call (Enrol key first)) s → rowValueAt t (rowAt row) ≡ blankRow key first
-unfolding judged
-enrol-reads-back s t key first row bytes k f e = by (eqb (verdict rows) 0) refl
+-- a row with no ticks, in any layout
+blank-there : (b : Book) → WellFormed b → (r key first : ℕ) → place b r ≡ row key first noTicks → rowValueAt (layout b) (rowAt r) ≡ blankRow key first
+unfolding rowValueAt blankRow blankTicks
+blank-there b ok r key first e =
+    let says = row-read b ok r key first noTicks e in
+    let lr = ok .places-count in
+    let l = row-in (b .places) r e in
+    let bytes = row-part b (shape ok) r (omega arith) ∙ ap placeBytes e ∙ sym (blank key first) in
+    let ticks : part (layout b) (rowAt r + ticksAt) ticksSize ≡ replicate ticksSize 0 =
+    sym (part-within (layout b) (rowAt r) rowSize ticksAt ticksSize (rowAt r + ticksAt) refl (omega arith))
+    ∙ ap (λ (x : List ℕ). part x ticksAt ticksSize) bytes ∙ row-ticks key first (replicate ticksSize 0) (length-replicate {A = ℕ} ticksSize 0) in
+    rw (says .key-is, says .first-is, ticks)
+
+pub enrol-reads-back : (s t : List ℕ) (key first r : ℕ) → Bytes s → (rowWords (R.Row r), t) ≡ onSheet (call (Enrol key first)) s
+    → rowValueAt t (rowAt r) ≡ blankRow key first
+unfolding onSheet
+enrol-reads-back s t key first r bytes e = by (right s) refl
   where
-    rows : List (Rule ℕ)
-    rows = enrolRules key first s
+    b : Book
+    b = bookOf s
 
-    done : _≡_ {A = Outcome} (0 ∷ row ∷ [], t) (judged rows (0 ∷ freeRow s ∷ [], enrolAt (freeRow s) key first s) s)
-    done = e ∙ sym (by-rows (Enrol key first) s bytes .same)
+    at : {g : Reply} → Outcome b (Enrol key first) g → WellFormed (g .book) → _≡_ {A = List ℕ × List ℕ} (0 ∷ r ∷ [], t) (answerWords (g .answer), layout (g .book))
+        → rowValueAt t (rowAt r) ≡ blankRow key first
+    at (refusal number m) ok h = let words : 0 ∷ r ∷ [] ≡ number ∷ [] = ap (λ o. o .0) h in absurd (false≢true cc)
+    at (enrolment a) ok h =
+        let words : 0 ∷ r ∷ [] ≡ 0 ∷ lowestFree (b .places) ∷ [] = ap (λ o. o .0) h in
+        let same : r ≡ lowestFree (b .places) = cc in
+        rw (ap (λ o. o .1) h, same)
+        (blank-there _ ok (lowestFree (b .places)) key first (getD-set-same (b .places) (lowestFree (b .places)) (row key first noTicks) free (a .is-lowest .in-list)))
 
-    by : (b : Bool) → eqb (verdict rows) 0 ≡ b → rowValueAt t (rowAt row) ≡ blankRow key first
-    by true z =
-        let both : _≡_ {A = Outcome} (0 ∷ row ∷ [], t) (0 ∷ freeRow s ∷ [], enrolAt (freeRow s) key first s) = rw z at done in
-        let words : _≡_ {A = List ℕ} (0 ∷ row ∷ []) (0 ∷ freeRow s ∷ []) = ap (λ o. o .0) both in
-        let same : row ≡ freeRow s = cc in
-        let fine = enrol-fine s {v = Case.Fine} key first (sym (eqb-true (verdict rows) 0 z)) refl in
-        rw (same, ap (λ o. o .1) both) (enrolled-blank s (freeRow s) key first (fine .0) (fine .1) k f)
-    by false z =
-        let both : _≡_ {A = Outcome} (0 ∷ row ∷ [], t) (verdict rows ∷ [], s) = rw z at done in
-        let words : _≡_ {A = List ℕ} (0 ∷ row ∷ []) (verdict rows ∷ []) = ap (λ o. o .0) both in
-        cc
+    by : (u : Bool) → right s ≡ u → rowValueAt t (rowAt r) ≡ blankRow key first
+    by false h = let words : 0 ∷ r ∷ [] ≡ 20 ∷ [] = ap (λ o. o .0) (rw h at e) in absurd (false≢true cc)
+    by true h = at (outcome (Enrol key first) b) (well-formed b (book-fine s bytes h) (outcome (Enrol key first) b)) (rw h at e)

@@ -1,4 +1,5 @@
-pub mod Puts
 pub mod Written
 pub mod Marks
+pub mod Marked
 pub mod ReadBack
+pub mod Saves

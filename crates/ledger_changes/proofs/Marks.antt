@@ -7,7 +7,7 @@ use borrow.Author.Tests.{lt-ltb, le-ltb}
 use Rattle.ledger_model.specs.Step.{alreadySo}
 use Rattle.ledger_model.specs.Positions.{rowLength}
 use Rattle.refusals.specs.Judge.{judge}
-use Rattle.ledger_rows.specs.Ticks.{tickedAt}
+use Rattle.ledger_layout.specs.Ticks.{tickedAt}
 use Rattle.ledger_sheet.specs.Outcome.{Outcome, judged}
 use Rattle.ledger_changes.specs.inner.Bytes.{marked, markPosition}
 

@@ -2,20 +2,18 @@
 use Prim.Native.Nat.{ℕ, _+_, _-_, _≤_, _<_}
 use native.Mathlib.Omega.{arith}
 use mathlib.Core.List.{List, [], _∷_, _++_}
-use mathlib.Core.Path.{_≡_, refl, ap, _∙_}
+use mathlib.Core.Path.{_≡_, refl, _∙_}
 use lib.ListN.{length, set, replicate, length-append, length-replicate, length-set}
 use Rattle.octets.specs.Octets.{bytesOf, part, put}
 use Rattle.octets.proofs.Laws.{length-bytesOf, length-part}
 use Rattle.ledger_sheet.specs.Sheet.{usedWordSize, usedWord, keyStart, keySize, firstAt, firstSize, ticksAt, ticksSize, rowSize, rowCount}
 use Rattle.ledger_sheet.specs.Sheet.{rowsStart, deskRowAt, deskZerosAt, deskZerosSize, openedAt, workedAt, deskCount, desksStart, sheetSize, headerNumberSize}
 use Rattle.ledger_sheet.specs.Sheet.{lengthAt, usedAt, rowCountAt, rowsStartAt, deskCountAt, desksStartAt, rowAt, deskAt, used}
-use Rattle.ledger_sheet.specs.declared.Row.{Row}
-use Rattle.ledger_changes.specs.Rows.{rowBytes}
-use Rattle.ledger_changes.specs.inner.Rows.{blankRow}
-use Rattle.ledger_changes.specs.Bytes.{headerBytes, freshSheet, openDesk}
-use Rattle.ledger_changes.specs.inner.Bytes.{counting, enrolAt, strikeAt, openAt}
+use Rattle.ledger_layout.specs.Rows.{rowBytes}
+use Rattle.ledger_layout.specs.Bytes.{headerBytes, freshSheet, openDesk}
 use Rattle.octets.proofs.Puts.{put-next, set-put}
-use Rattle.ledger_changes.proofs.Puts.{put-whole, part-before}
+use Rattle.ledger_layout.proofs.Places.{length-header}
+use Rattle.ledger_layout.proofs.Puts.{put-whole, part-before}
 
 -- ---- the header, and a fresh sheet
 
@@ -40,10 +38,6 @@ module _ (s : List ℕ) (n : ℕ) (room : rowsStart ≤ length s) {t1 t2 t3 t4 t
       let h4 = number-then s _ rowsStart rowsStartAt (omega arith) (h3 .1) (h3 .0) p4 in
       let h5 = number-then s _ deskCount deskCountAt (omega arith) (h4 .1) (h4 .0) p5 in
       number-then s _ desksStart desksStartAt (omega arith) (h5 .1) (h5 .0) p6 .0
-
-pub length-header : (n : ℕ) → length (headerBytes n) ≡ rowsStart
-unfolding headerBytes
-length-header n = simp (length-append, length-bytesOf)
 
 pub fresh-written : (s : List ℕ) {t u : List ℕ} → length s ≡ sheetSize → t ≡ put s 0 (headerBytes 0)
     → u ≡ put t rowsStart (replicate (sheetSize - rowsStart) 0) → u ≡ freshSheet
@@ -99,26 +93,11 @@ module _ (s : List ℕ) (d row : ℕ) (long : length s ≡ sheetSize) (desk : d 
   same-row w l used e = rw e (part-before s (deskAt d) w (rowAt row) rowSize (omega arith) (omega arith))
 
   pub open-written : row < rowCount → {u v : List ℕ} → u ≡ put t (deskAt d + openedAt) (part t (rowAt row) rowSize)
-      → v ≡ put u (deskAt d + workedAt) (part u (rowAt row) rowSize) → v ≡ openAt d row s
-  unfolding openAt
+      → v ≡ put u (deskAt d + workedAt) (part u (rowAt row) rowSize)
+      → v ≡ put s (deskAt d) (openDesk row (part s (rowAt row) rowSize) (part s (rowAt row) rowSize))
   open-written used q r =
       let copy = part s (rowAt row) rowSize in
       let lc = length-part s (rowAt row) rowSize (omega arith) in
       let first = rw (same-row (1 ∷ row ∷ 0 ∷ 0 ∷ []) (omega arith) used begun-written) at q in
       let second = rw (same-row (1 ∷ row ∷ 0 ∷ 0 ∷ copy) (omega arith) used (opened-written copy lc first)) at r in
       desk-written copy lc first copy lc second
-
--- ---- an enrolled row
-
-pub enrol-written : (s : List ℕ) (i key first : ℕ) {row : Row} {t u : List ℕ} → row ≡ blankRow key first
-    → t ≡ put s (rowAt i) (rowBytes (row .key) (row .first) (row .ticks)) → u ≡ put t usedAt (bytesOf headerNumberSize (used s + 1)) → u ≡ enrolAt i key first s
-unfolding enrolAt blankRow
-enrol-written s i key first e p q =
-    q ∙ ap (counting (used s + 1)) (p ∙ ap (λ (r : Row). put s (rowAt i) (rowBytes (r .key) (r .first) (r .ticks))) e)
-
--- ---- a struck row
-
-pub strike-written : (s : List ℕ) (i : ℕ) {t u : List ℕ} → t ≡ put s (rowAt i) (replicate rowSize 0)
-    → u ≡ put t usedAt (bytesOf headerNumberSize (used s - 1)) → u ≡ strikeAt i s
-unfolding strikeAt
-strike-written s i p q = q ∙ ap (counting (used s - 1)) p

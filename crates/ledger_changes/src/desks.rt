@@ -4,12 +4,16 @@ use ledger_sheet::Answer;
 use octets::numbers;
 use refusals::Refusal;
 ghost use mathlib.Core.Path.{_≡_};
+ghost use mathlib.Core.Bool.{true};
 ghost use Prim.Native.Nat.{_≤_, _<_};
 ghost use lib.ListN.{length};
 ghost use Rattle.octets.specs.Octets.{put};
-ghost use Rattle.ledger_sheet.specs.Sheet.{sheetSize, rowsStart, rowCount, deskCount, deskRow};
-ghost use Rattle.ledger_changes.specs.Bytes.{headerBytes, freshSheet};
-ghost use Rattle.ledger_changes.specs.inner.Bytes.{openAt, clearDesk, isCurrent, stored, saveAt};
+ghost use Rattle.ledger_model.specs.Book.{desk, closed, putDesk, isOpen};
+ghost use Rattle.ledger_model.specs.Step.{Save};
+ghost use Rattle.ledger_sheet.specs.Sheet.{sheetSize, rowsStart, rowCount, deskCount, right};
+ghost use Rattle.ledger_layout.specs.Bytes.{headerBytes, freshSheet};
+ghost use Rattle.ledger_layout.specs.Layout.{layout, bookOf, call, laidOut};
+ghost use Rattle.ledger_changes.specs.inner.Books.{opened, isCurrent, stored};
 ghost use Rattle.ledger_sheet.specs.Words.{answerWords};
 
 // Makes a slice of a sheet's length a fresh sheet.
@@ -46,8 +50,8 @@ fn write_header(s: &mut [u8], used: u64)
 
 // Opens a row at desk d: both copies become the row.
 pub fn open_desk(s: &mut [u8], d: usize, row: usize)
-    requires { ⌜ (length (now s) ≡ sheetSize) × (d < deskCount) × (row < rowCount) ⌝ }
-    ensures { λ _. ⌜ now (s .exit) ≡ openAt d row (now (s .entry)) ⌝ }
+    requires { ⌜ (right (now s) ≡ true) × (d < deskCount) × (row < rowCount) ⌝ }
+    ensures { λ _. ⌜ now (s .exit) ≡ layout (opened d row (bookOf (now (s .entry)))) ⌝ }
 {
     let a = sheet::desk_at(d);
     let from = sheet::row_at(row);
@@ -60,16 +64,16 @@ pub fn open_desk(s: &mut [u8], d: usize, row: usize)
 
 // Clears desk d.
 pub fn clear_desk(s: &mut [u8], d: usize)
-    requires { ⌜ (length (now s) ≡ sheetSize) × (d < deskCount) ⌝ }
-    ensures { λ _. ⌜ now (s .exit) ≡ clearDesk d (now (s .entry)) ⌝ }
+    requires { ⌜ (right (now s) ≡ true) × (d < deskCount) ⌝ }
+    ensures { λ _. ⌜ now (s .exit) ≡ layout (putDesk d closed (bookOf (now (s .entry)))) ⌝ }
 {
     octets::clear(s, sheet::desk_at(d), sheet::DESK);
 }
 
 // Saves desk d: where its row is still as it was opened, the worked copy becomes the row; the desk is cleared.
 pub fn save_desk(s: &mut [u8], d: usize) -> Answer
-    requires { ⌜ (length (now s) ≡ sheetSize) × (d < deskCount) × (deskRow (now s) d < rowCount) ⌝ }
-    ensures { λ r. ⌜ (answerWords r, now (s .exit)) ≡ saveAt d (now (s .entry)) ⌝ }
+    requires { ⌜ (right (now s) ≡ true) × (d < deskCount) × (isOpen (desk (bookOf (now s)) d) ≡ true) ⌝ }
+    ensures { λ r. ⌜ (answerWords r, now (s .exit)) ≡ laidOut (call (Save d) (bookOf (now (s .entry)))) ⌝ }
 {
     if !is_current(s, d) {
         clear_desk(s, d);
@@ -82,8 +86,8 @@ pub fn save_desk(s: &mut [u8], d: usize) -> Answer
 
 // Whether the row that desk d has open equals the opened copy.
 fn is_current(s: &[u8], d: usize) -> bool
-    requires { ⌜ (length (now s) ≡ sheetSize) × (d < deskCount) × (deskRow (now s) d < rowCount) ⌝ }
-    ensures { λ r. ⌜ r ≡ isCurrent d (now (s .entry)) ⌝ }
+    requires { ⌜ (right (now s) ≡ true) × (d < deskCount) × (isOpen (desk (bookOf (now s)) d) ≡ true) ⌝ }
+    ensures { λ r. ⌜ r ≡ isCurrent d (bookOf (now (s .entry))) ⌝ }
 {
     let row = sheet::row_at(ledger_rows::desk_row(s, d));
     octets::is_same(s, row, s, sheet::desk_at(d) + sheet::OPENED_AT, sheet::ROW)
@@ -91,8 +95,8 @@ fn is_current(s: &[u8], d: usize) -> bool
 
 // The row that desk d has open becomes the worked copy.
 fn store(s: &mut [u8], d: usize)
-    requires { ⌜ (length (now s) ≡ sheetSize) × (d < deskCount) × (deskRow (now s) d < rowCount) ⌝ }
-    ensures { λ _. ⌜ now (s .exit) ≡ stored d (now (s .entry)) ⌝ }
+    requires { ⌜ (right (now s) ≡ true) × (d < deskCount) × (isOpen (desk (bookOf (now s)) d) ≡ true) ⌝ }
+    ensures { λ _. ⌜ now (s .exit) ≡ layout (stored d (bookOf (now (s .entry)))) ⌝ }
 {
     let row = sheet::row_at(ledger_rows::desk_row(s, d));
     octets::copy(s, sheet::desk_at(d) + sheet::WORKED_AT, row, sheet::ROW);

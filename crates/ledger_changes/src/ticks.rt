@@ -4,10 +4,14 @@ use ledger_sheet::Answer;
 use ledger_sheet::right;
 use refusals::Refusal;
 ghost use mathlib.Core.Path.{_≡_};
+ghost use mathlib.Core.Bool.{true};
 ghost use Prim.Native.Nat.{_<_};
 ghost use lib.ListN.{length};
-ghost use Rattle.ledger_sheet.specs.Sheet.{sheetSize, rowSize, deskCount};
-ghost use Rattle.ledger_changes.specs.inner.Bytes.{markRow, markPosition, markDesk};
+ghost use Rattle.ledger_model.specs.Book.{desk, isOpen};
+ghost use Rattle.ledger_model.specs.Step.{Mark};
+ghost use Rattle.ledger_sheet.specs.Sheet.{rowSize, deskCount, right};
+ghost use Rattle.ledger_layout.specs.Layout.{bookOf, call, laidOut};
+ghost use Rattle.ledger_changes.specs.inner.Bytes.{markRow, markPosition};
 ghost use Rattle.ledger_sheet.specs.Words.{answerWords};
 
 // How many positions a row has.
@@ -15,8 +19,8 @@ pub const POSITIONS: usize = sheet::BYTE_BITS * sheet::TICKS;
 
 // Ticks or unticks number n in the worked copy of desk d: those bytes alone are lent on.
 pub fn mark_desk(s: &mut [u8], d: usize, n: u32, on: bool) -> Answer
-    requires { ⌜ (length (now s) ≡ sheetSize) × (d < deskCount) ⌝ }
-    ensures { λ r. ⌜ (answerWords r, now (s .exit)) ≡ markDesk on d n (now (s .entry)) ⌝ }
+    requires { ⌜ (right (now s) ≡ true) × (d < deskCount) × (isOpen (desk (bookOf (now s)) d) ≡ true) ⌝ }
+    ensures { λ r. ⌜ (answerWords r, now (s .exit)) ≡ laidOut (call (Mark on d n) (bookOf (now (s .entry)))) ⌝ }
 {
     let a = sheet::desk_at(d) + sheet::WORKED_AT;
     let e = a + sheet::ROW;

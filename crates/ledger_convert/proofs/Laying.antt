@@ -17,15 +17,14 @@ use Rattle.octets.proofs.Parts.{part-join, part-whole, part-first, part-second}
 use Rattle.ledger_sheet.specs.Sheet.{sheetSize, keyStart, rowSize, rowCount, rowsStart, deskSize, deskCount}
 use Rattle.ledger_sheet.specs.Sheet.{openedAt, desksStart, headerNumberSize, usedAt, rowAt, deskAt, count}
 use Rattle.ledger_sheet.specs.declared.Row.{Row}
-use Rattle.ledger_changes.specs.Rows.{rowBytes}
+use Rattle.ledger_layout.specs.Rows.{rowBytes}
 use Rattle.ledger_changes.specs.inner.Rows.{rowValueAt}
-use Rattle.ledger_changes.specs.Bytes.{headerBytes, freshSheet, openDesk}
-use Rattle.ledger_changes.proofs.Puts.{part-put, part-apart}
-use Rattle.ledger_changes.proofs.Written.{length-header}
+use Rattle.ledger_layout.specs.Bytes.{headerBytes, freshSheet, openDesk}
+use Rattle.ledger_layout.proofs.Puts.{part-put, part-apart}
 use Rattle.ledger_layout.specs.Layout.{placeBytes, deskBytes, countUsed, layout}
 use Rattle.octets.proofs.Lists.{length-table, laid-table}
 use Rattle.ledger_layout.proofs.Rows.{length-place}
-use Rattle.ledger_layout.proofs.Places.{header-put, length-desk}
+use Rattle.ledger_layout.proofs.Places.{length-header, header-put, length-desk}
 use Rattle.ledger_layout.proofs.Used.{count-law}
 use Rattle.ledger_sheet.specs.Sheet.{used}
 use Rattle.ledger_convert.specs.Old as Old

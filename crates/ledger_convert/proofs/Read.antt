@@ -19,9 +19,9 @@ use Rattle.octets.proofs.Parts.{same-part}
 use Rattle.ledger_sheet.specs.Sheet.{keyStart, rowSize, ticksAt, ticksSize}
 use Rattle.ledger_sheet.specs.Sheet as New
 use Rattle.ledger_sheet.specs.declared.Row.{Row}
-use Rattle.ledger_rows.specs.Ticks.{tickedAt, ticksIn}
+use Rattle.ledger_layout.specs.Ticks.{tickedAt, ticksIn}
 use Rattle.octets.specs.Lists.{table}
-use Rattle.ledger_changes.specs.Rows.{rowBytes}
+use Rattle.ledger_layout.specs.Rows.{rowBytes}
 use Rattle.ledger_changes.specs.inner.Rows.{rowValueAt}
 use Rattle.ledger_layout.specs.Layout.{placeBytes}
 use Rattle.ledger_layout.proofs.Parts.{number-within}

@@ -12,7 +12,7 @@ use lib.Count.{ones, ones-step, ones-ones, ones-le, leadingZeros, leading-of-zer
 use lib.Dec.{eqb, ltb}
 use lib.Pow.{pow-pos, pow-mono}
 use Rattle.ledger_model.specs.Positions.{size}
-use Rattle.ledger_rows.specs.Ticks.{tickedAt}
+use Rattle.ledger_layout.specs.Ticks.{tickedAt}
 use Rattle.octets.specs.Lists.{table}
 use Rattle.ledger_rows.specs.inner.Scans.{lowest}
 use Rattle.ledger_counts.specs.inner.Counts.{pastHighest}

@@ -6,14 +6,17 @@ use ledger_sheet::right;
 use octets::numbers;
 ghost use mathlib.Core.Path.{_≡_};
 ghost use mathlib.Core.Bool.{true, not, cond};
+ghost use mathlib.Core.List.{_∷_};
+ghost use Rattle.ledger_model.specs.Counts.{firstGapFrom};
+ghost use Rattle.ledger_layout.specs.Layout.{bookOf};
 ghost use Prim.Native.Nat.{_+_, _≤_, _<_};
 ghost use lib.Count.{ones};
 ghost use lib.ListN.{length};
 ghost use Rattle.ledger_model.specs.Positions.{rowLength, size};
 ghost use Rattle.ledger_sheet.specs.Sheet.{sheetSize, rowSize, rowCount, rowAt, isUsed};
-ghost use Rattle.ledger_rows.specs.Ticks.{tickedAt, ticksIn};
+ghost use Rattle.ledger_layout.specs.Ticks.{tickedAt, ticksIn};
 ghost use Rattle.ledger_rows.specs.inner.Scans.{lowest};
-ghost use Rattle.ledger_counts.specs.inner.Counts.{pastHighest, numberAtPosition, reportWords, gapFrom};
+ghost use Rattle.ledger_counts.specs.inner.Counts.{pastHighest, numberAtPosition, reportWords};
 ghost use Rattle.ledger_sheet.specs.Words.{reportAnswerWords, gapWords};
 ghost use Rattle.ledger_counts.specs.inner.Words.{wordBits, wordCount, lastWordAt, IsWord, TickedFrom, StartsAt};
 
@@ -208,7 +211,7 @@ fn row_end(s: &[u8], row: usize) -> usize
 // The first missing number and its row: rows in order, positions in order.
 pub fn first_gap(s: &[u8]) -> GapAnswer
     requires { ⌜ length (now s) ≡ sheetSize ⌝ }
-    ensures { λ r. ⌜ gapWords r ≡ gapFrom (now (s .entry)) 0 rowCount ⌝ }
+    ensures { λ r. ⌜ gapWords r ≡ 0 ∷ firstGapFrom 0 (bookOf (now (s .entry)) .places) ⌝ }
 {
     let mut gap = GapAnswer::Nothing;
     'rows: for row in 0..sheet::ROWS {

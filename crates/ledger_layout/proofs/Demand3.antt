@@ -13,7 +13,7 @@ use Rattle.ledger_model.specs.Chain.{Chain}
 use Rattle.ledger_model.proofs.WellFormed.{run-well-formed}
 use Rattle.ledger_model.proofs.Laws.{Proper, words-injective, step-proper}
 use Rattle.ledger_model.proofs.Claim.{chain-claim}
-use Rattle.ledger_changes.specs.Bytes.{freshSheet}
+use Rattle.ledger_layout.specs.Bytes.{freshSheet}
 use Rattle.ledger_sheet.specs.Words as Words
 use Rattle.ledger_sheet.specs.declared.Answer as sheet
 use Rattle.ledger_sheet.specs.declared.Answer.the-variants as A

@@ -1,4 +1,5 @@
-pub mod Judged
+pub mod Puts
+pub mod RowBytes
 pub mod Parts
 pub mod Ticks
 pub mod Rows
@@ -8,6 +9,8 @@ pub mod Right
 pub mod Read
 pub mod BothWays
 pub mod Sizes
-pub mod Calls
 pub mod Sheets
 pub mod Demand3
+pub mod Rules
+pub mod Readers
+pub mod Writers

@@ -17,8 +17,7 @@ use Rattle.octets.proofs.Laws.{length-bytesOf, part-at}
 use Rattle.octets.proofs.Parts.{number-first, number-bytes, part-first, part-whole, part-seam}
 use Rattle.ledger_sheet.specs.Sheet.{sheetSize, rowSize, rowCount, rowsStart, deskZerosAt, deskZerosSize, openedAt, workedAt, deskSize}
 use Rattle.ledger_sheet.specs.Sheet.{deskCount, desksStart, headerNumberSize, usedAt, rowAt, deskAt, headerNumber, isClosed}
-use Rattle.ledger_changes.specs.Bytes.{headerBytes, openDesk}
-use Rattle.ledger_changes.proofs.Written.{length-header}
+use Rattle.ledger_layout.specs.Bytes.{headerBytes, openDesk}
 use Rattle.ledger_layout.specs.Layout.{placeBytes, deskBytes, countUsed, layout}
 use Rattle.octets.specs.Lists.{laid}
 use Rattle.octets.proofs.Puts.{put-seam}
@@ -27,6 +26,10 @@ use Rattle.octets.proofs.Lists.{length-laid, part-laid, put-laid, laid-same}
 use Rattle.ledger_layout.proofs.Rows.{length-place}
 
 -- ---- the header
+
+pub length-header : (n : ℕ) → length (headerBytes n) ≡ rowsStart
+unfolding headerBytes
+length-header n = simp (length-append, length-bytesOf)
 
 abbrev pub headerNumbers : ℕ → List ℕ
 headerNumbers n = sheetSize ∷ n ∷ rowCount ∷ rowsStart ∷ deskCount ∷ desksStart ∷ []

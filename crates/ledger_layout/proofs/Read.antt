@@ -23,9 +23,9 @@ use Rattle.ledger_sheet.specs.Sheet.{deskRowAt, deskZerosAt, deskZerosSize, ope
 use Rattle.ledger_sheet.specs.Sheet.{usedAt, rowCountAt, rowsStartAt, deskCountAt, desksStartAt, rowAt, deskAt, headerNumber, used, isUsed}
 use Rattle.ledger_sheet.specs.Sheet.{isRow, keyAt, firstNumberAt, deskByte, deskRow, isClosed, carries, headerRight, validKeys, isNew}
 use Rattle.ledger_sheet.specs.Sheet.{differentKeys, firstNumbers, freeZero, closedZero, deskMarked, openNames, deskRight, right}
-use Rattle.ledger_rows.specs.Ticks.{ticksIn}
+use Rattle.ledger_layout.specs.Ticks.{ticksIn}
 use Rattle.octets.specs.Lists.{table}
-use Rattle.ledger_changes.specs.Bytes.{headerBytes, openDesk}
+use Rattle.ledger_layout.specs.Bytes.{headerBytes, openDesk}
 use Rattle.ledger_sheet.proofs.Clauses.{Right, right-parts, row-parts}
 use Rattle.ledger_layout.specs.Layout.{placeBytes, deskBytes, countUsed, layout, placeIn, deskIn, bookOf}
 use Rattle.ledger_layout.proofs.Parts.{number-within}

@@ -20,7 +20,7 @@ use Rattle.octets.proofs.Parts.{part-same}
 use Rattle.ledger_sheet.specs.Sheet.{sheetSize, usedWordSize, ticksAt, rowSize, rowCount, deskRowAt, deskZerosAt, deskZerosSize, openedAt, workedAt, deskSize}
 use Rattle.ledger_sheet.specs.Sheet.{deskCount, rowsStart, desksStart, headerNumberSize, rowAt, deskAt, headerNumber, used, isUsed, isRow, deskByte}
 use Rattle.ledger_sheet.specs.Sheet.{deskRow, carries, headerRight, countRight, validKeys, isNew, differentKeys, firstNumbers, freeZero, deskRight, right}
-use Rattle.ledger_changes.specs.Bytes.{openDesk}
+use Rattle.ledger_layout.specs.Bytes.{openDesk}
 use Rattle.ledger_sheet.proofs.Clauses.{closed-desk, open-desk}
 use Rattle.ledger_layout.specs.Layout.{placeBytes, deskBytes, countUsed, layout, placeIn, deskIn, bookOf}
 use Rattle.ledger_layout.proofs.Parts.{number-within, part-within}

@@ -15,7 +15,7 @@ use Rattle.ledger_model.specs.Positions.{rowLength, Positions, has}
 use Rattle.octets.specs.Octets.{part}
 use Rattle.octets.proofs.Laws.{Bytes, length-part, part-at}
 use Rattle.ledger_sheet.specs.Sheet.{ticksAt, ticksSize, rowSize, byteBits}
-use Rattle.ledger_rows.specs.Ticks.{tickByteAt, tickBit, tickedAt, ticksIn}
+use Rattle.ledger_layout.specs.Ticks.{tickByteAt, tickBit, tickedAt, ticksIn}
 use Rattle.ledger_layout.specs.Layout.{bit, bitsValue, tickBytes}
 use Rattle.octets.proofs.Lists.{getD-table, table-is}
 

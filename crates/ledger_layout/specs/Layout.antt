@@ -11,11 +11,11 @@ use Rattle.ledger_model.specs.Book.{Place, free, row, Desk, closed, working, Bo
 use Rattle.ledger_model.specs.Step.{Call, answerWords, step}
 use Rattle.ledger_sheet.specs.Sheet.{sheetSize, rowSize, rowCount, ticksSize, byteBits, openedAt, workedAt, deskSize, deskCount}
 use Rattle.ledger_sheet.specs.Sheet.{rowAt, deskAt, isUsed, keyAt, firstNumberAt, deskRow, isClosed, right}
-use Rattle.ledger_rows.specs.Ticks.{ticksIn}
+use Rattle.ledger_layout.specs.Ticks.{ticksIn}
 use Rattle.octets.specs.Lists.{table, laid}
-use Rattle.ledger_changes.specs.Rows.{rowBytes}
+use Rattle.ledger_layout.specs.Rows.{rowBytes}
 use Rattle.ledger_sheet.specs.Outcome.{Outcome}
-use Rattle.ledger_changes.specs.Bytes.{headerBytes, openDesk}
+use Rattle.ledger_layout.specs.Bytes.{headerBytes, openDesk}
 
 -- ---- a book laid out
 

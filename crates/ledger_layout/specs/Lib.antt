@@ -1,4 +1,7 @@
--- What the contracts of `ledger` cite.
+-- What the contracts on sheets cite.
+pub mod Ticks
+pub mod Rows
+pub mod Bytes
 pub mod Layout
 pub mod BothWays
 pub mod Sizes

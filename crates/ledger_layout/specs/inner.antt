@@ -1,2 +1,2 @@
-pub mod Calls
+pub mod Rules
 pub mod Demand3

@@ -100,7 +100,7 @@ module _ (b : Book) (s : WellFormed b) where
       differ q₁ q₂ k (inr x) (inl y) = absurd (absent (b .places) key q₁ (a .is-new) (x ∙ ap some (y .1)))
       differ q₁ q₂ k (inr x) (inr y) = s .keys-differ q₁ q₂ k x y
 
-  saved : (r : ℕ) (w : Positions) → IsSet w → WellFormed (putPlace r (withTicks w (place b r)) b)
+  pub saved : (r : ℕ) (w : Positions) → IsSet w → WellFormed (putPlace r (withTicks w (place b r)) b)
   saved r w l =
       record {
         places-count = rw length-set (s .places-count);

@@ -1,3 +1,2 @@
 -- What the contracts of `ledger_rows` cite.
-pub mod Ticks
 pub mod inner

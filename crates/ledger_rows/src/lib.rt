@@ -2,17 +2,20 @@
 use ledger_sheet as sheet;
 use ledger_sheet::right;
 ghost use mathlib.Core.Path.{_≡_};
+ghost use mathlib.Core.Bool.{true, not};
 ghost use Prim.Native.Nat.{_+_, _≤_, _<_, _^_};
 ghost use lib.ListN.{length};
 ghost use Rattle.ledger_model.specs.Positions.{rowLength};
-ghost use Rattle.ledger_sheet.specs.Sheet.{sheetSize, rowSize, rowCount, byteBits, deskCount, deskRow, isClosed};
-ghost use Rattle.ledger_rows.specs.Ticks.{tickedAt};
-ghost use Rattle.ledger_rows.specs.inner.Scans.{isRowOf, rowWith, sheetHasKey, freeRow, noneHasOpen};
+ghost use Rattle.ledger_model.specs.Book.{place, desk, isFree, isOpen, placeOf, hasKey, placeWith, lowestFree, anyHasOpen};
+ghost use Rattle.ledger_sheet.specs.Sheet.{rowSize, rowCount, byteBits, deskCount, right};
+ghost use Rattle.ledger_layout.specs.Layout.{bookOf};
+ghost use Rattle.ledger_layout.specs.Ticks.{tickedAt};
+ghost use Rattle.ledger_rows.specs.inner.Scans.{isRowOf};
 
 // The used row with the key, or 32 where there is none.
 pub fn find_row(s: &[u8], key: u64) -> usize
-    requires { ⌜ length (now s) ≡ sheetSize ⌝ }
-    ensures { λ r. ⌜ r ≡ rowWith (now (s .entry)) key ⌝ }
+    requires { ⌜ right (now s) ≡ true ⌝ }
+    ensures { λ r. ⌜ r ≡ placeWith key (bookOf (now (s .entry)) .places) ⌝ }
 {
     for i in 0..sheet::ROWS {
         if is_row_of(s, key, i) {
@@ -24,8 +27,8 @@ pub fn find_row(s: &[u8], key: u64) -> usize
 
 // Whether row i is used and has the key.
 fn is_row_of(s: &[u8], key: u64, i: usize) -> bool
-    requires { ⌜ (length (now s) ≡ sheetSize) × (i < rowCount) ⌝ }
-    ensures { λ r. ⌜ r ≡ isRowOf (now (s .entry)) key i ⌝ }
+    requires { ⌜ (right (now s) ≡ true) × (i < rowCount) ⌝ }
+    ensures { λ r. ⌜ r ≡ isRowOf key (place (bookOf (now (s .entry))) i) ⌝ }
 {
     if !right::is_used(s, i) {
         return false;
@@ -35,16 +38,16 @@ fn is_row_of(s: &[u8], key: u64, i: usize) -> bool
 
 // Whether a used row has the key.
 pub fn has_key(s: &[u8], key: u64) -> bool
-    requires { ⌜ length (now s) ≡ sheetSize ⌝ }
-    ensures { λ r. ⌜ r ≡ sheetHasKey (now (s .entry)) key ⌝ }
+    requires { ⌜ right (now s) ≡ true ⌝ }
+    ensures { λ r. ⌜ r ≡ hasKey key (bookOf (now (s .entry)) .places) ⌝ }
 {
     find_row(s, key) < sheet::ROWS
 }
 
 // The lowest free row, or 32 where there is none.
 pub fn free_row(s: &[u8]) -> usize
-    requires { ⌜ length (now s) ≡ sheetSize ⌝ }
-    ensures { λ r. ⌜ r ≡ freeRow (now (s .entry)) ⌝ }
+    requires { ⌜ right (now s) ≡ true ⌝ }
+    ensures { λ r. ⌜ r ≡ lowestFree (bookOf (now (s .entry)) .places) ⌝ }
 {
     for i in 0..sheet::ROWS {
         if !right::is_used(s, i) {
@@ -54,18 +57,26 @@ pub fn free_row(s: &[u8]) -> usize
     sheet::ROWS
 }
 
+// Whether there is a row with this number: a free place is none.
+pub fn is_row(s: &[u8], row: usize) -> bool
+    requires { ⌜ right (now s) ≡ true ⌝ }
+    ensures { λ r. ⌜ r ≡ not (isFree (place (bookOf (now (s .entry))) row)) ⌝ }
+{
+    right::is_row(s, row)
+}
+
 // Whether desk d is closed.
 pub fn is_closed(s: &[u8], d: usize) -> bool
-    requires { ⌜ (length (now s) ≡ sheetSize) × (d < deskCount) ⌝ }
-    ensures { λ r. ⌜ r ≡ isClosed (now (s .entry)) d ⌝ }
+    requires { ⌜ (right (now s) ≡ true) × (d < deskCount) ⌝ }
+    ensures { λ r. ⌜ r ≡ not (isOpen (desk (bookOf (now (s .entry))) d)) ⌝ }
 {
     s[sheet::desk_at(d)] == sheet::CLOSED
 }
 
 // Whether no desk has the row open.
 pub fn is_idle(s: &[u8], row: usize) -> bool
-    requires { ⌜ length (now s) ≡ sheetSize ⌝ }
-    ensures { λ r. ⌜ r ≡ noneHasOpen (now (s .entry)) row ⌝ }
+    requires { ⌜ right (now s) ≡ true ⌝ }
+    ensures { λ r. ⌜ r ≡ not (anyHasOpen row (bookOf (now (s .entry)) .desks)) ⌝ }
 {
     let mut idle = true;
     for d in 0..sheet::DESKS {
@@ -74,10 +85,10 @@ pub fn is_idle(s: &[u8], row: usize) -> bool
     idle
 }
 
-// The row that desk d names.
+// The row that desk d has open; 0 where it is closed.
 pub fn desk_row(s: &[u8], d: usize) -> usize
-    requires { ⌜ (length (now s) ≡ sheetSize) × (d < deskCount) ⌝ }
-    ensures { λ r. ⌜ r ≡ deskRow (now (s .entry)) d ⌝ }
+    requires { ⌜ (right (now s) ≡ true) × (d < deskCount) ⌝ }
+    ensures { λ r. ⌜ r ≡ placeOf (desk (bookOf (now (s .entry))) d) ⌝ }
 {
     s[sheet::desk_at(d) + sheet::DESK_ROW_AT] as usize
 }

@@ -17,7 +17,7 @@ use Rattle.ledger_model.specs.Tally.{ticked}
 use Rattle.ledger_sheet.specs.Sheet.{rowCount, rowAt, isUsed, keyAt, firstNumberAt}
 use Rattle.ledger_sheet.specs.Words.{reportAnswerWords}
 use Rattle.ledger_sheet.specs.declared.ReportAnswer.the-variants as Report
-use Rattle.ledger_rows.specs.Ticks.{ticksIn}
+use Rattle.ledger_layout.specs.Ticks.{ticksIn}
 use Rattle.ledger_counts.specs.inner.Counts.{lowestWords, reportWords}
 use Rattle.ledger_counts.proofs.Reports.{row-count, end-within}
 use Rattle.ledger_layout.specs.Layout.{placeIn, bookOf}

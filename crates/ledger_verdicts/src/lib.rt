@@ -2,13 +2,13 @@
 // is right: one that a call has left is, so that calls made one after the other need one check. Every call begins with 20 and the rule of what
 // it names, a key, a desk or a row.
 use ledger_sheet as sheet;
-use ledger_sheet::right;
 use refusals::Refusal;
 ghost use mathlib.Core.Path.{_≡_};
 ghost use Rattle.refusals.specs.Judge.{verdict};
+ghost use Rattle.ledger_model.specs.Step.{Enrol, Ask, Find, RowReport, Open, Drop, Strike};
 ghost use Rattle.ledger_sheet.specs.Sheet.{right};
-ghost use Rattle.ledger_verdicts.specs.inner.Verdicts.{keyRules, enrolRules, findRules, deskNumberRules, openRules, deskRules, rowRules, strikeRules};
-ghost use Rattle.ledger_verdicts.specs.inner.Verdicts.{verdictNumber};
+ghost use Rattle.ledger_layout.specs.inner.Rules.{rulesOn};
+ghost use Rattle.ledger_verdicts.specs.inner.Verdicts.{keyRules, deskNumberRules, verdictNumber};
 
 // What a call is judged: it may be made, or it is refused.
 pub enum Verdict {
@@ -31,7 +31,7 @@ fn key_verdict(fine: bool, key: u64) -> Verdict
 
 pub fn enrol_verdict(s: &[u8], fine: bool, key: u64, first: u32) -> Verdict
     requires { ⌜ fine ≡ right (now s) ⌝ }
-    ensures { λ r. ⌜ verdictNumber r ≡ verdict (enrolRules key first (now (s .entry))) ⌝ }
+    ensures { λ r. ⌜ verdictNumber r ≡ verdict (rulesOn (Enrol key first) (now (s .entry))) ⌝ }
 {
     let judged = key_verdict(fine, key);
     if let Verdict::Refused(_) = judged {
@@ -51,7 +51,7 @@ pub fn enrol_verdict(s: &[u8], fine: bool, key: u64, first: u32) -> Verdict
 
 pub fn find_verdict(s: &[u8], fine: bool, key: u64) -> Verdict
     requires { ⌜ fine ≡ right (now s) ⌝ }
-    ensures { λ r. ⌜ verdictNumber r ≡ verdict (findRules key (now (s .entry))) ⌝ }
+    ensures { λ r. ⌜ verdictNumber r ≡ verdict (rulesOn (Ask (Find key)) (now (s .entry))) ⌝ }
 {
     let judged = key_verdict(fine, key);
     if let Verdict::Refused(_) = judged {
@@ -78,13 +78,13 @@ fn desk_number_verdict(fine: bool, desk: u32) -> Verdict
 
 pub fn open_verdict(s: &[u8], fine: bool, desk: u32, row: u32) -> Verdict
     requires { ⌜ fine ≡ right (now s) ⌝ }
-    ensures { λ r. ⌜ verdictNumber r ≡ verdict (openRules desk row (now (s .entry))) ⌝ }
+    ensures { λ r. ⌜ verdictNumber r ≡ verdict (rulesOn (Open desk row) (now (s .entry))) ⌝ }
 {
     let judged = desk_number_verdict(fine, desk);
     if let Verdict::Refused(_) = judged {
         return judged;
     }
-    if !right::is_row(s, row as usize) {
+    if !ledger_rows::is_row(s, row as usize) {
         return Verdict::Refused(Refusal::NoRow);
     }
     if !ledger_rows::is_closed(s, desk as usize) {
@@ -93,10 +93,10 @@ pub fn open_verdict(s: &[u8], fine: bool, desk: u32, row: u32) -> Verdict
     Verdict::Fine
 }
 
-// Of a call by a desk that must have a row open.
+// Of a call by a desk that must have a row open: of a drop, and what a tick, an untick and a save begin with.
 pub fn desk_verdict(s: &[u8], fine: bool, desk: u32) -> Verdict
     requires { ⌜ fine ≡ right (now s) ⌝ }
-    ensures { λ r. ⌜ verdictNumber r ≡ verdict (deskRules desk (now (s .entry))) ⌝ }
+    ensures { λ r. ⌜ verdictNumber r ≡ verdict (rulesOn (Drop desk) (now (s .entry))) ⌝ }
 {
     let judged = desk_number_verdict(fine, desk);
     if let Verdict::Refused(_) = judged {
@@ -111,12 +111,12 @@ pub fn desk_verdict(s: &[u8], fine: bool, desk: u32) -> Verdict
 // Of a call on a row: 20, 25. Row report has no other.
 pub fn row_verdict(s: &[u8], fine: bool, row: u32) -> Verdict
     requires { ⌜ fine ≡ right (now s) ⌝ }
-    ensures { λ r. ⌜ verdictNumber r ≡ verdict (rowRules row (now (s .entry))) ⌝ }
+    ensures { λ r. ⌜ verdictNumber r ≡ verdict (rulesOn (Ask (RowReport row)) (now (s .entry))) ⌝ }
 {
     if !fine {
         return Verdict::Refused(Refusal::NotSheet);
     }
-    if !right::is_row(s, row as usize) {
+    if !ledger_rows::is_row(s, row as usize) {
         return Verdict::Refused(Refusal::NoRow);
     }
     Verdict::Fine
@@ -124,7 +124,7 @@ pub fn row_verdict(s: &[u8], fine: bool, row: u32) -> Verdict
 
 pub fn strike_verdict(s: &[u8], fine: bool, row: u32) -> Verdict
     requires { ⌜ fine ≡ right (now s) ⌝ }
-    ensures { λ r. ⌜ verdictNumber r ≡ verdict (strikeRules row (now (s .entry))) ⌝ }
+    ensures { λ r. ⌜ verdictNumber r ≡ verdict (rulesOn (Strike row) (now (s .entry))) ⌝ }
 {
     let judged = row_verdict(s, fine, row);
     if let Verdict::Refused(_) = judged {

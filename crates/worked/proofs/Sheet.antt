@@ -7,7 +7,7 @@ use Rattle.ledger_model.specs.Step.{Call, answerWords, step, Entry, _⇒_, run}
 use Rattle.ledger_model.specs.WellFormed.{WellFormed}
 use Rattle.ledger_model.proofs.Outcome.{outcome}
 use Rattle.ledger_model.proofs.WellFormed.{well-formed, fresh-well-formed}
-use Rattle.ledger_changes.specs.Bytes.{freshSheet}
+use Rattle.ledger_layout.specs.Bytes.{freshSheet}
 use Rattle.ledger_layout.specs.Layout.{layout, call}
 use Rattle.ledger_layout.proofs.Sheets.{on-layout, fresh-layout}
 use Rattle.worked.specs.Calls.{answersOn, sheetAfter}

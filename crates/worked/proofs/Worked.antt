@@ -20,8 +20,8 @@ use Rattle.ledger_model.specs.Book.{fresh, hasKey, placeWith, allUsed, lowestFr
 use Rattle.ledger_model.specs.Step.{RowReport, Call, Ask, refusals, asked, effect, afterRefusal, step, run}
 use Rattle.ledger_model.proofs.WellFormed.{run-well-formed}
 use Rattle.ledger_sheet.specs.Sheet.{rowAt, ticksAt}
-use Rattle.ledger_changes.specs.Rows.{rowBytes}
-use Rattle.ledger_changes.specs.Bytes.{headerBytes}
+use Rattle.ledger_layout.specs.Rows.{rowBytes}
+use Rattle.ledger_layout.specs.Bytes.{headerBytes}
 use Rattle.ledger_layout.specs.Layout.{bitsValue, tickBytes, placeBytes, countUsed, layout, call, onSheet}
 use Rattle.octets.specs.Lists.{laid}
 use Rattle.ledger_layout.proofs.Sheets.{on-layout}

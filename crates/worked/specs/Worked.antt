@@ -13,7 +13,7 @@ use Rattle.keys.specs.Key.{telemetryKeyCall}
 use Rattle.ledger_model.specs.Positions.{position}
 use Rattle.ledger_model.specs.Step.{Call, Enrol, Ask, RowReport, Open, Tick, Untick, Save}
 use Rattle.ledger_sheet.specs.Sheet.{rowAt, ticksAt}
-use Rattle.ledger_changes.specs.Bytes.{freshSheet}
+use Rattle.ledger_layout.specs.Bytes.{freshSheet}
 use Rattle.ledger_layout.specs.Layout.{call, onSheet}
 use Rattle.worked.specs.Calls.{answersOn, sheetAfter}
 use Rattle.worked.specs.Records.{plain, relabelled, p4, p6}

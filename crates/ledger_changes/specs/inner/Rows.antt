@@ -4,7 +4,7 @@ use mathlib.Core.List.{List}
 use lib.ListN.{getD, set, replicate}
 use Rattle.octets.specs.Octets.{part}
 use Rattle.ledger_sheet.specs.Sheet.{ticksAt, ticksSize, keyAt, firstNumberAt}
-use Rattle.ledger_rows.specs.Ticks.{tickByteAt, tickBit}
+use Rattle.ledger_layout.specs.Ticks.{tickByteAt, tickBit}
 use Rattle.ledger_sheet.specs.declared.Row.{Row}
 
 -- Position i's bit set, or cleared.

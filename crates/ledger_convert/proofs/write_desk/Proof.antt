@@ -2,7 +2,7 @@
 use native.Mathlib.Omega.{arith}
 use mathlib.Core.Path.{_∙_}
 use lib.ListN.{length-set}
-use Rattle.ledger_changes.proofs.ReadBack.{length-row}
+use Rattle.ledger_layout.proofs.RowBytes.{length-row}
 use Rattle.ledger_changes.proofs.Written.{desk-written}
 use borrow.Author.Needs.{needs}
 use Rattle.ledger_convert.proofs.write_desk.Statement.{statement}

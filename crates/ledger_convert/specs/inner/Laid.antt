@@ -7,7 +7,7 @@ use lib.Dec.{ltb}
 use lib.ListN.{length, replicate}
 use Rattle.octets.specs.Octets.{part}
 use Rattle.ledger_sheet.specs.Sheet.{sheetSize, rowSize, rowCount, rowsStart, deskSize, deskCount, rowAt, deskAt}
-use Rattle.ledger_changes.specs.Bytes.{headerBytes}
+use Rattle.ledger_layout.specs.Bytes.{headerBytes}
 use Rattle.ledger_layout.specs.Layout.{placeBytes, deskBytes}
 use Rattle.ledger_sheet.specs.Sheet.{used}
 use Rattle.ledger_convert.specs.Convert.{oldPlaceIn, oldDeskIn, oldBookOf}

@@ -8,10 +8,9 @@ use native.Mathlib.Omega.{arith}
 use Rattle.octets.proofs.Laws.{failed, passed}
 use Rattle.ledger_sheet.specs.declared.GapAnswer.the-variants.{Nothing}
 use Rattle.ledger_sheet.specs.Sheet.{rowCount}
-use Rattle.ledger_rows.specs.Ticks.{tickedAt}
-use Rattle.ledger_counts.specs.inner.Counts.{gapFrom}
+use Rattle.ledger_layout.specs.Ticks.{tickedAt}
 use Rattle.ledger_sheet.specs.Words.{gapWords}
-use Rattle.ledger_counts.proofs.Reports.{rowEnd, row-end-within, gap-next, gap-here, gap-none}
+use Rattle.ledger_counts.proofs.Reports.{gapFrom, gap-on, rowEnd, row-end-within, gap-next, gap-here, gap-none}
 use Rattle.ledger_counts.proofs.first_gap.Statement.{statement}
 use Rattle.ledger_counts.proofs.first_gap.Tie as tie
 
@@ -84,7 +83,7 @@ returns : tie.Need-returns Inv-loop μ-loop Inv-rows μ-rows
 returns c =
     let at = c .before .rows in
     let e : rowCount - at .row ≡ 0 = omega arith in
-    ap gapWords (at .inv .1) ∙ sym (rw e at (at .inv .2) ∙ gap-none _ _)
+    ap gapWords (at .inv .1) ∙ sym (rw e at (at .inv .2) ∙ gap-none _ _) ∙ gap-on _
 
 returns-2 : tie.Need-returns-2 Inv-loop μ-loop Inv-rows μ-rows
 returns-2 c =
@@ -96,7 +95,7 @@ returns-2 c =
     let unticked = failed (rw a at (c .before .before .is-ticked .ensures)) (c .before .if1 .taken) in
     let below : at .i < rowEnd s (rows .rows .row) = omega (arith, c .before .before .before .before .before .row-end .ensures) in
     rw (c .number-in .ensures, a)
-    (sym (rows .rows .inv .2 ∙ gap-here s (rows .rows .row) rowCount (omega arith) (at .i) below (rw a at (at .inv .2)) unticked))
+    (sym (rows .rows .inv .2 ∙ gap-here s (rows .rows .row) rowCount (omega arith) (at .i) below (rw a at (at .inv .2)) unticked) ∙ gap-on s)
 
 pub first-gap-spec : {M : Type 1} → statement M
 first-gap-spec =

@@ -4,7 +4,7 @@ use Prim.Native.Nat.{_+_, _*_, _≤_, _-_}
 use mathlib.Core.Path.{_≡_, sym}
 use native.Mathlib.Omega.{arith}
 use Rattle.ledger_model.specs.Positions.{rowLength, size}
-use Rattle.ledger_rows.specs.Ticks.{tickedAt, ticksIn}
+use Rattle.ledger_layout.specs.Ticks.{tickedAt, ticksIn}
 use Rattle.octets.specs.Lists.{table}
 use Rattle.ledger_counts.specs.inner.Words.{wordBits, blockWords, blockCount}
 use Rattle.ledger_counts.proofs.Missing.{size-none}

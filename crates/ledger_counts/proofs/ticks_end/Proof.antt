@@ -4,7 +4,7 @@ use mathlib.Core.Path.{_≡_, refl, sym, _∙_}
 use native.Mathlib.Omega.{arith}
 use lib.Count.{leading-le}
 use Rattle.ledger_model.specs.Positions.{rowLength}
-use Rattle.ledger_rows.specs.Ticks.{tickedAt}
+use Rattle.ledger_layout.specs.Ticks.{tickedAt}
 use Rattle.ledger_counts.specs.inner.Counts.{pastHighest}
 use Rattle.ledger_counts.proofs.Highest.{past-none}
 use Rattle.ledger_counts.specs.inner.Words.{wordBits, wordCount}

@@ -5,7 +5,7 @@ use mathlib.Core.List.{List}
 use mathlib.Core.Path.{_≡_}
 use lib.Dec.{eqb}
 use Rattle.ledger_model.specs.Positions.{rowLength}
-use Rattle.ledger_rows.specs.Ticks.{tickedAt}
+use Rattle.ledger_layout.specs.Ticks.{tickedAt}
 
 -- A word has 64 bits, and a row 16 words, which are counted in blocks of four.
 abbrev pub wordBits : ℕ

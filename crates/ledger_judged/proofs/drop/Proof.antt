@@ -1,10 +1,9 @@
 -- `ledger_judged::drop` meets its contract. Assumes nothing.
-use native.Mathlib.Omega.{arith}
-use mathlib.Core.Path.{ap, _∙_}
-use Rattle.ledger_sheet.specs.inner.Done.{done}
-use Rattle.ledger_model.specs.Step.{Drop}
-use Rattle.ledger_verdicts.proofs.Judged.{refused-is, accepted-is, desk-fine}
-use Rattle.ledger_judged.proofs.Calls.{by-rows}
+use mathlib.Core.List.{[], _∷_}
+use mathlib.Core.Path.{refl, ap, _∙_}
+use borrow.Author.Tests.{not-false, ltb-true}
+use Rattle.ledger_model.specs.Step.{Drop, refusals, effect, afterRefusal}
+use Rattle.ledger_verdicts.proofs.Judged.{refused-is, accepted-is, fine-is}
 use borrow.Author.Needs.{needs}
 use Rattle.ledger_judged.proofs.drop.Statement.{statement}
 use Rattle.ledger_judged.proofs.drop.Tie as tie
@@ -19,33 +18,34 @@ same-length : tie.Need-same-length
 same-length c = search needs
 
 returns : tie.Need-returns
+unfolding afterRefusal
 returns c =
     let judged = c .before .before .before in
     let g = judged .before .before .before .args in
-    let law = by-rows (Drop (g .desk)) (g .s .now) (judged .before .before .slice-known .given) in
     let why = c .before .verdict .given in
-    refused-is law (judged .desk-verdict .ensures) (why .0 .0) (why .1)
+    refused-is (Drop (g .desk)) (g .s .now) (judged .desk-verdict .ensures) (judged .before .before .slice-known .given) (λ _. refl) (why .0 .0) (why .1)
 
 enum-told : tie.Need-enum-told
 enum-told c = search needs
 
 clear-desk-requires : tie.Need-clear-desk-requires
+unfolding refusals
 clear-desk-requires c κs =
     let judged = c .before .before .before in
     let g = judged .before .before .before .args in
-    let fine = desk-fine (g .s .now) (g .desk) (judged .desk-verdict .ensures) (c .before .enum-told .given .1) in
-    (fine .0, omega (arith, fine .1))
+    let fine = fine-is (Drop (g .desk)) (g .s .now) (judged .desk-verdict .ensures) (c .before .enum-told .given .1) in
+    (fine .0, ltb-true _ _ (not-false _ (fine .1 .0)))
 
 same-length-2 : tie.Need-same-length-2
 same-length-2 c = search needs
 
 returns-2 : tie.Need-returns-2
+unfolding effect
 returns-2 c =
     let judged = c .before .before .before .before .before .before in
     let g = judged .before .before .before .args in
-    let law = by-rows (Drop (g .desk)) (g .s .now) (judged .before .before .slice-known .given) in
-    let accepted = accepted-is law (judged .desk-verdict .ensures) (c .before .before .before .before .enum-told .given .1) in
-    ap (λ t. (done, t)) (c .before .before .clear-desk .ensures) ∙ accepted
+    ap (λ t. (0 ∷ [], t)) (c .before .before .clear-desk .ensures)
+    ∙ accepted-is (Drop (g .desk)) (g .s .now) (judged .desk-verdict .ensures) (c .before .before .before .before .enum-told .given .1)
 
 pub drop-spec : {M : Type 1} → statement M
 drop-spec =

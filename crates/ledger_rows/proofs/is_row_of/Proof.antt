@@ -1,28 +1,33 @@
 -- `is_row_of` meets its contract. Assumes nothing.
 use Rattle.octets.proofs.Laws.{failed, passed}
-use Rattle.ledger_rows.specs.inner.Scans.{isRowOf}
+use native.Mathlib.Omega.{arith}
+use mathlib.Core.Path.{sym, _∙_}
+use Rattle.ledger_sheet.proofs.Clauses.{right-parts}
+use Rattle.ledger_rows.proofs.Scans.{row-of}
 use borrow.Author.Needs.{needs}
 use Rattle.ledger_rows.proofs.is_row_of.Statement.{statement}
 use Rattle.ledger_rows.proofs.is_row_of.Tie as tie
 
 is-used-requires : tie.Need-is-used-requires
-is-used-requires c κs = search needs
+is-used-requires c κs = (right-parts _ (c .before .pre .0) .long, omega arith)
 
 returns : tie.Need-returns
-unfolding isRowOf
-returns c = rw (failed (c .before .is-used .ensures) (c .if1 .taken))
+returns c =
+    let pre = c .before .before .before .pre in
+    sym (row-of _ _ _ (pre .1) ∙ rw (failed (c .before .is-used .ensures) (c .if1 .taken)))
 
 row-at-requires : tie.Need-row-at-requires
 row-at-requires c κs = search needs
 
 key-at-requires : tie.Need-key-at-requires
-key-at-requires c κs = search needs
+key-at-requires c κs = omega (arith, right-parts _ (c .before .before .before .before .pre .0) .long)
 
 returns-2 : tie.Need-returns-2
-unfolding isRowOf
 returns-2 c =
     let used = c .before .before in
-    rw (passed (used .before .is-used .ensures) (used .if1 .left), c .key-at .ensures, c .before .row-at .ensures)
+    let pre = used .before .before .before .pre in
+    sym (row-of _ _ _ (pre .1)
+    ∙ rw (passed (used .before .is-used .ensures) (used .if1 .left), c .key-at .ensures, c .before .row-at .ensures))
 
 pub is-row-of-spec : {M : Type 1} → statement M
 is-row-of-spec =

@@ -1,14 +1,17 @@
 -- `enrol_verdict` meets its contract. Assumes nothing.
+use mathlib.Core.Bool.{not}
 use mathlib.Core.List.{[], _∷_}
 use mathlib.Core.Path.{_≡_, sym, _∙_}
-use lib.Dec.{eqb}
 use borrow.Author.Tests.{eq-eqb, ne-eqb}
 use native.Mathlib.Omega.{arith}
 use borrow.Author.Needs.{needs}
 use Rattle.refusals.specs.Judge.{_when_, verdict}
-use Rattle.ledger_sheet.specs.Sheet.{rowCount}
-use Rattle.ledger_rows.specs.inner.Scans.{freeRow}
-use Rattle.ledger_verdicts.specs.inner.Verdicts.{badKey, enrolRules}
+use Rattle.keys.specs.Key.{validKey}
+use Rattle.ledger_model.specs.Book.{allUsed}
+use Rattle.ledger_model.specs.Step.{Enrol, refusals}
+use Rattle.ledger_layout.specs.Layout.{bookOf}
+use Rattle.ledger_layout.specs.inner.Rules.{rulesOn}
+use Rattle.ledger_rows.proofs.Scans.{is-full}
 use Rattle.ledger_verdicts.proofs.Judged.{Begun, begun, refused-first, stops, passes, none-left}
 use Rattle.ledger_verdicts.proofs.enrol_verdict.Statement.{statement}
 use Rattle.ledger_verdicts.proofs.enrol_verdict.Tie as tie
@@ -20,6 +23,7 @@ enum-told : tie.Need-enum-told
 enum-told c = search needs
 
 returns : tie.Need-returns
+unfolding refusals
 returns c =
     let judged = c .before .before in
     refused-first _ (judged .before .before .pre) _ (judged .key-verdict .ensures) _ (c .enum-told .given .1) _
@@ -28,19 +32,21 @@ enum-told-2 : tie.Need-enum-told-2
 enum-told-2 c = search needs
 
 -- Where the first two rules pass.
-begins : (c : tie.After-enum-told2) → let a = c .before .before .before .before .args in Begun (a .s .now) (badKey (a .key))
+begins : (c : tie.After-enum-told2) → let a = c .before .before .before .before .args in Begun (a .s .now) (22 when not (validKey (a .key)))
 begins c = begun _ (c .before .before .before .before .pre) _ (c .before .before .key-verdict .ensures) (omega arith) (c .enum-told2 .given .1)
 
 is-number-requires : tie.Need-is-number-requires
 is-number-requires c κs = search needs
 
 returns-2 : tie.Need-returns-2
+unfolding refusals
 returns-2 c = sym (begins (c .before .before) .rest _ ∙ stops _ _ (rw (c .before .is-number .ensures) at (c .if1 .taken)))
 
 has-key-requires : tie.Need-has-key-requires
-has-key-requires c κs = begins (c .before .before) .long
+has-key-requires c κs = begins (c .before .before) .right-is
 
 returns-3 : tie.Need-returns-3
+unfolding refusals
 returns-3 c =
     let number = c .before .before in
     sym (begins (number .before .before) .rest _
@@ -48,11 +54,12 @@ returns-3 c =
     ∙ stops _ _ (rw (c .before .has-key .ensures) at (c .if2 .taken)))
 
 free-row-requires : tie.Need-free-row-requires
-free-row-requires c κs = begins (c .before .before .before .before) .long
+free-row-requires c κs = begins (c .before .before .before .before) .right-is
 
 -- Where the first four pass.
 new : (c : tie.Else2) → let a = c .before .before .before .before .before .before .before .before .args in
-    verdict (enrolRules (a .key) (a .first) (a .s .now)) ≡ verdict ((24 when eqb (freeRow (a .s .now)) rowCount) ∷ [])
+    verdict (rulesOn (Enrol (a .key) (a .first)) (a .s .now)) ≡ verdict ((24 when allUsed (bookOf (a .s .now) .places)) ∷ [])
+unfolding refusals
 new c =
     let number = c .before .before in
     begins (number .before .before) .rest _
@@ -60,10 +67,10 @@ new c =
     ∙ passes _ _ (rw (c .before .has-key .ensures) at (c .if2 .left))
 
 returns-4 : tie.Need-returns-4
-returns-4 c = sym (new (c .before .before) ∙ stops _ _ (eq-eqb _ _ (rw (c .before .free-row .ensures) at (c .if3 .taken))))
+returns-4 c = sym (new (c .before .before) ∙ stops _ _ (sym (is-full _) ∙ eq-eqb _ _ (rw (c .before .free-row .ensures) at (c .if3 .taken))))
 
 returns-5 : tie.Need-returns-5
-returns-5 c = sym (new (c .before .before) ∙ passes _ _ (ne-eqb _ _ (rw (c .before .free-row .ensures) at (c .if3 .left))) ∙ none-left)
+returns-5 c = sym (new (c .before .before) ∙ passes _ _ (sym (is-full _) ∙ ne-eqb _ _ (rw (c .before .free-row .ensures) at (c .if3 .left))) ∙ none-left)
 
 pub enrol-verdict-spec : {M : Type 1} → statement M
 enrol-verdict-spec =

@@ -1,8 +1,11 @@
 -- `find_verdict` meets its contract. Assumes nothing.
+use mathlib.Core.Bool.{not}
 use mathlib.Core.Path.{sym, _∙_}
 use native.Mathlib.Omega.{arith}
 use borrow.Author.Needs.{needs}
-use Rattle.ledger_verdicts.specs.inner.Verdicts.{badKey}
+use Rattle.refusals.specs.Judge.{_when_}
+use Rattle.keys.specs.Key.{validKey}
+use Rattle.ledger_model.specs.Step.{refusals}
 use Rattle.ledger_verdicts.proofs.Judged.{Begun, begun, refused-first, stops, passes, none-left}
 use Rattle.ledger_verdicts.proofs.find_verdict.Statement.{statement}
 use Rattle.ledger_verdicts.proofs.find_verdict.Tie as tie
@@ -14,6 +17,7 @@ enum-told : tie.Need-enum-told
 enum-told c = search needs
 
 returns : tie.Need-returns
+unfolding refusals
 returns c =
     let judged = c .before .before in
     refused-first _ (judged .before .before .pre) _ (judged .key-verdict .ensures) _ (c .enum-told .given .1) _
@@ -22,16 +26,18 @@ enum-told-2 : tie.Need-enum-told-2
 enum-told-2 c = search needs
 
 -- Where the first two rules pass.
-begins : (c : tie.After-enum-told2) → let a = c .before .before .before .before .args in Begun (a .s .now) (badKey (a .key))
+begins : (c : tie.After-enum-told2) → let a = c .before .before .before .before .args in Begun (a .s .now) (22 when not (validKey (a .key)))
 begins c = begun _ (c .before .before .before .before .pre) _ (c .before .before .key-verdict .ensures) (omega arith) (c .enum-told2 .given .1)
 
 has-key-requires : tie.Need-has-key-requires
-has-key-requires c κs = begins c .long
+has-key-requires c κs = begins c .right-is
 
 returns-2 : tie.Need-returns-2
+unfolding refusals
 returns-2 c = sym (begins (c .before .before) .rest _ ∙ stops _ _ (rw (c .before .has-key .ensures) at (c .if1 .taken)))
 
 returns-3 : tie.Need-returns-3
+unfolding refusals
 returns-3 c = sym (begins (c .before .before) .rest _ ∙ passes _ _ (rw (c .before .has-key .ensures) at (c .if1 .left)) ∙ none-left)
 
 pub find-verdict-spec : {M : Type 1} → statement M

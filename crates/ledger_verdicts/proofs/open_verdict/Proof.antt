@@ -1,13 +1,15 @@
 -- `open_verdict` meets its contract. Assumes nothing.
-use mathlib.Core.Bool.{not}
+use mathlib.Core.Bool.{not, Bool·not-not}
 use mathlib.Core.List.{[], _∷_}
 use mathlib.Core.Path.{_≡_, sym, _∙_}
 use borrow.Author.Tests.{not-false, ltb-true}
 use native.Mathlib.Omega.{arith}
 use borrow.Author.Needs.{needs}
 use Rattle.refusals.specs.Judge.{_when_, verdict}
-use Rattle.ledger_sheet.specs.Sheet.{isClosed}
-use Rattle.ledger_verdicts.specs.inner.Verdicts.{noDesk, openRules}
+use Rattle.ledger_layout.specs.Layout.{bookOf}
+use Rattle.ledger_layout.specs.inner.Rules.{rulesOn}
+use Rattle.ledger_model.specs.Book.{desk, isDesk, isOpen}
+use Rattle.ledger_model.specs.Step.{Open, refusals}
 use Rattle.ledger_verdicts.proofs.Judged.{Begun, begun, refused-first, stops, passes, none-left}
 use Rattle.ledger_verdicts.proofs.open_verdict.Statement.{statement}
 use Rattle.ledger_verdicts.proofs.open_verdict.Tie as tie
@@ -19,6 +21,7 @@ enum-told : tie.Need-enum-told
 enum-told c = search needs
 
 returns : tie.Need-returns
+unfolding refusals
 returns c =
     let judged = c .before .before in
     refused-first _ (judged .before .before .pre) _ (judged .desk-number-verdict .ensures) _ (c .enum-told .given .1) _
@@ -27,28 +30,30 @@ enum-told-2 : tie.Need-enum-told-2
 enum-told-2 c = search needs
 
 -- Where the first two rules pass.
-begins : (c : tie.After-enum-told2) → let a = c .before .before .before .before .args in Begun (a .s .now) (noDesk (a .desk))
+begins : (c : tie.After-enum-told2) → let a = c .before .before .before .before .args in Begun (a .s .now) (21 when not (isDesk (a .desk)))
 begins c = begun _ (c .before .before .before .before .pre) _ (c .before .before .desk-number-verdict .ensures) (omega arith) (c .enum-told2 .given .1)
 
 is-row-requires : tie.Need-is-row-requires
-is-row-requires c κs = begins c .long
+is-row-requires c κs = begins c .right-is
 
 returns-2 : tie.Need-returns-2
-returns-2 c = sym (begins (c .before .before) .rest _ ∙ stops _ _ (rw (c .before .is-row .ensures) at (c .if1 .taken)))
+unfolding refusals
+returns-2 c = sym (begins (c .before .before) .rest _ ∙ stops _ _ (rw (c .before .is-row .ensures, Bool·not-not) at (c .if1 .taken)))
 
 is-closed-requires : tie.Need-is-closed-requires
-is-closed-requires c κs = let b = begins (c .before .before) in (b .long, ltb-true _ _ (not-false _ (b .passed)))
+is-closed-requires c κs = let b = begins (c .before .before) in (b .right-is, ltb-true _ _ (not-false _ (b .passed)))
 
 -- Where the first three pass.
 there : (c : tie.Else1) → let a = c .before .before .before .before .before .before .args in
-    verdict (openRules (a .desk) (a .row) (a .s .now)) ≡ verdict ((26 when not (isClosed (a .s .now) (a .desk))) ∷ [])
-there c = begins (c .before .before) .rest _ ∙ passes _ _ (rw (c .before .is-row .ensures) at (c .if1 .left))
+    verdict (rulesOn (Open (a .desk) (a .row)) (a .s .now)) ≡ verdict ((26 when isOpen (desk (bookOf (a .s .now)) (a .desk))) ∷ [])
+unfolding refusals
+there c = begins (c .before .before) .rest _ ∙ passes _ _ (rw (c .before .is-row .ensures, Bool·not-not) at (c .if1 .left))
 
 returns-3 : tie.Need-returns-3
-returns-3 c = sym (there (c .before .before) ∙ stops _ _ (rw (c .before .is-closed .ensures) at (c .if2 .taken)))
+returns-3 c = sym (there (c .before .before) ∙ stops _ _ (rw (c .before .is-closed .ensures, Bool·not-not) at (c .if2 .taken)))
 
 returns-4 : tie.Need-returns-4
-returns-4 c = sym (there (c .before .before) ∙ passes _ _ (rw (c .before .is-closed .ensures) at (c .if2 .left)) ∙ none-left)
+returns-4 c = sym (there (c .before .before) ∙ passes _ _ (rw (c .before .is-closed .ensures, Bool·not-not) at (c .if2 .left)) ∙ none-left)
 
 pub open-verdict-spec : {M : Type 1} → statement M
 open-verdict-spec =

@@ -1,5 +1,8 @@
 -- `desks::clear_desk` meets its contract. Assumes nothing.
-use Rattle.ledger_changes.specs.inner.Bytes.{clearDesk}
+use native.Mathlib.Omega.{arith}
+use mathlib.Core.Path.{_∙_}
+use Rattle.ledger_sheet.proofs.Clauses.{right-parts}
+use Rattle.ledger_layout.proofs.Writers.{clear-on}
 use borrow.Author.Needs.{needs}
 use Rattle.ledger_changes.proofs.desks.clear_desk.Statement.{statement}
 use Rattle.ledger_changes.proofs.desks.clear_desk.Tie as tie
@@ -8,14 +11,17 @@ desk-at-requires : tie.Need-desk-at-requires
 desk-at-requires c κs = search needs
 
 clear-requires : tie.Need-clear-requires
-clear-requires c κs = search needs
+clear-requires c κs = omega (arith, right-parts _ (c .before .before .before .pre .0) .long)
 
 same-length : tie.Need-same-length
 same-length c = search needs
 
 returns : tie.Need-returns
-unfolding clearDesk
-returns c = rw (← c .before .before .before .desk-at .ensures) (c .before .before .clear .ensures)
+returns c =
+    let cleared = c .before .before in
+    let known = cleared .before .before .before in
+    (rw (cleared .before .desk-at .ensures) at (cleared .clear .ensures))
+    ∙ clear-on _ (known .slice-known .given) (known .before .pre .0) _ (known .before .pre .1)
 
 pub clear-desk-spec : {M : Type 1} → statement M
 clear-desk-spec = tie.close (tie.spec desk-at-requires clear-requires same-length returns)

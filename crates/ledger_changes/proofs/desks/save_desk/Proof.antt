@@ -1,6 +1,13 @@
 -- `desks::save_desk` meets its contract. Assumes nothing.
+use mathlib.Core.List.{[], _∷_}
+use mathlib.Core.Path.{ap, _∙_}
+use borrow.Author.Tests.{lt-ltb}
 use Rattle.octets.proofs.Laws.{failed, passed}
-use Rattle.ledger_changes.specs.inner.Bytes.{saveAt}
+use Rattle.ledger_model.specs.Book.{closed, putDesk}
+use Rattle.ledger_layout.specs.Layout.{layout, bookOf, laidOut}
+use Rattle.ledger_layout.proofs.Right.{layout-right, reads-back}
+use Rattle.ledger_layout.proofs.Writers.{stored-fine}
+use Rattle.ledger_changes.proofs.Saves.{save-current, save-stale}
 use borrow.Author.Needs.{needs}
 use Rattle.ledger_changes.proofs.desks.save_desk.Statement.{statement}
 use Rattle.ledger_changes.proofs.desks.save_desk.Tie as tie
@@ -15,29 +22,35 @@ same-length : tie.Need-same-length
 same-length c = search needs
 
 returns : tie.Need-returns
-unfolding saveAt
 returns c =
-    let stale = c .before .before .before .before in
-    rw (failed (stale .before .is-current .ensures) (stale .if1 .taken), c .before .before .clear-desk .ensures)
+    let judged = c .before .before .before .before in
+    let pre = judged .before .before .before .before .pre in
+    ap (λ t. (31 ∷ [], t)) (c .before .before .clear-desk .ensures)
+    ∙ ap laidOut (save-stale _ _ (lt-ltb _ _ (pre .1)) (pre .2) (failed (judged .before .is-current .ensures) (judged .if1 .taken)))
 
 store-requires : tie.Need-store-requires
 store-requires c κs = search needs
 
 clear-desk-requires-2 : tie.Need-clear-desk-requires-2
-clear-desk-requires-2 c κs = search needs
+clear-desk-requires-2 c κs =
+    let stored = c .before .before .before in
+    let known = stored .before .before .before .before .before in
+    let pre = known .before .pre in
+    (rw (stored .store .ensures) (layout-right _ (stored-fine _ (known .slice-known .given) (pre .0) _ (pre .2))), pre .1)
 
 same-length-2 : tie.Need-same-length-2
 same-length-2 c = search needs
 
 returns-2 : tie.Need-returns-2
-unfolding saveAt
 returns-2 c =
-    let current = c .before .before .before .before .before .before .before .before in
-    rw (
-      passed (current .before .is-current .ensures) (current .if1 .left),
-      c .before .before .clear-desk2 .ensures,
-      c .before .before .before .before .before .before .store .ensures,
-    )
+    let cleared = c .before .before in
+    let stored = cleared .before .before .before .before in
+    let judged = stored .before .before in
+    let known = judged .before .before .before in
+    let pre = known .before .pre in
+    let fine = stored-fine _ (known .slice-known .given) (pre .0) _ (pre .2) in
+    ap (λ t. (0 ∷ [], t)) (rw (stored .store .ensures, reads-back _ fine) at (cleared .clear-desk2 .ensures))
+    ∙ ap laidOut (save-current _ _ (lt-ltb _ _ (pre .1)) (pre .2) (passed (judged .before .is-current .ensures) (judged .if1 .left)))
 
 pub save-desk-spec : {M : Type 1} → statement M
 save-desk-spec =

@@ -1,8 +1,12 @@
 -- `rows::enrol_row` meets its contract. Assumes nothing.
 use native.Mathlib.Omega.{arith}
+use mathlib.Core.Path.{_∙_}
 use Rattle.octets.proofs.Laws.{number-lt}
 use Rattle.ledger_sheet.specs.Sheet.{headerNumberSize, usedAt}
-use Rattle.ledger_changes.proofs.Written.{enrol-written}
+use Rattle.ledger_sheet.proofs.Clauses.{right-parts}
+use Rattle.ledger_rows.proofs.Scans.{free-in}
+use Rattle.ledger_layout.proofs.Writers.{enrol-on}
+use Rattle.ledger_changes.specs.inner.Rows.{blankRow, blankTicks}
 use borrow.Author.Needs.{needs}
 use Rattle.ledger_changes.proofs.rows.enrol_row.Statement.{statement}
 use Rattle.ledger_changes.proofs.rows.enrol_row.Tie as tie
@@ -11,16 +15,24 @@ free-row-requires : tie.Need-free-row-requires
 free-row-requires c κs = search needs
 
 rows-used-requires : tie.Need-rows-used-requires
-rows-used-requires c κs = search needs
+rows-used-requires c κs = right-parts _ (c .before .before .before .before .pre .0) .long
 
 row-at-requires : tie.Need-row-at-requires
-row-at-requires c κs = search needs
+row-at-requires c κs =
+    let found = c .before .before .before in
+    omega (arith, found .free-row .ensures, free-in _ (found .before .before .before .pre .1))
 
 blank-row-requires : tie.Need-blank-row-requires
 blank-row-requires c κs = search needs
 
 write-row-requires : tie.Need-write-row-requires
-write-row-requires c κs = search needs
+write-row-requires c κs =
+    let found = c .before .before .before .before .before in
+    let pre = found .before .before .before .pre in
+    let long = right-parts _ (pre .0) .long in
+    let low = free-in _ (pre .1) in
+    let is = found .free-row .ensures in
+    search needs
 
 add-write-be : tie.Need-add-write-be
 add-write-be c =
@@ -29,22 +41,32 @@ add-write-be c =
     omega (arith, number-lt (known .before .args .s .now) usedAt headerNumberSize (known .slice-known .given), counted .rows-used .ensures)
 
 write-be-requires : tie.Need-write-be-requires
-write-be-requires c κs = search needs
+write-be-requires c κs =
+    let row = c .before .before .before in
+    let long = right-parts _ (row .before .before .before .before .before .before .before .before .before .pre .0) .long in
+    omega (arith, row .write-row .kept .0)
 
 cast-result : tie.Need-cast-result
-cast-result c = search needs
+cast-result c =
+    let found = c .before .before .before .before .before .before .before .before .before .before .before .before in
+    omega (arith, found .free-row .ensures, free-in _ (found .before .before .before .pre .1))
 
 same-length : tie.Need-same-length
 same-length c = search needs
 
 returns : tie.Need-returns
+unfolding blankRow blankTicks
 returns c =
     let row = c .before .before .before .before .before .before in
-    let place = row .before .before .row-at .ensures in
-    let found = row .before .before .before .before .before .before .free-row .ensures in
-    let used = row .before .before .before .before .rows-used .ensures in
-    let counted = rw used at (c .before .before .write-be .ensures) in
-    (found, rw (← found) (enrol-written _ _ _ _ (row .before .blank-row .ensures) (rw place at (row .write-row .ensures)) counted))
+    let counted = row .before .before .before .before in
+    let found = counted .before .before in
+    let known = found .before .before in
+    let pre = known .before .pre in
+    (found .free-row .ensures,
+    rw (found .free-row .ensures)
+    ((rw (counted .rows-used .ensures, row .write-row .ensures, row .before .before .row-at .ensures, row .before .blank-row .ensures, found .free-row .ensures)
+    at (c .before .before .write-be .ensures))
+    ∙ enrol-on _ (known .slice-known .given) (pre .0) _ _ (pre .1)))
 
 pub enrol-row-spec : {M : Type 1} → statement M
 enrol-row-spec =

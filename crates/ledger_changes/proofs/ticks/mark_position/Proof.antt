@@ -7,7 +7,7 @@ use lib.ListN.{getD}
 use borrow.Author.Tests.{eqb-true, eqb-false}
 use Rattle.octets.proofs.Laws.{failed, passed}
 use Rattle.ledger_sheet.specs.Sheet.{ticksAt, byteBits}
-use Rattle.ledger_rows.specs.Ticks.{tickedAt}
+use Rattle.ledger_layout.specs.Ticks.{tickedAt}
 use Rattle.ledger_changes.specs.inner.Rows.{setTick, clearTick}
 use Rattle.ledger_rows.proofs.Bits.{bit-room, bit-under}
 use Rattle.ledger_changes.proofs.Marks.{mark-outside, mark-same, mark-changed}
