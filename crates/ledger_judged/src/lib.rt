@@ -1,12 +1,13 @@
 // The calls that change a sheet, where it is known whether the sheet is right. Each leaves a right sheet right (`stays-right`), so calls that are
 // made one after the other need one check of the sheet.
+pub mod verdicts;
+
 use ledger_changes::desks;
 use ledger_changes::rows;
 use ledger_changes::ticks;
 use ledger_sheet::Answer;
 use ledger_sheet::RowAnswer;
-use ledger_verdicts as verdicts;
-use ledger_verdicts::Verdict;
+use crate::verdicts::Verdict;
 ghost use mathlib.Core.Path.{_≡_};
 ghost use Rattle.ledger_model.specs.Step.{Enrol, Open, Mark, Save, Drop, Strike};
 ghost use Rattle.ledger_sheet.specs.Sheet.{right};

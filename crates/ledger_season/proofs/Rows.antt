@@ -12,13 +12,13 @@ use Rattle.refusals.specs.declared.Refusal.{Refusal}
 use Rattle.ledger_model.specs.Positions.{rowLength, Positions, positionNumber, size, missing, least}
 use Rattle.ledger_model.specs.Book.{Place, free, row}
 use Rattle.ledger_model.specs.Book as Book
-use Rattle.ledger_model.specs.Counts.{firstGapFrom}
+use Rattle.ledger_model.specs.Counts.{lowestNumber, firstGapFrom}
 use Rattle.ledger_model.specs.Tally.{ticked}
 use Rattle.ledger_sheet.specs.Sheet.{rowCount, rowAt, isUsed, keyAt, firstNumberAt}
 use Rattle.ledger_sheet.specs.Words.{reportAnswerWords}
 use Rattle.ledger_sheet.specs.declared.ReportAnswer.the-variants as Report
 use Rattle.ledger_layout.specs.Ticks.{ticksIn}
-use Rattle.ledger_counts.specs.inner.Counts.{lowestWords, reportWords}
+use Rattle.ledger_counts.specs.inner.Counts.{reportWords}
 use Rattle.ledger_counts.proofs.Reports.{row-count, end-within}
 use Rattle.ledger_layout.specs.Layout.{placeIn, bookOf}
 use Rattle.octets.proofs.Lists.{length-table, getD-table}
@@ -67,11 +67,11 @@ module _ (s : List ℕ) (r : ℕ) where
   whole-says t = by lowestMissing refl
     where
       by : (o : Option ℕ) → lowestMissing ≡ o
-          → 0 ∷ t ∷ 0 ∷ [] ≡ 0 ∷ size ticks ∷ size (missing ticks) ∷ lowestWords s (rowAt r) lowestMissing
+          → 0 ∷ t ∷ 0 ∷ [] ≡ 0 ∷ size ticks ∷ size (missing ticks) ∷ lowestNumber (keyAt s (rowAt r)) (firstNumberAt s (rowAt r)) lowestMissing
           → Whole t
       by none e h = let k : 0 ∷ t ∷ 0 ∷ [] ≡ 0 ∷ size ticks ∷ size (missing ticks) ∷ [] = rw e at h in
           record { ticked-is = cc; missing-is = cc; none-is = e }
-      by (some i) e h = let k : 0 ∷ t ∷ 0 ∷ [] ≡ 0 ∷ size ticks ∷ size (missing ticks) ∷ lowestWords s (rowAt r) (some i) = rw e at h in
+      by (some i) e h = let k : 0 ∷ t ∷ 0 ∷ [] ≡ 0 ∷ size ticks ∷ size (missing ticks) ∷ lowestNumber (keyAt s (rowAt r)) (firstNumberAt s (rowAt r)) (some i) = rw e at h in
           absurd (false≢true cc)
 
   pub gaps-say : (t m l : ℕ) → reportAnswerWords (Report.Gaps t m l) ≡ reportWords s (rowAt r) → Gaps t m l
@@ -79,11 +79,11 @@ module _ (s : List ℕ) (r : ℕ) where
   gaps-say t m l = by lowestMissing refl
     where
       by : (o : Option ℕ) → lowestMissing ≡ o
-          → 0 ∷ t ∷ m ∷ l ∷ [] ≡ 0 ∷ size ticks ∷ size (missing ticks) ∷ lowestWords s (rowAt r) lowestMissing
+          → 0 ∷ t ∷ m ∷ l ∷ [] ≡ 0 ∷ size ticks ∷ size (missing ticks) ∷ lowestNumber (keyAt s (rowAt r)) (firstNumberAt s (rowAt r)) lowestMissing
           → Gaps t m l
       by none e h = let k : 0 ∷ t ∷ m ∷ l ∷ [] ≡ 0 ∷ size ticks ∷ size (missing ticks) ∷ [] = rw e at h in
           absurd (false≢true cc)
-      by (some i) e h = let k : 0 ∷ t ∷ m ∷ l ∷ [] ≡ 0 ∷ size ticks ∷ size (missing ticks) ∷ lowestWords s (rowAt r) (some i) = rw e at h in
+      by (some i) e h = let k : 0 ∷ t ∷ m ∷ l ∷ [] ≡ 0 ∷ size ticks ∷ size (missing ticks) ∷ lowestNumber (keyAt s (rowAt r)) (firstNumberAt s (rowAt r)) (some i) = rw e at h in
           record { ticked-is = cc; missing-is = cc; at = i; some-is = e; lowest-is = cc }
 
   pub not-refused : (why : Refusal) → reportAnswerWords (Report.Refused why) ≡ reportWords s (rowAt r) → ⊥

@@ -7,7 +7,7 @@ use Rattle.ledger_model.specs.Step.{Ask, RowReport, refusals, asked, afterRefus
 use Rattle.ledger_sheet.proofs.Clauses.{right-parts}
 use Rattle.ledger_layout.proofs.Readers.{row-there, row-read-on}
 use Rattle.ledger_counts.specs.inner.Counts.{reportWords}
-use Rattle.ledger_verdicts.proofs.Judged.{refused-is, answered-is, fine-is}
+use Rattle.ledger_judged.proofs.Judged.{refused-is, answered-is, fine-is}
 use borrow.Author.Needs.{needs}
 use Rattle.ledger.proofs.row_report.Statement.{statement}
 use Rattle.ledger.proofs.row_report.Tie as tie

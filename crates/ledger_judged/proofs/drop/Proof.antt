@@ -3,7 +3,7 @@ use mathlib.Core.List.{[], _∷_}
 use mathlib.Core.Path.{refl, ap, _∙_}
 use borrow.Author.Tests.{not-false, ltb-true}
 use Rattle.ledger_model.specs.Step.{Drop, refusals, effect, afterRefusal}
-use Rattle.ledger_verdicts.proofs.Judged.{refused-is, accepted-is, fine-is}
+use Rattle.ledger_judged.proofs.Judged.{refused-is, accepted-is, fine-is}
 use borrow.Author.Needs.{needs}
 use Rattle.ledger_judged.proofs.drop.Statement.{statement}
 use Rattle.ledger_judged.proofs.drop.Tie as tie

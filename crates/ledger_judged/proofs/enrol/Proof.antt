@@ -1,7 +1,7 @@
 -- `ledger_judged::enrol` meets its contract. Assumes nothing.
 use mathlib.Core.Path.{refl}
 use Rattle.ledger_model.specs.Step.{Enrol, refusals, effect, afterRefusal}
-use Rattle.ledger_verdicts.proofs.Judged.{refused-is, accepted-is, fine-is}
+use Rattle.ledger_judged.proofs.Judged.{refused-is, accepted-is, fine-is}
 use borrow.Author.Needs.{needs}
 use Rattle.ledger_judged.proofs.enrol.Statement.{statement}
 use Rattle.ledger_judged.proofs.enrol.Tie as tie

@@ -4,7 +4,7 @@ use mathlib.Core.Path.{refl, ap, _∙_}
 use borrow.Author.Tests.{not-false, ltb-true}
 use Rattle.ledger_model.specs.Step.{Open, refusals, effect, afterRefusal}
 use Rattle.ledger_layout.proofs.Readers.{row-there}
-use Rattle.ledger_verdicts.proofs.Judged.{refused-is, accepted-is, fine-is}
+use Rattle.ledger_judged.proofs.Judged.{refused-is, accepted-is, fine-is}
 use borrow.Author.Needs.{needs}
 use Rattle.ledger_judged.proofs.open.Statement.{statement}
 use Rattle.ledger_judged.proofs.open.Tie as tie

@@ -4,7 +4,7 @@ use borrow.Author.Tests.{not-false, ltb-true}
 use Rattle.ledger_model.specs.Step.{Save, Drop, refusals, afterRefusal}
 use Rattle.ledger_layout.specs.Layout.{call}
 use Rattle.ledger_layout.proofs.Rules.{on-right}
-use Rattle.ledger_verdicts.proofs.Judged.{fine-is, begun-refused}
+use Rattle.ledger_judged.proofs.Judged.{fine-is, begun-refused}
 use borrow.Author.Needs.{needs}
 use Rattle.ledger_judged.proofs.save.Statement.{statement}
 use Rattle.ledger_judged.proofs.save.Tie as tie

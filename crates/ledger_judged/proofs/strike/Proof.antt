@@ -2,7 +2,7 @@
 use mathlib.Core.List.{[], _∷_}
 use mathlib.Core.Path.{refl, ap, _∙_}
 use Rattle.ledger_model.specs.Step.{Strike, refusals, effect, afterRefusal}
-use Rattle.ledger_verdicts.proofs.Judged.{refused-is, accepted-is, fine-is}
+use Rattle.ledger_judged.proofs.Judged.{refused-is, accepted-is, fine-is}
 use borrow.Author.Needs.{needs}
 use Rattle.ledger_judged.proofs.strike.Statement.{statement}
 use Rattle.ledger_judged.proofs.strike.Tie as tie

@@ -12,9 +12,9 @@ use Rattle.ledger_model.specs.Step.{Enrol, refusals}
 use Rattle.ledger_layout.specs.Layout.{bookOf}
 use Rattle.ledger_layout.specs.inner.Rules.{rulesOn}
 use Rattle.ledger_rows.proofs.Scans.{is-full}
-use Rattle.ledger_verdicts.proofs.Judged.{Begun, begun, refused-first, stops, passes, none-left}
-use Rattle.ledger_verdicts.proofs.enrol_verdict.Statement.{statement}
-use Rattle.ledger_verdicts.proofs.enrol_verdict.Tie as tie
+use Rattle.ledger_judged.proofs.Judged.{Begun, begun, refused-first, stops, passes, none-left}
+use Rattle.ledger_judged.proofs.verdicts.enrol_verdict.Statement.{statement}
+use Rattle.ledger_judged.proofs.verdicts.enrol_verdict.Tie as tie
 
 key-verdict-requires : tie.Need-key-verdict-requires
 key-verdict-requires c κs = search needs

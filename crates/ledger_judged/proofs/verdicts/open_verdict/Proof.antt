@@ -10,9 +10,9 @@ use Rattle.ledger_layout.specs.Layout.{bookOf}
 use Rattle.ledger_layout.specs.inner.Rules.{rulesOn}
 use Rattle.ledger_model.specs.Book.{desk, isDesk, isOpen}
 use Rattle.ledger_model.specs.Step.{Open, refusals}
-use Rattle.ledger_verdicts.proofs.Judged.{Begun, begun, refused-first, stops, passes, none-left}
-use Rattle.ledger_verdicts.proofs.open_verdict.Statement.{statement}
-use Rattle.ledger_verdicts.proofs.open_verdict.Tie as tie
+use Rattle.ledger_judged.proofs.Judged.{Begun, begun, refused-first, stops, passes, none-left}
+use Rattle.ledger_judged.proofs.verdicts.open_verdict.Statement.{statement}
+use Rattle.ledger_judged.proofs.verdicts.open_verdict.Tie as tie
 
 desk-number-verdict-requires : tie.Need-desk-number-verdict-requires
 desk-number-verdict-requires c κs = search needs

@@ -20,9 +20,9 @@ use Rattle.ledger_layout.specs.Layout.{layout, bookOf, call, onSheet}
 use Rattle.ledger_layout.specs.inner.Rules.{rulesOn}
 use Rattle.ledger_layout.proofs.Rules.{refused-on, accepted-on, answered-on, given-has}
 use Rattle.ledger_layout.proofs.Rules as Rules
-use Rattle.ledger_verdicts.specs.declared.Verdict.{Verdict}
-use Rattle.ledger_verdicts.specs.declared.Verdict.the-variants as Case
-use Rattle.ledger_verdicts.specs.inner.Verdicts.{verdictNumber}
+use Rattle.ledger_judged.specs.declared.verdicts.Verdict.{Verdict}
+use Rattle.ledger_judged.specs.declared.verdicts.Verdict.the-variants as Case
+use Rattle.ledger_judged.specs.inner.Verdicts.{verdictNumber}
 
 -- the number that a verdict gives, or 0
 module _ (rows : List (Rule ℕ)) {v : Verdict} (e : verdictNumber v ≡ verdict rows) where

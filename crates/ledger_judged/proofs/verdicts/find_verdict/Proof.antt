@@ -6,9 +6,9 @@ use borrow.Author.Needs.{needs}
 use Rattle.refusals.specs.Judge.{_when_}
 use Rattle.keys.specs.Key.{validKey}
 use Rattle.ledger_model.specs.Step.{refusals}
-use Rattle.ledger_verdicts.proofs.Judged.{Begun, begun, refused-first, stops, passes, none-left}
-use Rattle.ledger_verdicts.proofs.find_verdict.Statement.{statement}
-use Rattle.ledger_verdicts.proofs.find_verdict.Tie as tie
+use Rattle.ledger_judged.proofs.Judged.{Begun, begun, refused-first, stops, passes, none-left}
+use Rattle.ledger_judged.proofs.verdicts.find_verdict.Statement.{statement}
+use Rattle.ledger_judged.proofs.verdicts.find_verdict.Tie as tie
 
 key-verdict-requires : tie.Need-key-verdict-requires
 key-verdict-requires c κs = search needs

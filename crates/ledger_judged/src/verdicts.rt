@@ -8,7 +8,7 @@ ghost use Rattle.refusals.specs.Judge.{verdict};
 ghost use Rattle.ledger_model.specs.Step.{Enrol, Ask, Find, RowReport, Open, Drop, Strike};
 ghost use Rattle.ledger_sheet.specs.Sheet.{right};
 ghost use Rattle.ledger_layout.specs.inner.Rules.{rulesOn};
-ghost use Rattle.ledger_verdicts.specs.inner.Verdicts.{keyRules, deskNumberRules, verdictNumber};
+ghost use Rattle.ledger_judged.specs.inner.Verdicts.{keyRules, deskNumberRules, verdictNumber};
 
 // What a call is judged: it may be made, or it is refused.
 pub enum Verdict {

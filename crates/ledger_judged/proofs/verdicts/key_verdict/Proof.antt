@@ -1,9 +1,9 @@
 -- `key_verdict` meets its contract. Assumes nothing.
 use mathlib.Core.Path.{sym, _∙_}
 use borrow.Author.Needs.{needs}
-use Rattle.ledger_verdicts.proofs.Judged.{stops, passes, none-left}
-use Rattle.ledger_verdicts.proofs.key_verdict.Statement.{statement}
-use Rattle.ledger_verdicts.proofs.key_verdict.Tie as tie
+use Rattle.ledger_judged.proofs.Judged.{stops, passes, none-left}
+use Rattle.ledger_judged.proofs.verdicts.key_verdict.Statement.{statement}
+use Rattle.ledger_judged.proofs.verdicts.key_verdict.Tie as tie
 
 returns : tie.Need-returns
 returns c = sym (stops _ _ (c .if1 .taken))

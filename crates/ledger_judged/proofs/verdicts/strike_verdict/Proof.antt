@@ -7,9 +7,9 @@ use Rattle.refusals.specs.Judge.{_when_}
 use Rattle.ledger_layout.specs.Layout.{bookOf}
 use Rattle.ledger_model.specs.Book.{place, isFree}
 use Rattle.ledger_model.specs.Step.{refusals}
-use Rattle.ledger_verdicts.proofs.Judged.{Begun, begun, refused-first, stops, passes, none-left}
-use Rattle.ledger_verdicts.proofs.strike_verdict.Statement.{statement}
-use Rattle.ledger_verdicts.proofs.strike_verdict.Tie as tie
+use Rattle.ledger_judged.proofs.Judged.{Begun, begun, refused-first, stops, passes, none-left}
+use Rattle.ledger_judged.proofs.verdicts.strike_verdict.Statement.{statement}
+use Rattle.ledger_judged.proofs.verdicts.strike_verdict.Tie as tie
 
 row-verdict-requires : tie.Need-row-verdict-requires
 row-verdict-requires c κs = search needs

@@ -7,9 +7,9 @@ use borrow.Author.Needs.{needs}
 use Rattle.refusals.specs.Judge.{_when_}
 use Rattle.ledger_model.specs.Book.{isDesk}
 use Rattle.ledger_model.specs.Step.{refusals}
-use Rattle.ledger_verdicts.proofs.Judged.{Begun, begun, refused-first, stops, passes, none-left}
-use Rattle.ledger_verdicts.proofs.desk_verdict.Statement.{statement}
-use Rattle.ledger_verdicts.proofs.desk_verdict.Tie as tie
+use Rattle.ledger_judged.proofs.Judged.{Begun, begun, refused-first, stops, passes, none-left}
+use Rattle.ledger_judged.proofs.verdicts.desk_verdict.Statement.{statement}
+use Rattle.ledger_judged.proofs.verdicts.desk_verdict.Tie as tie
 
 desk-number-verdict-requires : tie.Need-desk-number-verdict-requires
 desk-number-verdict-requires c κs = search needs

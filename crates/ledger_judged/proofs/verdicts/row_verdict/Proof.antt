@@ -3,9 +3,9 @@ use mathlib.Core.Bool.{Bool·not-not}
 use mathlib.Core.Path.{sym, _∙_}
 use Rattle.octets.proofs.Laws.{passed}
 use Rattle.ledger_model.specs.Step.{refusals}
-use Rattle.ledger_verdicts.proofs.Judged.{stops, passes, none-left}
-use Rattle.ledger_verdicts.proofs.row_verdict.Statement.{statement}
-use Rattle.ledger_verdicts.proofs.row_verdict.Tie as tie
+use Rattle.ledger_judged.proofs.Judged.{stops, passes, none-left}
+use Rattle.ledger_judged.proofs.verdicts.row_verdict.Statement.{statement}
+use Rattle.ledger_judged.proofs.verdicts.row_verdict.Tie as tie
 
 returns : tie.Need-returns
 returns c = sym (stops _ _ (rw (c .before .before .pre) at (c .if1 .taken)))

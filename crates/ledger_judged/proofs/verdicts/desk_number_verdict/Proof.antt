@@ -2,9 +2,9 @@
 use mathlib.Core.Bool.{not}
 use mathlib.Core.Path.{sym, ap, _∙_}
 use borrow.Author.Tests.{lt-ltb, le-ltb}
-use Rattle.ledger_verdicts.proofs.Judged.{stops, passes, none-left}
-use Rattle.ledger_verdicts.proofs.desk_number_verdict.Statement.{statement}
-use Rattle.ledger_verdicts.proofs.desk_number_verdict.Tie as tie
+use Rattle.ledger_judged.proofs.Judged.{stops, passes, none-left}
+use Rattle.ledger_judged.proofs.verdicts.desk_number_verdict.Statement.{statement}
+use Rattle.ledger_judged.proofs.verdicts.desk_number_verdict.Tie as tie
 
 returns : tie.Need-returns
 returns c = sym (stops _ _ (c .if1 .taken))

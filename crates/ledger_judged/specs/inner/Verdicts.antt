@@ -6,8 +6,8 @@ use Rattle.refusals.specs.Table.{numberOf}
 use Rattle.refusals.specs.Judge.{Rule, _when_}
 use Rattle.keys.specs.Key.{validKey}
 use Rattle.ledger_model.specs.Book.{isDesk}
-use Rattle.ledger_verdicts.specs.declared.Verdict.{Verdict}
-use Rattle.ledger_verdicts.specs.declared.Verdict.the-variants as Case
+use Rattle.ledger_judged.specs.declared.verdicts.Verdict.{Verdict}
+use Rattle.ledger_judged.specs.declared.verdicts.Verdict.the-variants as Case
 
 abbrev pub keyRules : (fine : Bool) (key : ℕ) → List (Rule ℕ)
 keyRules fine key = (20 when not fine) ∷ (22 when not (validKey key)) ∷ []

@@ -1,2 +1,0 @@
--- What the contracts of `ledger_verdicts` cite.
-pub mod inner
