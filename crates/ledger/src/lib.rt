@@ -45,7 +45,7 @@ pub fn find(s: &[u8], key: u64) -> RowAnswer
     if let Verdict::Refused(why) = verdict {
         return RowAnswer::Refused(why);
     }
-    RowAnswer::Row(ledger_rows::find_row(s, key) as u32)
+    RowAnswer::Row(ledger_layout::lookup::find_row(s, key) as u32)
 }
 
 // Opens a row at a desk.

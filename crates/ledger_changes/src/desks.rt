@@ -89,7 +89,7 @@ fn is_current(s: &[u8], d: usize) -> bool
     requires { ⌜ (right (now s) ≡ true) × (d < deskCount) × (isOpen (desk (bookOf (now s)) d) ≡ true) ⌝ }
     ensures { λ r. ⌜ r ≡ isCurrent d (bookOf (now (s .entry))) ⌝ }
 {
-    let row = sheet::row_at(ledger_rows::desk_row(s, d));
+    let row = sheet::row_at(ledger_layout::lookup::desk_row(s, d));
     octets::is_same(s, row, s, sheet::desk_at(d) + sheet::OPENED_AT, sheet::ROW)
 }
 
@@ -98,6 +98,6 @@ fn store(s: &mut [u8], d: usize)
     requires { ⌜ (right (now s) ≡ true) × (d < deskCount) × (isOpen (desk (bookOf (now s)) d) ≡ true) ⌝ }
     ensures { λ _. ⌜ now (s .exit) ≡ layout (stored d (bookOf (now (s .entry)))) ⌝ }
 {
-    let row = sheet::row_at(ledger_rows::desk_row(s, d));
+    let row = sheet::row_at(ledger_layout::lookup::desk_row(s, d));
     octets::copy(s, sheet::desk_at(d) + sheet::WORKED_AT, row, sheet::ROW);
 }

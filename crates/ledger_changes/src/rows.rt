@@ -75,7 +75,7 @@ pub fn enrol_row(s: &mut [u8], key: u64, first: u32) -> u32
     ensures { λ r. ⌜ r ≡ lowestFree (bookOf (now (s .entry)) .places) ⌝ }
     ensures { λ r. ⌜ now (s .exit) ≡ layout (putPlace r (row key first noTicks) (bookOf (now (s .entry)))) ⌝ }
 {
-    let row = ledger_rows::free_row(s);
+    let row = ledger_layout::lookup::free_row(s);
     let used = right::rows_used(s) as u64;
     write_row(s, sheet::row_at(row), blank_row(key, first));
     numbers::write_be(s, sheet::USED_AT, sheet::NUMBER, used + 1);

@@ -45,9 +45,9 @@ fn mark_position(row: &mut [u8], i: usize, on: bool) -> Answer
     if i >= POSITIONS {
         return Answer::Refused(Refusal::OutsideRow);
     }
-    let ticked = ledger_rows::is_ticked(row, 0, i);
+    let ticked = ledger_layout::lookup::is_ticked(row, 0, i);
     let at = sheet::TICKS_AT + i / sheet::BYTE_BITS;
-    let bit = ledger_rows::tick_bit(i % sheet::BYTE_BITS);
+    let bit = ledger_layout::lookup::tick_bit(i % sheet::BYTE_BITS);
     if on {
         if ticked {
             return Answer::Refused(Refusal::AlreadyTicked);

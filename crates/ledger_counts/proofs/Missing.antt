@@ -11,7 +11,7 @@ use mathlib.Core.Option.{none, some, Option·map}
 use mathlib.Core.Path.{_≡_, refl, sym, ap, _∙_}
 use Rattle.ledger_model.specs.Positions.{size, anyTicked, missing, least}
 use Rattle.octets.specs.Lists.{table}
-use Rattle.ledger_rows.proofs.Scans.{Each, Fails}
+use Rattle.ledger_layout.proofs.Scans.{Each, Fails}
 use Rattle.ledger_counts.proofs.Highest.{Top}
 
 -- ---- one position more

@@ -16,9 +16,9 @@ use Rattle.octets.specs.Lists.{table}
 use Rattle.ledger_sheet.specs.Sheet.{rowCount, rowAt, isUsed, keyAt, firstNumberAt}
 use Rattle.ledger_layout.specs.Layout.{placeIn, bookOf}
 use Rattle.ledger_layout.specs.Ticks.{tickedAt, ticksIn}
-use Rattle.ledger_rows.specs.inner.Scans.{lowest}
+use Rattle.ledger_layout.specs.inner.Scans.{lowest}
 use Rattle.ledger_counts.specs.inner.Counts.{pastHighest, numberAtPosition, reportWords}
-use Rattle.ledger_rows.proofs.Scans.{Each, lowest-holds, lowest-fails}
+use Rattle.ledger_layout.proofs.Scans.{Each, lowest-holds, lowest-fails}
 use Rattle.ledger_counts.proofs.Highest.{top-of}
 use Rattle.ledger_counts.proofs.Missing.{missing-count, missing-lowest, missing-none}
 

@@ -13,7 +13,7 @@ use lib.Dec.{ltb}
 use lib.Pow.{pow-pos, pow-add}
 use Rattle.ledger_model.specs.Positions.{rowLength, size}
 use Rattle.ledger_layout.specs.Ticks.{tickedAt, ticksIn}
-use Rattle.ledger_rows.proofs.Scans.{each-none, lowest-fails, lowest-here, lowest-none}
+use Rattle.ledger_layout.proofs.Scans.{each-none, lowest-fails, lowest-here, lowest-none}
 use Rattle.ledger_counts.specs.inner.Counts.{pastHighest, numberAtPosition, reportWords}
 use Rattle.ledger_counts.specs.inner.Words.{wordBits, bitOf, IsWord, TickedFrom, StartsAt}
 use Rattle.ledger_counts.proofs.Highest.{past-here}

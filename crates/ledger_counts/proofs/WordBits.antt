@@ -13,7 +13,7 @@ use Rattle.octets.specs.inner.Little.{littleAt}
 use Rattle.octets.proofs.Laws.{Bytes}
 use Rattle.ledger_sheet.specs.Sheet.{ticksAt, byteBits}
 use Rattle.ledger_layout.specs.Ticks.{tickedAt}
-use Rattle.ledger_rows.proofs.Bits.{below-eight}
+use Rattle.ledger_layout.proofs.Bits.{below-eight}
 use Rattle.ledger_counts.specs.inner.Words.{wordBits, bitOf, IsWord}
 
 -- ---- numbers of bytes, the lowest first

@@ -14,9 +14,9 @@ use lib.Pow.{pow-pos, pow-mono}
 use Rattle.ledger_model.specs.Positions.{size}
 use Rattle.ledger_layout.specs.Ticks.{tickedAt}
 use Rattle.octets.specs.Lists.{table}
-use Rattle.ledger_rows.specs.inner.Scans.{lowest}
+use Rattle.ledger_layout.specs.inner.Scans.{lowest}
 use Rattle.ledger_counts.specs.inner.Counts.{pastHighest}
-use Rattle.ledger_rows.proofs.Scans.{Fails, lowest-fails, lowest-holds}
+use Rattle.ledger_layout.proofs.Scans.{Fails, lowest-fails, lowest-holds}
 use Rattle.ledger_counts.proofs.Highest.{top-of, past-here, past-skip, past-none}
 use Rattle.ledger_counts.specs.inner.Words.{wordBits, blockWords, bitOf, IsWord}
 use Rattle.ledger_counts.proofs.Missing.{size-cons, size-none, size-more}

@@ -15,7 +15,7 @@ ghost use lib.ListN.{length};
 ghost use Rattle.ledger_model.specs.Positions.{rowLength, size};
 ghost use Rattle.ledger_sheet.specs.Sheet.{sheetSize, rowSize, rowCount, rowAt, isUsed};
 ghost use Rattle.ledger_layout.specs.Ticks.{tickedAt, ticksIn};
-ghost use Rattle.ledger_rows.specs.inner.Scans.{lowest};
+ghost use Rattle.ledger_layout.specs.inner.Scans.{lowest};
 ghost use Rattle.ledger_counts.specs.inner.Counts.{pastHighest, numberAtPosition, reportWords};
 ghost use Rattle.ledger_sheet.specs.Words.{reportAnswerWords, gapWords};
 ghost use Rattle.ledger_counts.specs.inner.Words.{wordBits, wordCount, lastWordAt, IsWord, TickedFrom, StartsAt};
@@ -218,7 +218,7 @@ pub fn first_gap(s: &[u8]) -> GapAnswer
         let a = sheet::row_at(row);
         let end = row_end(s, row);
         for i in 0..end {
-            if !ledger_rows::is_ticked(s, a, i) {
+            if !ledger_layout::lookup::is_ticked(s, a, i) {
                 gap = GapAnswer::Gap {
                     number: number_in(s, a, i),
                     row: row as u32,

@@ -40,10 +40,10 @@ pub fn enrol_verdict(s: &[u8], fine: bool, key: u64, first: u32) -> Verdict
     if !keys::is_number(key, first) {
         return Verdict::Refused(Refusal::FirstNumber);
     }
-    if ledger_rows::has_key(s, key) {
+    if ledger_layout::lookup::has_key(s, key) {
         return Verdict::Refused(Refusal::AlreadyEnrolled);
     }
-    if ledger_rows::free_row(s) == sheet::ROWS {
+    if ledger_layout::lookup::free_row(s) == sheet::ROWS {
         return Verdict::Refused(Refusal::LedgerFull);
     }
     Verdict::Fine
@@ -57,7 +57,7 @@ pub fn find_verdict(s: &[u8], fine: bool, key: u64) -> Verdict
     if let Verdict::Refused(_) = judged {
         return judged;
     }
-    if !ledger_rows::has_key(s, key) {
+    if !ledger_layout::lookup::has_key(s, key) {
         return Verdict::Refused(Refusal::NoRow);
     }
     Verdict::Fine
@@ -84,10 +84,10 @@ pub fn open_verdict(s: &[u8], fine: bool, desk: u32, row: u32) -> Verdict
     if let Verdict::Refused(_) = judged {
         return judged;
     }
-    if !ledger_rows::is_row(s, row as usize) {
+    if !ledger_layout::lookup::is_row(s, row as usize) {
         return Verdict::Refused(Refusal::NoRow);
     }
-    if !ledger_rows::is_closed(s, desk as usize) {
+    if !ledger_layout::lookup::is_closed(s, desk as usize) {
         return Verdict::Refused(Refusal::DeskOpen);
     }
     Verdict::Fine
@@ -102,7 +102,7 @@ pub fn desk_verdict(s: &[u8], fine: bool, desk: u32) -> Verdict
     if let Verdict::Refused(_) = judged {
         return judged;
     }
-    if ledger_rows::is_closed(s, desk as usize) {
+    if ledger_layout::lookup::is_closed(s, desk as usize) {
         return Verdict::Refused(Refusal::DeskClosed);
     }
     Verdict::Fine
@@ -116,7 +116,7 @@ pub fn row_verdict(s: &[u8], fine: bool, row: u32) -> Verdict
     if !fine {
         return Verdict::Refused(Refusal::NotSheet);
     }
-    if !ledger_rows::is_row(s, row as usize) {
+    if !ledger_layout::lookup::is_row(s, row as usize) {
         return Verdict::Refused(Refusal::NoRow);
     }
     Verdict::Fine
@@ -130,7 +130,7 @@ pub fn strike_verdict(s: &[u8], fine: bool, row: u32) -> Verdict
     if let Verdict::Refused(_) = judged {
         return judged;
     }
-    if !ledger_rows::is_idle(s, row as usize) {
+    if !ledger_layout::lookup::is_idle(s, row as usize) {
         return Verdict::Refused(Refusal::RowOpen);
     }
     Verdict::Fine

@@ -14,3 +14,5 @@ pub mod Demand3
 pub mod Rules
 pub mod Readers
 pub mod Writers
+pub mod Scans
+pub mod Bits

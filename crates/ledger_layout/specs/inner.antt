@@ -1,2 +1,3 @@
 pub mod Rules
 pub mod Demand3
+pub mod Scans

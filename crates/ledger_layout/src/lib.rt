@@ -1,1 +1,2 @@
-// No code: the model laid out as a sheet, and the laws between the sheet's definitions and the model's (specs/, proofs/).
+// The book that a sheet holds: laid out, and looked up in.
+pub mod lookup;

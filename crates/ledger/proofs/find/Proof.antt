@@ -6,7 +6,7 @@ use Rattle.ledger_model.specs.Step.{Ask, Find, refusals, asked, afterRefusal}
 use Rattle.ledger_model.specs.Book.{placeWith}
 use Rattle.ledger_sheet.specs.Sheet.{rowCount}
 use Rattle.ledger_layout.specs.Layout.{bookOf}
-use Rattle.ledger_rows.proofs.Scans.{has-key}
+use Rattle.ledger_layout.proofs.Scans.{has-key}
 use Rattle.ledger_judged.proofs.Judged.{refused-is, answered-is, fine-is}
 use borrow.Author.Needs.{needs}
 use Rattle.ledger.proofs.find.Statement.{statement}

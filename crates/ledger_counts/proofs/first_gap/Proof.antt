@@ -1,6 +1,6 @@
 -- `ledger_counts::first_gap` meets its contract. The invariants: the first gap is that of the rows from `row` on; of that row the
 -- first i positions are ticked. Assumes nothing.
-use Rattle.ledger_rows.proofs.Scans.{Each, each-none, each-more}
+use Rattle.ledger_layout.proofs.Scans.{Each, each-none, each-more}
 use Prim.Native.Nat.{_-_, _≤_, _<_}
 use mathlib.Core.Bool.{true}
 use mathlib.Core.Path.{_≡_, refl, sym, ap, _∙_}

@@ -4,7 +4,7 @@ use mathlib.Core.Path.{_∙_}
 use Rattle.octets.proofs.Laws.{number-lt}
 use Rattle.ledger_sheet.specs.Sheet.{headerNumberSize, usedAt}
 use Rattle.ledger_sheet.proofs.Clauses.{right-parts}
-use Rattle.ledger_rows.proofs.Scans.{free-in}
+use Rattle.ledger_layout.proofs.Scans.{free-in}
 use Rattle.ledger_layout.proofs.Writers.{enrol-on}
 use Rattle.ledger_changes.specs.inner.Rows.{blankRow, blankTicks}
 use borrow.Author.Needs.{needs}

@@ -9,7 +9,7 @@ use Rattle.octets.proofs.Laws.{failed, passed}
 use Rattle.ledger_sheet.specs.Sheet.{ticksAt, byteBits}
 use Rattle.ledger_layout.specs.Ticks.{tickedAt}
 use Rattle.ledger_changes.specs.inner.Rows.{setTick, clearTick}
-use Rattle.ledger_rows.proofs.Bits.{bit-room, bit-under}
+use Rattle.ledger_layout.proofs.Bits.{bit-room, bit-under}
 use Rattle.ledger_changes.proofs.Marks.{mark-outside, mark-same, mark-changed}
 use borrow.Author.Needs.{needs}
 use Rattle.ledger_changes.proofs.ticks.mark_position.Statement.{statement}

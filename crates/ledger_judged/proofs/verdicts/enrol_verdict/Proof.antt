@@ -11,7 +11,7 @@ use Rattle.ledger_model.specs.Book.{allUsed}
 use Rattle.ledger_model.specs.Step.{Enrol, refusals}
 use Rattle.ledger_layout.specs.Layout.{bookOf}
 use Rattle.ledger_layout.specs.inner.Rules.{rulesOn}
-use Rattle.ledger_rows.proofs.Scans.{is-full}
+use Rattle.ledger_layout.proofs.Scans.{is-full}
 use Rattle.ledger_judged.proofs.Judged.{Begun, begun, refused-first, stops, passes, none-left}
 use Rattle.ledger_judged.proofs.verdicts.enrol_verdict.Statement.{statement}
 use Rattle.ledger_judged.proofs.verdicts.enrol_verdict.Tie as tie

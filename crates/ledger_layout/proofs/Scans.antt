@@ -12,9 +12,9 @@ use Rattle.ledger_model.specs.Book.{Place, free, row, place, isFree, hasKey, pl
 use Rattle.ledger_model.proofs.Basics as Basics
 use Rattle.octets.proofs.Lists.{length-table, getD-table}
 use Rattle.ledger_sheet.specs.Sheet.{rowCount, rowAt, isUsed, keyAt, firstNumberAt}
 use Rattle.ledger_layout.specs.Ticks.{ticksIn}
 use Rattle.ledger_layout.specs.Layout.{placeIn, bookOf}
-use Rattle.ledger_rows.specs.inner.Scans.{lowest, isRowOf}
+use Rattle.ledger_layout.specs.inner.Scans.{lowest, isRowOf}
 
 -- p is b of each number below i
 abbrev pub Each : Bool → (ℕ → Bool) → ℕ → Type 0

@@ -7,10 +7,10 @@ use Rattle.octets.specs.Octets.{all}
 use Rattle.octets.proofs.Laws.{all-none, all-next}
 use Rattle.ledger_model.specs.Book.{desk}
 use Rattle.ledger_sheet.specs.Sheet.{deskCount}
 use Rattle.ledger_layout.specs.Layout.{bookOf}
 use Rattle.ledger_layout.proofs.Readers.{isElsewhere, none-open}
-use Rattle.ledger_rows.proofs.is_idle.Statement.{statement}
-use Rattle.ledger_rows.proofs.is_idle.Tie as tie
+use Rattle.ledger_layout.proofs.lookup.is_idle.Statement.{statement}
+use Rattle.ledger_layout.proofs.lookup.is_idle.Tie as tie
 
 abbrev Inv-loop : tie.InvT-loop
 Inv-loop s row idle₀ d₀ idle d = (d ≤ deskCount) × (idle ≡ all d (λ k. isElsewhere row (desk (bookOf s) k)))

@@ -3,10 +3,10 @@ use Prim.Native.Nat.{_%_}
 use native.Mathlib.Nat.{one-le-pow}
 use lib.Dec.{lit<}
 use Rattle.ledger_sheet.specs.Sheet.{byteBits}
 use Rattle.ledger_layout.specs.Ticks.{tickedAt}
 use borrow.Author.Needs.{needs}
-use Rattle.ledger_rows.proofs.is_ticked.Statement.{statement}
-use Rattle.ledger_rows.proofs.is_ticked.Tie as tie
+use Rattle.ledger_layout.proofs.lookup.is_ticked.Statement.{statement}
+use Rattle.ledger_layout.proofs.lookup.is_ticked.Tie as tie
 
 add-result : tie.Need-add-result
 add-result c = search needs

@@ -2,9 +2,9 @@
 use native.Mathlib.Omega.{arith}
 use borrow.Author.Needs.{needs}
 use Rattle.ledger_sheet.proofs.Clauses.{right-parts}
 use Rattle.ledger_layout.proofs.Readers.{closed-on}
-use Rattle.ledger_rows.proofs.is_closed.Statement.{statement}
-use Rattle.ledger_rows.proofs.is_closed.Tie as tie
+use Rattle.ledger_layout.proofs.lookup.is_closed.Statement.{statement}
+use Rattle.ledger_layout.proofs.lookup.is_closed.Tie as tie
 
 desk-at-requires : tie.Need-desk-at-requires
 desk-at-requires c κs = search needs

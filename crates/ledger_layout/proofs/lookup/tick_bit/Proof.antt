@@ -1,9 +1,9 @@
 -- `tick_bit` meets its contract. Assumes nothing.
 use native.Mathlib.Nat.{one-mul, mod-eq-of-lt}
-use Rattle.ledger_rows.proofs.Bits.{bit-fits}
+use Rattle.ledger_layout.proofs.Bits.{bit-fits}
 use borrow.Author.Needs.{needs}
-use Rattle.ledger_rows.proofs.tick_bit.Statement.{statement}
-use Rattle.ledger_rows.proofs.tick_bit.Tie as tie
+use Rattle.ledger_layout.proofs.lookup.tick_bit.Statement.{statement}
+use Rattle.ledger_layout.proofs.lookup.tick_bit.Tie as tie
 
 cast-result : tie.Need-cast-result
 cast-result c = search needs

@@ -3,10 +3,10 @@ use Prim.Native.Nat.{_+_}
 use native.Mathlib.Omega.{arith}
 use Rattle.ledger_sheet.specs.Sheet.{deskRowAt}
 use Rattle.ledger_sheet.proofs.Clauses.{right-parts}
 use Rattle.ledger_layout.proofs.Readers.{named-on}
 use borrow.Author.Needs.{needs}
-use Rattle.ledger_rows.proofs.desk_row.Statement.{statement}
-use Rattle.ledger_rows.proofs.desk_row.Tie as tie
+use Rattle.ledger_layout.proofs.lookup.desk_row.Statement.{statement}
+use Rattle.ledger_layout.proofs.lookup.desk_row.Tie as tie
 
 desk-at-requires : tie.Need-desk-at-requires
 desk-at-requires c κs = search needs

@@ -8,9 +8,9 @@ ghost use lib.ListN.{length};
 ghost use Rattle.ledger_model.specs.Positions.{rowLength};
 ghost use Rattle.ledger_model.specs.Book.{place, desk, isFree, isOpen, placeOf, hasKey, placeWith, lowestFree, anyHasOpen};
 ghost use Rattle.ledger_sheet.specs.Sheet.{rowSize, rowCount, byteBits, deskCount, right};
 ghost use Rattle.ledger_layout.specs.Layout.{bookOf};
 ghost use Rattle.ledger_layout.specs.Ticks.{tickedAt};
-ghost use Rattle.ledger_rows.specs.inner.Scans.{isRowOf};
+ghost use Rattle.ledger_layout.specs.inner.Scans.{isRowOf};
 
 // The used row with the key, or 32 where there is none.
 pub fn find_row(s: &[u8], key: u64) -> usize

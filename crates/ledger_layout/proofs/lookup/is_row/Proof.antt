@@ -1,9 +1,9 @@
 -- `is_row` meets its contract. Assumes nothing.
 use mathlib.Core.Path.{_∙_}
 use Rattle.ledger_sheet.proofs.Clauses.{right-parts}
 use Rattle.ledger_layout.proofs.Readers.{row-on}
-use Rattle.ledger_rows.proofs.is_row.Statement.{statement}
-use Rattle.ledger_rows.proofs.is_row.Tie as tie
+use Rattle.ledger_layout.proofs.lookup.is_row.Statement.{statement}
+use Rattle.ledger_layout.proofs.lookup.is_row.Tie as tie
 
 is-row-requires : tie.Need-is-row-requires
 is-row-requires c κs = right-parts _ (c .before .pre) .long

@@ -5,11 +5,11 @@ use native.Mathlib.Omega.{arith}
 use Rattle.ledger_sheet.specs.Sheet.{rowCount}
 use borrow.Author.Needs.{needs}
 use Rattle.ledger_model.specs.Book.{place}
 use Rattle.ledger_layout.specs.Layout.{bookOf}
-use Rattle.ledger_rows.specs.inner.Scans.{isRowOf}
-use Rattle.ledger_rows.proofs.Scans.{Fails, each-none, each-more, lowest-here, lowest-none, with-key}
-use Rattle.ledger_rows.proofs.find_row.Statement.{statement}
-use Rattle.ledger_rows.proofs.find_row.Tie as tie
+use Rattle.ledger_layout.specs.inner.Scans.{isRowOf}
+use Rattle.ledger_layout.proofs.Scans.{Fails, each-none, each-more, lowest-here, lowest-none, with-key}
+use Rattle.ledger_layout.proofs.lookup.find_row.Statement.{statement}
+use Rattle.ledger_layout.proofs.lookup.find_row.Tie as tie
 
 abbrev Inv-loop : tie.InvT-loop
 Inv-loop s key i₀ i = (i ≤ rowCount) × Fails (λ j. isRowOf key (place (bookOf s) j)) i

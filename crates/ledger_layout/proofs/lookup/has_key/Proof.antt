@@ -1,8 +1,8 @@
 -- `has_key` meets its contract. Assumes nothing.
 use borrow.Author.Needs.{needs}
-use Rattle.ledger_rows.proofs.Scans.{has-key}
-use Rattle.ledger_rows.proofs.has_key.Statement.{statement}
-use Rattle.ledger_rows.proofs.has_key.Tie as tie
+use Rattle.ledger_layout.proofs.Scans.{has-key}
+use Rattle.ledger_layout.proofs.lookup.has_key.Statement.{statement}
+use Rattle.ledger_layout.proofs.lookup.has_key.Tie as tie
 
 find-row-requires : tie.Need-find-row-requires
 find-row-requires c κs = search needs

@@ -5,10 +5,10 @@ use native.Mathlib.Omega.{arith}
 use Rattle.ledger_model.specs.Book.{place, isFree}
 use Rattle.ledger_sheet.specs.Sheet.{rowCount}
 use Rattle.ledger_sheet.proofs.Clauses.{right-parts}
 use Rattle.ledger_layout.specs.Layout.{bookOf}
-use Rattle.ledger_rows.proofs.Scans.{Fails, each-none, each-more, lowest-here, lowest-none, free-place, lowest-free}
-use Rattle.ledger_rows.proofs.free_row.Statement.{statement}
-use Rattle.ledger_rows.proofs.free_row.Tie as tie
+use Rattle.ledger_layout.proofs.Scans.{Fails, each-none, each-more, lowest-here, lowest-none, free-place, lowest-free}
+use Rattle.ledger_layout.proofs.lookup.free_row.Statement.{statement}
+use Rattle.ledger_layout.proofs.lookup.free_row.Tie as tie
 
 abbrev Inv-loop : tie.InvT-loop
 Inv-loop s i₀ i = (i ≤ rowCount) × Fails (λ j. isFree (place (bookOf s) j)) i

@@ -3,10 +3,10 @@ use Rattle.octets.proofs.Laws.{failed, passed}
 use native.Mathlib.Omega.{arith}
 use mathlib.Core.Path.{sym, _∙_}
 use Rattle.ledger_sheet.proofs.Clauses.{right-parts}
-use Rattle.ledger_rows.proofs.Scans.{row-of}
+use Rattle.ledger_layout.proofs.Scans.{row-of}
 use borrow.Author.Needs.{needs}
-use Rattle.ledger_rows.proofs.is_row_of.Statement.{statement}
-use Rattle.ledger_rows.proofs.is_row_of.Tie as tie
+use Rattle.ledger_layout.proofs.lookup.is_row_of.Statement.{statement}
+use Rattle.ledger_layout.proofs.lookup.is_row_of.Tie as tie
 
 is-used-requires : tie.Need-is-used-requires
 is-used-requires c κs = (right-parts _ (c .before .pre .0) .long, omega arith)

@@ -1,2 +1,0 @@
--- What the contracts of `ledger_rows` cite.
-pub mod inner
