@@ -8,8 +8,8 @@ use mathlib.Core.Path.{_≡_, refl, sym, ap, _∙_}
 use lib.ListN.{replicate, length-replicate}
 use lib.Seq.{getD-set-same}
 use Rattle.ledger_model.specs.Positions.{noTicks}
-use Rattle.ledger_model.specs.Book.{free, row, Book, place, putPlace, lowestFree}
-use Rattle.ledger_model.specs.Step.{Enrol, Reply, answerWords, step}
+use Rattle.ledger_model.specs.Book.{free, row, Book, place, lowestFree}
+use Rattle.ledger_model.specs.Step.{Enrol, Reply, answerWords}
 use Rattle.ledger_model.specs.WellFormed.{WellFormed}
 use Rattle.ledger_model.proofs.Basics.{row-in}
 use Rattle.ledger_model.proofs.Outcome.{Outcome, refusal, enrolment, outcome}

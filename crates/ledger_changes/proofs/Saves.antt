@@ -1,8 +1,8 @@
 -- A save by a desk with a row open, accepted and stale. Assumes nothing.
 use Prim.Native.Nat.{ℕ}
 use mathlib.Core.Bool.{true, false}
-use mathlib.Core.List.{List, [], _∷_}
-use mathlib.Core.Path.{_≡_, refl}
+use mathlib.Core.List.{[], _∷_}
+use mathlib.Core.Path.{_≡_}
 use Rattle.refusals.specs.Judge.{judge}
 use Rattle.ledger_model.specs.Book.{Book, closed, desk, putDesk, isDesk, isOpen}
 use Rattle.ledger_model.specs.Step.{Save, refusals, effect, afterRefusal, step}

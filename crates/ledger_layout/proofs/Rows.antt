@@ -1,5 +1,5 @@
 -- A row's bytes: what is read of them is the row, and a row read from any bytes has these bytes. Assumes nothing.
-use Prim.Native.Nat.{ℕ, _+_, _-_, _<_, _≤_}
+use Prim.Native.Nat.{ℕ, _+_, _-_, _≤_}
 use native.Mathlib.Nat.{lt-trans, zero-add, suc-add, add-zero}
 use native.Mathlib.Omega.{arith}
 use mathlib.Core.List.{List, [], _∷_, _++_}
@@ -8,7 +8,7 @@ use lib.Dec.{lit<}
 use lib.ListN.{length, getD, set, length-append, length-replicate}
 use Rattle.keys.proofs.Laws.{below-valid}
 use Rattle.keys.proofs.Numbers.{modulus-fits}
-use Rattle.ledger_model.specs.Positions.{Positions, has}
+use Rattle.ledger_model.specs.Positions.{Positions}
 use Rattle.ledger_model.specs.Book.{Place, free, row}
 use Rattle.ledger_model.specs.WellFormed.{PlaceOk}
 use Rattle.octets.specs.Octets.{numberAt, bytesOf, part}

@@ -13,7 +13,6 @@ use Rattle.ledger_model.proofs.Outcome as Model
 use Rattle.ledger_model.proofs.WellFormed.{well-formed}
 use Rattle.octets.proofs.Laws.{Bytes}
 use Rattle.ledger_sheet.specs.Sheet.{rowSize, rowCount, deskSize, deskCount, right}
-use Rattle.ledger_sheet.specs.Outcome.{Outcome}
 use Rattle.ledger_layout.specs.Bytes.{headerBytes, freshSheet}
 use Rattle.ledger_layout.specs.Layout.{placeBytes, deskBytes, countUsed, layout, bookOf, call, laidOut, onSheet}
 use Rattle.octets.specs.Lists.{laid}

@@ -9,7 +9,6 @@ use mathlib.Core.Path.{_≡_, refl, ap, _∙_}
 use lib.ListN.{length, getD, set}
 use Rattle.ledger_model.specs.Positions.{Positions}
 use Rattle.ledger_model.specs.Book.{Place, free, row, isFree, withTicks}
-use Rattle.ledger_model.specs.Counts as Counts
 use Rattle.ledger_sheet.specs.Sheet.{count}
 use Rattle.ledger_layout.specs.Layout.{countUsed}
 

@@ -1,5 +1,5 @@
 -- What a tick or an untick does to the bytes of a row, and its answer. Assumes nothing.
-use Prim.Native.Nat.{ℕ, _-_}
+use Prim.Native.Nat.{ℕ}
 use mathlib.Core.Bool.{Bool, not, cond, Bool·beq}
 use mathlib.Core.List.{List, [], _∷_}
 use Rattle.refusals.specs.Judge.{Rule, _when_}

@@ -1,6 +1,5 @@
 -- `desks::is_current` meets its contract. Assumes nothing.
 use native.Mathlib.Omega.{arith}
-use mathlib.Core.Path.{_∙_}
 use Rattle.ledger_sheet.proofs.Clauses.{right-parts}
 use Rattle.ledger_layout.proofs.Readers.{place-in}
 use Rattle.ledger_layout.proofs.Writers.{current-on}

@@ -3,8 +3,7 @@ use mathlib.Core.List.{[], _∷_}
 use mathlib.Core.Path.{ap, _∙_}
 use borrow.Author.Tests.{lt-ltb}
 use Rattle.octets.proofs.Laws.{failed, passed}
-use Rattle.ledger_model.specs.Book.{closed, putDesk}
-use Rattle.ledger_layout.specs.Layout.{layout, bookOf, laidOut}
+use Rattle.ledger_layout.specs.Layout.{laidOut}
 use Rattle.ledger_layout.proofs.Right.{layout-right, reads-back}
 use Rattle.ledger_layout.proofs.Writers.{stored-fine}
 use Rattle.ledger_changes.proofs.Saves.{save-current, save-stale}
