@@ -4,14 +4,14 @@
 
 use ledger_changes::desks;
 use ledger_judged as judged;
+use ledger_judged::verdicts;
+use ledger_judged::verdicts::Verdict;
 use ledger_sheet as sheet;
 use ledger_sheet::Answer;
 use ledger_sheet::GapAnswer;
 use ledger_sheet::ReportAnswer;
 use ledger_sheet::RowAnswer;
 use ledger_sheet::right;
-use ledger_judged::verdicts;
-use ledger_judged::verdicts::Verdict;
 use refusals::Refusal;
 ghost use mathlib.Core.Path.{_≡_};
 ghost use Rattle.ledger_model.specs.Step.{Enrol, Ask, Find, RowReport, FirstGap, Open, Mark, Tick, Untick, Save, Drop, Strike};

@@ -10,8 +10,9 @@ ghost use lib.ListN.{length};
 ghost use Rattle.octets.specs.Octets.{put};
 ghost use Rattle.ledger_model.specs.Book.{desk, closed, putDesk, isOpen};
 ghost use Rattle.ledger_model.specs.Step.{Save};
-ghost use Rattle.ledger_sheet.specs.Sheet.{sheetSize, rowsStart, rowCount, deskCount, right};
+ghost use Rattle.ledger_sheet.specs.Sheet.{sheetSize, rowsStart, rowCount, deskCount};
 ghost use Rattle.ledger_layout.specs.Bytes.{headerBytes, freshSheet};
+ghost use Rattle.ledger_layout.specs.inner.Rules.{IsSheet};
 ghost use Rattle.ledger_layout.specs.Layout.{layout, bookOf, call, laidOut};
 ghost use Rattle.ledger_changes.specs.inner.Books.{opened, isCurrent, stored};
 ghost use Rattle.ledger_sheet.specs.Words.{answerWords};
@@ -50,7 +51,7 @@ fn write_header(s: &mut [u8], used: u64)
 
 // Opens a row at desk d: both copies become the row.
 pub fn open_desk(s: &mut [u8], d: usize, row: usize)
-    requires { ⌜ (right (now s) ≡ true) × (d < deskCount) × (row < rowCount) ⌝ }
+    requires { ⌜ IsSheet (now s) × (d < deskCount) × (row < rowCount) ⌝ }
     ensures { λ _. ⌜ now (s .exit) ≡ layout (opened d row (bookOf (now (s .entry)))) ⌝ }
 {
     let a = sheet::desk_at(d);
@@ -64,7 +65,7 @@ pub fn open_desk(s: &mut [u8], d: usize, row: usize)
 
 // Clears desk d.
 pub fn clear_desk(s: &mut [u8], d: usize)
-    requires { ⌜ (right (now s) ≡ true) × (d < deskCount) ⌝ }
+    requires { ⌜ IsSheet (now s) × (d < deskCount) ⌝ }
     ensures { λ _. ⌜ now (s .exit) ≡ layout (putDesk d closed (bookOf (now (s .entry)))) ⌝ }
 {
     octets::clear(s, sheet::desk_at(d), sheet::DESK);
@@ -72,7 +73,7 @@ pub fn clear_desk(s: &mut [u8], d: usize)
 
 // Saves desk d: where its row is still as it was opened, the worked copy becomes the row; the desk is cleared.
 pub fn save_desk(s: &mut [u8], d: usize) -> Answer
-    requires { ⌜ (right (now s) ≡ true) × (d < deskCount) × (isOpen (desk (bookOf (now s)) d) ≡ true) ⌝ }
+    requires { ⌜ IsSheet (now s) × (d < deskCount) × (isOpen (desk (bookOf (now s)) d) ≡ true) ⌝ }
     ensures { λ r. ⌜ (answerWords r, now (s .exit)) ≡ laidOut (call (Save d) (bookOf (now (s .entry)))) ⌝ }
 {
     if !is_current(s, d) {
@@ -86,7 +87,7 @@ pub fn save_desk(s: &mut [u8], d: usize) -> Answer
 
 // Whether the row that desk d has open equals the opened copy.
 fn is_current(s: &[u8], d: usize) -> bool
-    requires { ⌜ (right (now s) ≡ true) × (d < deskCount) × (isOpen (desk (bookOf (now s)) d) ≡ true) ⌝ }
+    requires { ⌜ IsSheet (now s) × (d < deskCount) × (isOpen (desk (bookOf (now s)) d) ≡ true) ⌝ }
     ensures { λ r. ⌜ r ≡ isCurrent d (bookOf (now (s .entry))) ⌝ }
 {
     let row = sheet::row_at(ledger_layout::lookup::desk_row(s, d));
@@ -95,7 +96,7 @@ fn is_current(s: &[u8], d: usize) -> bool
 
 // The row that desk d has open becomes the worked copy.
 fn store(s: &mut [u8], d: usize)
-    requires { ⌜ (right (now s) ≡ true) × (d < deskCount) × (isOpen (desk (bookOf (now s)) d) ≡ true) ⌝ }
+    requires { ⌜ IsSheet (now s) × (d < deskCount) × (isOpen (desk (bookOf (now s)) d) ≡ true) ⌝ }
     ensures { λ _. ⌜ now (s .exit) ≡ layout (stored d (bookOf (now (s .entry)))) ⌝ }
 {
     let row = sheet::row_at(ledger_layout::lookup::desk_row(s, d));

@@ -4,13 +4,14 @@ use ledger_sheet::Row;
 use ledger_sheet::right;
 use octets::numbers;
 ghost use mathlib.Core.Path.{_≡_};
-ghost use mathlib.Core.Bool.{true, false};
+ghost use mathlib.Core.Bool.{false};
 ghost use Prim.Native.Nat.{_+_, _≤_};
 ghost use lib.ListN.{length};
 ghost use Rattle.octets.specs.Octets.{part, put};
 ghost use Rattle.ledger_model.specs.Positions.{noTicks};
 ghost use Rattle.ledger_model.specs.Book.{free, row, place, putPlace, isFree, allUsed, lowestFree, anyHasOpen};
-ghost use Rattle.ledger_sheet.specs.Sheet.{rowSize, ticksSize, right};
+ghost use Rattle.ledger_sheet.specs.Sheet.{rowSize, ticksSize};
+ghost use Rattle.ledger_layout.specs.inner.Rules.{IsSheet};
 ghost use Rattle.ledger_layout.specs.Layout.{layout, bookOf};
 ghost use Rattle.ledger_layout.specs.Rows.{rowBytes};
 ghost use Rattle.ledger_changes.specs.inner.Rows.{rowValueAt, blankRow};
@@ -71,7 +72,7 @@ fn write_ticks(s: &mut [u8], a: usize, ticks: &[u8])
 
 // Enrols a stream in the lowest free row, and answers the row.
 pub fn enrol_row(s: &mut [u8], key: u64, first: u32) -> u32
-    requires { ⌜ (right (now s) ≡ true) × (allUsed (bookOf (now s) .places) ≡ false) ⌝ }
+    requires { ⌜ IsSheet (now s) × (allUsed (bookOf (now s) .places) ≡ false) ⌝ }
     ensures { λ r. ⌜ r ≡ lowestFree (bookOf (now (s .entry)) .places) ⌝ }
     ensures { λ r. ⌜ now (s .exit) ≡ layout (putPlace r (row key first noTicks) (bookOf (now (s .entry)))) ⌝ }
 {
@@ -84,7 +85,7 @@ pub fn enrol_row(s: &mut [u8], key: u64, first: u32) -> u32
 
 // Strikes a row: it is all zero, and the header counts one less.
 pub fn strike_row(s: &mut [u8], row: usize)
-    requires { ⌜ (right (now s) ≡ true) × (isFree (place (bookOf (now s)) row) ≡ false) × (anyHasOpen row (bookOf (now s) .desks) ≡ false) ⌝ }
+    requires { ⌜ IsSheet (now s) × (isFree (place (bookOf (now s)) row) ≡ false) × (anyHasOpen row (bookOf (now s) .desks) ≡ false) ⌝ }
     ensures { λ _. ⌜ now (s .exit) ≡ layout (putPlace row free (bookOf (now (s .entry)))) ⌝ }
 {
     let used = right::rows_used(s) as u64;

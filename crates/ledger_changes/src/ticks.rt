@@ -9,7 +9,8 @@ ghost use Prim.Native.Nat.{_<_};
 ghost use lib.ListN.{length};
 ghost use Rattle.ledger_model.specs.Book.{desk, isOpen};
 ghost use Rattle.ledger_model.specs.Step.{Mark};
-ghost use Rattle.ledger_sheet.specs.Sheet.{rowSize, deskCount, right};
+ghost use Rattle.ledger_sheet.specs.Sheet.{rowSize, deskCount};
+ghost use Rattle.ledger_layout.specs.inner.Rules.{IsSheet};
 ghost use Rattle.ledger_layout.specs.Layout.{bookOf, call, laidOut};
 ghost use Rattle.ledger_changes.specs.inner.Bytes.{markRow, markPosition};
 ghost use Rattle.ledger_sheet.specs.Words.{answerWords};
@@ -19,7 +20,7 @@ pub const POSITIONS: usize = sheet::BYTE_BITS * sheet::TICKS;
 
 // Ticks or unticks number n in the worked copy of desk d: those bytes alone are lent on.
 pub fn mark_desk(s: &mut [u8], d: usize, n: u32, on: bool) -> Answer
-    requires { ⌜ (right (now s) ≡ true) × (d < deskCount) × (isOpen (desk (bookOf (now s)) d) ≡ true) ⌝ }
+    requires { ⌜ IsSheet (now s) × (d < deskCount) × (isOpen (desk (bookOf (now s)) d) ≡ true) ⌝ }
     ensures { λ r. ⌜ (answerWords r, now (s .exit)) ≡ laidOut (call (Mark on d n) (bookOf (now (s .entry)))) ⌝ }
 {
     let a = sheet::desk_at(d) + sheet::WORKED_AT;

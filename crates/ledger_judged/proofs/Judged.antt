@@ -16,8 +16,9 @@ use Rattle.octets.proofs.Laws.{Bytes}
 use Rattle.ledger_model.specs.Book.{Book}
 use Rattle.ledger_model.specs.Step.{Question, asked, Find, RowReport, FirstGap, Call, Enrol, Ask, Open, Mark, Save, Drop, Strike, answerWords, refusals, effect, afterRefusal}
 use Rattle.ledger_sheet.specs.Sheet.{right}
+use Rattle.ledger_sheet.proofs.Clauses.{right-parts}
 use Rattle.ledger_layout.specs.Layout.{layout, bookOf, call, onSheet}
-use Rattle.ledger_layout.specs.inner.Rules.{rulesOn}
+use Rattle.ledger_layout.specs.inner.Rules.{rulesOn, IsSheet}
 use Rattle.ledger_layout.proofs.Rules.{refused-on, accepted-on, answered-on, given-has}
 use Rattle.ledger_layout.proofs.Rules as Rules
 use Rattle.ledger_judged.specs.declared.verdicts.Verdict.{Verdict}
@@ -45,7 +46,7 @@ holds (n when c) = c
 
 -- where neither holds, the sheet is right, and the others decide
 pub record Begun (s : List ℕ) (rule : Rule ℕ) : Type 0 where
-  pub right-is : right s ≡ true
+  pub is-sheet : IsSheet s
   pub passed : holds rule ≡ false
   pub rest : (more : List (Rule ℕ)) → verdict ((20 when not (right s)) ∷ rule ∷ more) ≡ verdict more
 
@@ -58,7 +59,7 @@ module _ (s : List ℕ) {fine : Bool} (is : fine ≡ right s) (rule : Rule ℕ) 
       by (n when c) e p =
           let h = none-holds ((20 when not fine) ∷ (n when c) ∷ []) e (omega arith, (p, tt)) g in
           let r = sym is ∙ not-false fine (h .0) in
-          record { right-is = r; passed = h .1 .0; rest = λ more. rw (r, h .1 .0) }
+          record { is-sheet = (r, right-parts s r .long); passed = h .1 .0; rest = λ more. rw (r, h .1 .0) }
 
   -- a refusal by these two is one by the whole list
   pub refused-first : (q : Refusal) → v ≡ Case.Refused q → (more : List (Rule ℕ)) → verdictNumber v ≡ verdict ((20 when not (right s)) ∷ rule ∷ more)
@@ -111,15 +112,16 @@ module _ (c : Call) (s : List ℕ) {v : Verdict} (e : verdictNumber v ≡ verdic
   accepted-is g = accepted-on c s (none-is (rulesOn c s) e g)
 
   -- and the sheet is right, and no rule of the model's holds
-  pub fine-is : v ≡ Case.Fine → (right s ≡ true) × NoneHolds (refusals c (bookOf s))
+  pub fine-is : v ≡ Case.Fine → IsSheet s × NoneHolds (refusals c (bookOf s))
   fine-is g =
       let h = none-holds (rulesOn c s) e (lit< tt, numbered c (bookOf s)) g in
-      (not-false (right s) (h .0), h .1)
+      let r = not-false (right s) (h .0) in
+      ((r, right-parts s r .long), h .1)
 
 -- a question is answered
 pub answered-is : (q : Question) (s : List ℕ) → Bytes s → {v : Verdict} → verdictNumber v ≡ verdict (rulesOn (Ask q) s) → v ≡ Case.Fine
     → (0 ∷ asked q (bookOf s), s) ≡ onSheet (call (Ask q)) s
-answered-is q s bytes e g = answered-on q s bytes (fine-is (Ask q) s e g .0) (none-is (rulesOn (Ask q) s) e g)
+answered-is q s bytes e g = answered-on q s bytes (fine-is (Ask q) s e g .0 .0) (none-is (rulesOn (Ask q) s) e g)
 
 -- a call whose rules begin with those of a drop, and of whose refusals 31 alone changes the book
 pub begun-refused : (c : Call) (d : ℕ) (s : List ℕ) (more : List (Rule ℕ)) → Bytes s → refusals c (bookOf s) ≡ refusals (Drop d) (bookOf s) ++ more

@@ -2,12 +2,12 @@
 // made one after the other need one check of the sheet.
 pub mod verdicts;
 
+use crate::verdicts::Verdict;
 use ledger_changes::desks;
 use ledger_changes::rows;
 use ledger_changes::ticks;
 use ledger_sheet::Answer;
 use ledger_sheet::RowAnswer;
-use crate::verdicts::Verdict;
 ghost use mathlib.Core.Path.{_≡_};
 ghost use Rattle.ledger_model.specs.Step.{Enrol, Open, Mark, Save, Drop, Strike};
 ghost use Rattle.ledger_sheet.specs.Sheet.{right};

@@ -20,12 +20,13 @@ use Rattle.octets.proofs.Laws.{Bytes}
 use Rattle.octets.proofs.Parts.{same-part, part-same}
 use Rattle.ledger_sheet.specs.Sheet.{ticksSize, rowSize, rowCount, openedAt, workedAt, deskSize, deskCount, headerNumberSize, usedAt, rowAt, deskAt, used, right}
 use Rattle.ledger_layout.specs.Rows.{rowBytes}
+use Rattle.ledger_layout.specs.inner.Rules.{IsSheet}
 use Rattle.ledger_layout.specs.Bytes.{openDesk}
 use Rattle.ledger_layout.specs.Layout.{bitsValue, tickBytes, placeBytes, deskBytes, countUsed, layout, bookOf}
 use Rattle.ledger_layout.proofs.Rows.{length-place, row-same}
 use Rattle.ledger_layout.proofs.Places.{shape, header-put, worked-put, length-layout, row-part, desk-put, row-put, desk-put-in}
 use Rattle.ledger_layout.proofs.Used.{count-same, count-more, count-less}
-use Rattle.ledger_layout.proofs.Right.{n, used-is, OpenDesk, open-read}
+use Rattle.ledger_layout.proofs.Right.{n, used-is, OpenDesk, open-read, layout-right}
 use Rattle.ledger_layout.proofs.Read.{read-law, book-fine}
 
 -- a set given twice is the last one; a row with its own set is itself
@@ -153,6 +154,9 @@ module _ (b : Book) (ok : WellFormed b) where
         sym (Basics.put-same free (withTicks t) (b .places) r new (set-twice t worked (place b r)) j)) in
         rw (o .worked-part, same-copy)
         (row-put b (shape ok) r new (o .row-there) same-desks ∙ rw (count-same (b .places) r worked))
+
+pub laid-sheet : (b : Book) → WellFormed b → IsSheet (layout b)
+laid-sheet b ok = (layout-right b ok, length-layout b (shape ok))
 
 -- ---- any right sheet
 

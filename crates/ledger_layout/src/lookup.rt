@@ -2,19 +2,20 @@
 use ledger_sheet as sheet;
 use ledger_sheet::right;
 ghost use mathlib.Core.Path.{_≡_};
-ghost use mathlib.Core.Bool.{true, not};
+ghost use mathlib.Core.Bool.{not};
 ghost use Prim.Native.Nat.{_+_, _≤_, _<_, _^_};
 ghost use lib.ListN.{length};
 ghost use Rattle.ledger_model.specs.Positions.{rowLength};
 ghost use Rattle.ledger_model.specs.Book.{place, desk, isFree, isOpen, placeOf, hasKey, placeWith, lowestFree, anyHasOpen};
-ghost use Rattle.ledger_sheet.specs.Sheet.{rowSize, rowCount, byteBits, deskCount, right};
+ghost use Rattle.ledger_sheet.specs.Sheet.{rowSize, rowCount, byteBits, deskCount};
+ghost use Rattle.ledger_layout.specs.inner.Rules.{IsSheet};
 ghost use Rattle.ledger_layout.specs.Layout.{bookOf};
 ghost use Rattle.ledger_layout.specs.Ticks.{tickedAt};
 ghost use Rattle.ledger_layout.specs.inner.Scans.{isRowOf};
 
 // The used row with the key, or 32 where there is none.
 pub fn find_row(s: &[u8], key: u64) -> usize
-    requires { ⌜ right (now s) ≡ true ⌝ }
+    requires { ⌜ IsSheet (now s) ⌝ }
     ensures { λ r. ⌜ r ≡ placeWith key (bookOf (now (s .entry)) .places) ⌝ }
 {
     for i in 0..sheet::ROWS {
@@ -27,7 +28,7 @@ pub fn find_row(s: &[u8], key: u64) -> usize
 
 // Whether row i is used and has the key.
 fn is_row_of(s: &[u8], key: u64, i: usize) -> bool
-    requires { ⌜ (right (now s) ≡ true) × (i < rowCount) ⌝ }
+    requires { ⌜ IsSheet (now s) × (i < rowCount) ⌝ }
     ensures { λ r. ⌜ r ≡ isRowOf key (place (bookOf (now (s .entry))) i) ⌝ }
 {
     if !right::is_used(s, i) {
@@ -38,7 +39,7 @@ fn is_row_of(s: &[u8], key: u64, i: usize) -> bool
 
 // Whether a used row has the key.
 pub fn has_key(s: &[u8], key: u64) -> bool
-    requires { ⌜ right (now s) ≡ true ⌝ }
+    requires { ⌜ IsSheet (now s) ⌝ }
     ensures { λ r. ⌜ r ≡ hasKey key (bookOf (now (s .entry)) .places) ⌝ }
 {
     find_row(s, key) < sheet::ROWS
@@ -46,7 +47,7 @@ pub fn has_key(s: &[u8], key: u64) -> bool
 
 // The lowest free row, or 32 where there is none.
 pub fn free_row(s: &[u8]) -> usize
-    requires { ⌜ right (now s) ≡ true ⌝ }
+    requires { ⌜ IsSheet (now s) ⌝ }
     ensures { λ r. ⌜ r ≡ lowestFree (bookOf (now (s .entry)) .places) ⌝ }
 {
     for i in 0..sheet::ROWS {
@@ -59,7 +60,7 @@ pub fn free_row(s: &[u8]) -> usize
 
 // Whether there is a row with this number: a free place is none.
 pub fn is_row(s: &[u8], row: usize) -> bool
-    requires { ⌜ right (now s) ≡ true ⌝ }
+    requires { ⌜ IsSheet (now s) ⌝ }
     ensures { λ r. ⌜ r ≡ not (isFree (place (bookOf (now (s .entry))) row)) ⌝ }
 {
     right::is_row(s, row)
@@ -67,7 +68,7 @@ pub fn is_row(s: &[u8], row: usize) -> bool
 
 // Whether desk d is closed.
 pub fn is_closed(s: &[u8], d: usize) -> bool
-    requires { ⌜ (right (now s) ≡ true) × (d < deskCount) ⌝ }
+    requires { ⌜ IsSheet (now s) × (d < deskCount) ⌝ }
     ensures { λ r. ⌜ r ≡ not (isOpen (desk (bookOf (now (s .entry))) d)) ⌝ }
 {
     s[sheet::desk_at(d)] == sheet::CLOSED
@@ -75,7 +76,7 @@ pub fn is_closed(s: &[u8], d: usize) -> bool
 
 // Whether no desk has the row open.
 pub fn is_idle(s: &[u8], row: usize) -> bool
-    requires { ⌜ right (now s) ≡ true ⌝ }
+    requires { ⌜ IsSheet (now s) ⌝ }
     ensures { λ r. ⌜ r ≡ not (anyHasOpen row (bookOf (now (s .entry)) .desks)) ⌝ }
 {
     let mut idle = true;
@@ -87,7 +88,7 @@ pub fn is_idle(s: &[u8], row: usize) -> bool
 
 // The row that desk d has open; 0 where it is closed.
 pub fn desk_row(s: &[u8], d: usize) -> usize
-    requires { ⌜ (right (now s) ≡ true) × (d < deskCount) ⌝ }
+    requires { ⌜ IsSheet (now s) × (d < deskCount) ⌝ }
     ensures { λ r. ⌜ r ≡ placeOf (desk (bookOf (now (s .entry))) d) ⌝ }
 {
     s[sheet::desk_at(d) + sheet::DESK_ROW_AT] as usize

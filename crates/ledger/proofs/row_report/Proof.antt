@@ -4,7 +4,6 @@ use mathlib.Core.List.{_∷_}
 use mathlib.Core.Path.{refl, sym, ap, _∙_}
 use Rattle.ledger_model.specs.Counts.{placeReport}
 use Rattle.ledger_model.specs.Step.{Ask, RowReport, refusals, asked, afterRefusal}
-use Rattle.ledger_sheet.proofs.Clauses.{right-parts}
 use Rattle.ledger_layout.proofs.Readers.{row-there, row-read-on}
 use Rattle.ledger_counts.specs.inner.Counts.{reportWords}
 use Rattle.ledger_judged.proofs.Judged.{refused-is, answered-is, fine-is}
@@ -39,7 +38,7 @@ row-report-requires c κs =
     let judged = c .before .before in
     let g = judged .before .before .before .args in
     let fine = fine-is (Ask (RowReport (g .row))) (g .s .now) (judged .row-verdict .ensures) (c .enum-told .given .1) in
-    (right-parts _ (fine .0) .long, omega (arith, row-there _ _ (fine .1 .0)))
+    (fine .0 .1, omega (arith, row-there _ _ (fine .1 .0)))
 
 returns-2 : tie.Need-returns-2
 unfolding refusals asked reportWords

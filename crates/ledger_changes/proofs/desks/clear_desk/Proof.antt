@@ -1,7 +1,5 @@
 -- `desks::clear_desk` meets its contract. Assumes nothing.
-use native.Mathlib.Omega.{arith}
 use mathlib.Core.Path.{_∙_}
-use Rattle.ledger_sheet.proofs.Clauses.{right-parts}
 use Rattle.ledger_layout.proofs.Writers.{clear-on}
 use borrow.Author.Needs.{needs}
 use Rattle.ledger_changes.proofs.desks.clear_desk.Statement.{statement}
@@ -11,7 +9,7 @@ desk-at-requires : tie.Need-desk-at-requires
 desk-at-requires c κs = search needs
 
 clear-requires : tie.Need-clear-requires
-clear-requires c κs = omega (arith, right-parts _ (c .before .before .before .pre .0) .long)
+clear-requires c κs = search needs
 
 same-length : tie.Need-same-length
 same-length c = search needs
@@ -21,7 +19,7 @@ returns c =
     let cleared = c .before .before in
     let known = cleared .before .before .before in
     (rw (cleared .before .desk-at .ensures) at (cleared .clear .ensures))
-    ∙ clear-on _ (known .slice-known .given) (known .before .pre .0) _ (known .before .pre .1)
+    ∙ clear-on _ (known .slice-known .given) (known .before .pre .0 .0) _ (known .before .pre .1)
 
 pub clear-desk-spec : {M : Type 1} → statement M
 clear-desk-spec = tie.close (tie.spec desk-at-requires clear-requires same-length returns)

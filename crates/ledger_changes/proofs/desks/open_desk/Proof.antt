@@ -3,7 +3,6 @@ use native.Mathlib.Omega.{arith}
 use mathlib.Core.Logic.{inl}
 use mathlib.Core.Path.{_∙_}
 use lib.ListN.{length-set}
-use Rattle.ledger_sheet.proofs.Clauses.{right-parts}
 use Rattle.ledger_layout.proofs.Writers.{open-on}
 use Rattle.ledger_changes.proofs.Written.{open-written}
 use borrow.Author.Needs.{needs}
@@ -17,7 +16,7 @@ row-at-requires : tie.Need-row-at-requires
 row-at-requires c κs = search needs
 
 slice-write-s : tie.Need-slice-write-s
-slice-write-s c = omega (arith, right-parts _ (c .before .before .before .pre .0) .long)
+slice-write-s c = search needs
 
 cast-s : tie.Need-cast-s
 cast-s c = search needs
@@ -26,13 +25,13 @@ add-s : tie.Need-add-s
 add-s c = search needs
 
 slice-write-s-2 : tie.Need-slice-write-s-2
-slice-write-s-2 c = let long = right-parts _ (c .before .before .before .pre .0) .long in simp length-set (omega arith)
+slice-write-s-2 c = simp length-set (omega arith)
 
 add-clear : tie.Need-add-clear
 add-clear c = search needs
 
 clear-requires : tie.Need-clear-requires
-clear-requires c κs = let long = right-parts _ (c .before .before .before .before .pre .0) .long in simp length-set (omega arith)
+clear-requires c κs = simp length-set (omega arith)
 
 add-copy : tie.Need-add-copy
 add-copy c = search needs
@@ -40,7 +39,6 @@ add-copy c = search needs
 copy-requires : tie.Need-copy-requires
 copy-requires c κs =
     let cleared = c .before .before .before in
-    let long = right-parts _ (cleared .before .before .before .before .before .pre .0) .long in
     let kept = simp length-set at (cleared .clear .kept .0) in
     ((omega arith, omega arith), inl (omega arith))
 
@@ -50,7 +48,6 @@ add-copy-2 c = search needs
 copy-requires-2 : tie.Need-copy-requires-2
 copy-requires-2 c κs =
     let cleared = c .before .before .before .before .before .before .before in
-    let long = right-parts _ (cleared .before .before .before .before .before .pre .0) .long in
     let kept = simp length-set at (cleared .clear .kept .0) in
     let kept-2 = c .before .before .before .copy .kept .0 in
     ((omega arith, omega arith), inl (omega arith))
@@ -69,9 +66,9 @@ returns c =
     let row = cleared .before .before .row-at .ensures in
     let known = start .before in
     let pre = known .before .pre in
-    open-written _ _ _ (right-parts _ (pre .0) .long) (pre .1) (rw desk at (cleared .clear .ensures)) (pre .2) (rw (desk, row) at (copied .copy .ensures))
+    open-written _ _ _ (pre .0 .1) (pre .1) (rw desk at (cleared .clear .ensures)) (pre .2) (rw (desk, row) at (copied .copy .ensures))
     (rw (desk, row) at (c .before .before .copy2 .ensures))
-    ∙ open-on _ (known .slice-known .given) (pre .0) _ _ (pre .1) (pre .2)
+    ∙ open-on _ (known .slice-known .given) (pre .0 .0) _ _ (pre .1) (pre .2)
 
 pub open-desk-spec : {M : Type 1} → statement M
 open-desk-spec =

@@ -4,8 +4,8 @@ use mathlib.Core.Path.{ap, _∙_}
 use borrow.Author.Tests.{lt-ltb}
 use Rattle.octets.proofs.Laws.{failed, passed}
 use Rattle.ledger_layout.specs.Layout.{laidOut}
-use Rattle.ledger_layout.proofs.Right.{layout-right, reads-back}
-use Rattle.ledger_layout.proofs.Writers.{stored-fine}
+use Rattle.ledger_layout.proofs.Right.{reads-back}
+use Rattle.ledger_layout.proofs.Writers.{laid-sheet, stored-fine}
 use Rattle.ledger_changes.proofs.Saves.{save-current, save-stale}
 use borrow.Author.Needs.{needs}
 use Rattle.ledger_changes.proofs.desks.save_desk.Statement.{statement}
@@ -35,7 +35,7 @@ clear-desk-requires-2 c κs =
     let stored = c .before .before .before in
     let known = stored .before .before .before .before .before in
     let pre = known .before .pre in
-    (rw (stored .store .ensures) (layout-right _ (stored-fine _ (known .slice-known .given) (pre .0) _ (pre .2))), pre .1)
+    (rw (stored .store .ensures) (laid-sheet _ (stored-fine _ (known .slice-known .given) (pre .0 .0) _ (pre .2))), pre .1)
 
 same-length-2 : tie.Need-same-length-2
 same-length-2 c = search needs
@@ -47,7 +47,7 @@ returns-2 c =
     let judged = stored .before .before in
     let known = judged .before .before .before in
     let pre = known .before .pre in
-    let fine = stored-fine _ (known .slice-known .given) (pre .0) _ (pre .2) in
+    let fine = stored-fine _ (known .slice-known .given) (pre .0 .0) _ (pre .2) in
     ap (λ t. (0 ∷ [], t)) (rw (stored .store .ensures, reads-back _ fine) at (cleared .clear-desk2 .ensures))
     ∙ ap laidOut (save-current _ _ (lt-ltb _ _ (pre .1)) (pre .2) (passed (judged .before .is-current .ensures) (judged .if1 .left)))
 

@@ -2,7 +2,6 @@
 use native.Mathlib.Omega.{arith}
 use mathlib.Core.Logic.{inr}
 use mathlib.Core.Path.{_∙_}
-use Rattle.ledger_sheet.proofs.Clauses.{right-parts}
 use Rattle.ledger_layout.proofs.Readers.{place-in}
 use Rattle.ledger_layout.proofs.Writers.{store-on}
 use borrow.Author.Needs.{needs}
@@ -15,7 +14,7 @@ desk-row-requires c κs = search needs
 row-at-requires : tie.Need-row-at-requires
 row-at-requires c κs =
     let pre = c .before .before .before .pre in
-    omega (arith, c .desk-row .ensures, place-in _ _ (pre .1) (pre .0) (pre .2))
+    omega (arith, c .desk-row .ensures, place-in _ _ (pre .1) (pre .0 .0) (pre .2))
 
 desk-at-requires : tie.Need-desk-at-requires
 desk-at-requires c κs = search needs
@@ -26,8 +25,7 @@ add-copy c = search needs
 copy-requires : tie.Need-copy-requires
 copy-requires c κs =
     let pre = c .before .before .before .before .before .before .pre in
-    let long = right-parts _ (pre .0) .long in
-    let row = place-in _ _ (pre .1) (pre .0) (pre .2) in
+    let row = place-in _ _ (pre .1) (pre .0 .0) (pre .2) in
     let named = c .before .before .before .desk-row .ensures in
     ((omega arith, omega arith), inr (omega arith))
 
@@ -41,7 +39,7 @@ returns c =
     let named = placed .before in
     let known = named .before .before in
     (rw (copied .before .desk-at .ensures, placed .row-at .ensures, named .desk-row .ensures) at (copied .copy .ensures))
-    ∙ store-on _ (known .slice-known .given) (known .before .pre .0) _ (known .before .pre .2)
+    ∙ store-on _ (known .slice-known .given) (known .before .pre .0 .0) _ (known .before .pre .2)
 
 pub store-spec : {M : Type 1} → statement M
 store-spec =

@@ -3,7 +3,6 @@ use native.Mathlib.Omega.{arith}
 use mathlib.Core.Path.{_∙_}
 use Rattle.octets.proofs.Laws.{number-lt}
 use Rattle.ledger_sheet.specs.Sheet.{headerNumberSize, usedAt}
-use Rattle.ledger_sheet.proofs.Clauses.{right-parts}
 use Rattle.ledger_layout.proofs.Scans.{free-in}
 use Rattle.ledger_layout.proofs.Writers.{enrol-on}
 use Rattle.ledger_changes.specs.inner.Rows.{blankRow, blankTicks}
@@ -15,7 +14,7 @@ free-row-requires : tie.Need-free-row-requires
 free-row-requires c κs = search needs
 
 rows-used-requires : tie.Need-rows-used-requires
-rows-used-requires c κs = right-parts _ (c .before .before .before .before .pre .0) .long
+rows-used-requires c κs = search needs
 
 row-at-requires : tie.Need-row-at-requires
 row-at-requires c κs =
@@ -29,7 +28,6 @@ write-row-requires : tie.Need-write-row-requires
 write-row-requires c κs =
     let found = c .before .before .before .before .before in
     let pre = found .before .before .before .pre in
-    let long = right-parts _ (pre .0) .long in
     let low = free-in _ (pre .1) in
     let is = found .free-row .ensures in
     search needs
@@ -41,10 +39,7 @@ add-write-be c =
     omega (arith, number-lt (known .before .args .s .now) usedAt headerNumberSize (known .slice-known .given), counted .rows-used .ensures)
 
 write-be-requires : tie.Need-write-be-requires
-write-be-requires c κs =
-    let row = c .before .before .before in
-    let long = right-parts _ (row .before .before .before .before .before .before .before .before .before .pre .0) .long in
-    omega (arith, row .write-row .kept .0)
+write-be-requires c κs = search needs
 
 cast-result : tie.Need-cast-result
 cast-result c =
@@ -61,12 +56,13 @@ returns c =
     let counted = row .before .before .before .before in
     let found = counted .before .before in
     let known = found .before .before in
-    let pre = known .before .pre in
-    (found .free-row .ensures,
-    rw (found .free-row .ensures)
-    ((rw (counted .rows-used .ensures, row .write-row .ensures, row .before .before .row-at .ensures, row .before .blank-row .ensures, found .free-row .ensures)
-    at (c .before .before .write-be .ensures))
-    ∙ enrol-on _ (known .slice-known .given) (pre .0) _ _ (pre .1)))
+    let pre = known .before .pre in (
+      found .free-row .ensures,
+      rw (found .free-row .ensures)
+          ((rw (counted .rows-used .ensures, row .write-row .ensures, row .before .before .row-at .ensures, row .before .blank-row .ensures, found .free-row .ensures)
+          at (c .before .before .write-be .ensures))
+          ∙ enrol-on _ (known .slice-known .given) (pre .0 .0) _ _ (pre .1)),
+    )
 
 pub enrol-row-spec : {M : Type 1} → statement M
 enrol-row-spec =

@@ -1,7 +1,6 @@
 -- `rows::strike_row` meets its contract. Assumes nothing.
 use native.Mathlib.Omega.{arith}
 use mathlib.Core.Path.{_∙_}
-use Rattle.ledger_sheet.proofs.Clauses.{right-parts}
 use Rattle.ledger_layout.proofs.Readers.{row-there, some-used}
 use Rattle.ledger_layout.proofs.Writers.{strike-on}
 use borrow.Author.Needs.{needs}
@@ -9,7 +8,7 @@ use Rattle.ledger_changes.proofs.rows.strike_row.Statement.{statement}
 use Rattle.ledger_changes.proofs.rows.strike_row.Tie as tie
 
 rows-used-requires : tie.Need-rows-used-requires
-rows-used-requires c κs = right-parts _ (c .before .before .pre .0) .long
+rows-used-requires c κs = c .before .before .pre .0 .1
 
 row-at-requires : tie.Need-row-at-requires
 row-at-requires c κs = omega (arith, row-there _ _ (c .before .before .before .before .pre .1))
@@ -17,19 +16,16 @@ row-at-requires c κs = omega (arith, row-there _ _ (c .before .before .before .
 clear-requires : tie.Need-clear-requires
 clear-requires c κs =
     let pre = c .before .before .before .before .before .pre in
-    omega (arith, right-parts _ (pre .0) .long, row-there _ _ (pre .1))
+    omega (arith, row-there _ _ (pre .1))
 
 sub-write-be : tie.Need-sub-write-be
 sub-write-be c =
     let used = c .before .before .before .before .before .before in
     let pre = used .before .before .before .pre in
-    omega (arith, used .rows-used .ensures, some-used _ _ (pre .0) (pre .1))
+    omega (arith, used .rows-used .ensures, some-used _ _ (pre .0 .0) (pre .1))
 
 write-be-requires : tie.Need-write-be-requires
-write-be-requires c κs =
-    let cleared = c .before .before .before in
-    let pre = cleared .before .before .before .before .before .before .pre in
-    omega (arith, cleared .clear .kept .0, right-parts _ (pre .0) .long)
+write-be-requires c κs = search needs
 
 same-length : tie.Need-same-length
 same-length c = search needs
@@ -41,7 +37,7 @@ returns c =
     let known = used .before .before in
     let pre = known .before .pre in
     (rw (used .rows-used .ensures, cleared .clear .ensures, cleared .before .row-at .ensures) at (c .before .before .write-be .ensures))
-    ∙ strike-on _ (known .slice-known .given) (pre .0) _ (pre .1) (pre .2)
+    ∙ strike-on _ (known .slice-known .given) (pre .0 .0) _ (pre .1) (pre .2)
 
 pub strike-row-spec : {M : Type 1} → statement M
 strike-row-spec =

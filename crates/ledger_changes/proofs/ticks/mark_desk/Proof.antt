@@ -4,7 +4,6 @@ use native.Mathlib.Omega.{arith}
 use Rattle.ledger_sheet.specs.Sheet.{rowSize, workedAt}
 use borrow.Author.Tests.{lt-ltb}
 use mathlib.Core.Path.{_∙_}
-use Rattle.ledger_sheet.proofs.Clauses.{right-parts}
 use Rattle.ledger_changes.specs.inner.Bytes.{markRow}
 use Rattle.ledger_changes.proofs.Marked.{mark-on}
 use Rattle.ledger_layout.proofs.Puts.{lent-back}
@@ -28,7 +27,7 @@ part-mark-row-start : tie.Need-part-mark-row-start
 part-mark-row-start c = search needs
 
 part-mark-row-end : tie.Need-part-mark-row-end
-part-mark-row-end c = omega (arith, right-parts _ (c .before .before .pre .0) .long)
+part-mark-row-end c = search needs
 
 mark-row-requires : tie.Need-mark-row-requires
 mark-row-requires c κs = search needs
@@ -42,10 +41,9 @@ returns c =
     let known = start .before in
     let g = known .before .args in
     let pre = known .before .pre in
-    let long = right-parts _ (pre .0) .long in
     let a = start .desk-at .result + workedAt in
     lent-back (g .s .now) a (a + rowSize - a) rowSize (markRow (g .on) (g .n)) (omega arith) (omega arith) (c .before .before .mark-row .ensures)
-    ∙ rw (start .desk-at .ensures) (mark-on _ (known .slice-known .given) (pre .0) _ (lt-ltb _ _ (pre .1)) (pre .2) _ _)
+    ∙ rw (start .desk-at .ensures) (mark-on _ (known .slice-known .given) (pre .0 .0) _ (lt-ltb _ _ (pre .1)) (pre .2) _ _)
 
 pub mark-desk-spec : {M : Type 1} → statement M
 mark-desk-spec =

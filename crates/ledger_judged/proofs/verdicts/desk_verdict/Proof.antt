@@ -31,7 +31,7 @@ begins : (c : tie.After-enum-told2) → let a = c .before .before .before .befor
 begins c = begun _ (c .before .before .before .before .pre) _ (c .before .before .desk-number-verdict .ensures) (omega arith) (c .enum-told2 .given .1)
 
 is-closed-requires : tie.Need-is-closed-requires
-is-closed-requires c κs = (begins c .right-is, ltb-true _ _ (not-false _ (begins c .passed)))
+is-closed-requires c κs = (begins c .is-sheet, ltb-true _ _ (not-false _ (begins c .passed)))
 
 returns-2 : tie.Need-returns-2
 unfolding refusals

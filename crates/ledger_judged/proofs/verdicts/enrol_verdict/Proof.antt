@@ -43,7 +43,7 @@ unfolding refusals
 returns-2 c = sym (begins (c .before .before) .rest _ ∙ stops _ _ (rw (c .before .is-number .ensures) at (c .if1 .taken)))
 
 has-key-requires : tie.Need-has-key-requires
-has-key-requires c κs = begins (c .before .before) .right-is
+has-key-requires c κs = begins (c .before .before) .is-sheet
 
 returns-3 : tie.Need-returns-3
 unfolding refusals
@@ -54,7 +54,7 @@ returns-3 c =
     ∙ stops _ _ (rw (c .before .has-key .ensures) at (c .if2 .taken)))
 
 free-row-requires : tie.Need-free-row-requires
-free-row-requires c κs = begins (c .before .before .before .before) .right-is
+free-row-requires c κs = begins (c .before .before .before .before) .is-sheet
 
 -- Where the first four pass.
 new : (c : tie.Else2) → let a = c .before .before .before .before .before .before .before .before .args in

@@ -30,7 +30,7 @@ begins : (c : tie.After-enum-told2) → let a = c .before .before .before .befor
 begins c = begun _ (c .before .before .before .before .pre) _ (c .before .before .key-verdict .ensures) (omega arith) (c .enum-told2 .given .1)
 
 has-key-requires : tie.Need-has-key-requires
-has-key-requires c κs = begins c .right-is
+has-key-requires c κs = begins c .is-sheet
 
 returns-2 : tie.Need-returns-2
 unfolding refusals

@@ -34,14 +34,14 @@ begins : (c : tie.After-enum-told2) → let a = c .before .before .before .befor
 begins c = begun _ (c .before .before .before .before .pre) _ (c .before .before .desk-number-verdict .ensures) (omega arith) (c .enum-told2 .given .1)
 
 is-row-requires : tie.Need-is-row-requires
-is-row-requires c κs = begins c .right-is
+is-row-requires c κs = begins c .is-sheet
 
 returns-2 : tie.Need-returns-2
 unfolding refusals
 returns-2 c = sym (begins (c .before .before) .rest _ ∙ stops _ _ (rw (c .before .is-row .ensures, Bool·not-not) at (c .if1 .taken)))
 
 is-closed-requires : tie.Need-is-closed-requires
-is-closed-requires c κs = let b = begins (c .before .before) in (b .right-is, ltb-true _ _ (not-false _ (b .passed)))
+is-closed-requires c κs = let b = begins (c .before .before) in (b .is-sheet, ltb-true _ _ (not-false _ (b .passed)))
 
 -- Where the first three pass.
 there : (c : tie.Else1) → let a = c .before .before .before .before .before .before .args in

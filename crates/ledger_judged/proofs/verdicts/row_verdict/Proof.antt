@@ -2,6 +2,7 @@
 use mathlib.Core.Bool.{Bool·not-not}
 use mathlib.Core.Path.{sym, _∙_}
 use Rattle.octets.proofs.Laws.{passed}
+use Rattle.ledger_sheet.proofs.Clauses.{right-parts}
 use Rattle.ledger_model.specs.Step.{refusals}
 use Rattle.ledger_judged.proofs.Judged.{stops, passes, none-left}
 use Rattle.ledger_judged.proofs.verdicts.row_verdict.Statement.{statement}
@@ -11,7 +12,7 @@ returns : tie.Need-returns
 returns c = sym (stops _ _ (rw (c .before .before .pre) at (c .if1 .taken)))
 
 is-row-requires : tie.Need-is-row-requires
-is-row-requires c κs = passed (c .before .before .pre) (c .if1 .left)
+is-row-requires c κs = let r = passed (c .before .before .pre) (c .if1 .left) in (r, right-parts _ r .long)
 
 returns-2 : tie.Need-returns-2
 unfolding refusals

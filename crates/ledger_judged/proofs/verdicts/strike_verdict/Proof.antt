@@ -32,7 +32,7 @@ unfolding refusals
 begins c = begun _ refl _ (c .before .before .row-verdict .ensures) (omega arith) (c .enum-told2 .given .1)
 
 is-idle-requires : tie.Need-is-idle-requires
-is-idle-requires c κs = begins c .right-is
+is-idle-requires c κs = begins c .is-sheet
 
 returns-2 : tie.Need-returns-2
 unfolding refusals

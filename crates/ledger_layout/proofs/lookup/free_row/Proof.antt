@@ -4,7 +4,6 @@ use mathlib.Core.Path.{_≡_, sym, _∙_}
 use native.Mathlib.Omega.{arith}
 use Rattle.ledger_model.specs.Book.{place, isFree}
 use Rattle.ledger_sheet.specs.Sheet.{rowCount}
-use Rattle.ledger_sheet.proofs.Clauses.{right-parts}
 use Rattle.ledger_layout.specs.Layout.{bookOf}
 use Rattle.ledger_layout.proofs.Scans.{Fails, each-none, each-more, lowest-here, lowest-none, free-place, lowest-free}
 use Rattle.ledger_layout.proofs.lookup.free_row.Statement.{statement}
@@ -20,7 +19,7 @@ loop-holds : tie.Need-loop-holds Inv-loop μ-loop
 loop-holds c = (omega arith, each-none _ _)
 
 is-used-requires : tie.Need-is-used-requires Inv-loop μ-loop
-is-used-requires c κs = (right-parts _ (c .before .before .before .pre) .long, omega arith)
+is-used-requires c κs = omega arith
 
 returns : tie.Need-returns Inv-loop μ-loop
 returns c =

@@ -1,7 +1,6 @@
 -- `is_closed` meets its contract. Assumes nothing.
 use native.Mathlib.Omega.{arith}
 use borrow.Author.Needs.{needs}
-use Rattle.ledger_sheet.proofs.Clauses.{right-parts}
 use Rattle.ledger_layout.proofs.Readers.{closed-on}
 use Rattle.ledger_layout.proofs.lookup.is_closed.Statement.{statement}
 use Rattle.ledger_layout.proofs.lookup.is_closed.Tie as tie
@@ -10,7 +9,7 @@ desk-at-requires : tie.Need-desk-at-requires
 desk-at-requires c κs = search needs
 
 shared-slice-read-result : tie.Need-shared-slice-read-result
-shared-slice-read-result c = omega (arith, right-parts _ (c .before .before .before .pre .0) .long)
+shared-slice-read-result c = search needs
 
 returns : tie.Need-returns
 returns c = rw (c .before .desk-at .ensures) (closed-on _ _ (omega arith))

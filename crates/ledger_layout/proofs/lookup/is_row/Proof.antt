@@ -1,12 +1,11 @@
 -- `is_row` meets its contract. Assumes nothing.
 use mathlib.Core.Path.{_∙_}
-use Rattle.ledger_sheet.proofs.Clauses.{right-parts}
 use Rattle.ledger_layout.proofs.Readers.{row-on}
 use Rattle.ledger_layout.proofs.lookup.is_row.Statement.{statement}
 use Rattle.ledger_layout.proofs.lookup.is_row.Tie as tie
 
 is-row-requires : tie.Need-is-row-requires
-is-row-requires c κs = right-parts _ (c .before .pre) .long
+is-row-requires c κs = c .before .pre .1
 
 returns : tie.Need-returns
 returns c = c .is-row .ensures ∙ row-on _ _

@@ -1,15 +1,13 @@
 -- `is_row_of` meets its contract. Assumes nothing.
 use Rattle.octets.proofs.Laws.{failed, passed}
-use native.Mathlib.Omega.{arith}
 use mathlib.Core.Path.{sym, _∙_}
-use Rattle.ledger_sheet.proofs.Clauses.{right-parts}
 use Rattle.ledger_layout.proofs.Scans.{row-of}
 use borrow.Author.Needs.{needs}
 use Rattle.ledger_layout.proofs.lookup.is_row_of.Statement.{statement}
 use Rattle.ledger_layout.proofs.lookup.is_row_of.Tie as tie
 
 is-used-requires : tie.Need-is-used-requires
-is-used-requires c κs = (right-parts _ (c .before .pre .0) .long, omega arith)
+is-used-requires c κs = search needs
 
 returns : tie.Need-returns
 returns c =
@@ -20,7 +18,7 @@ row-at-requires : tie.Need-row-at-requires
 row-at-requires c κs = search needs
 
 key-at-requires : tie.Need-key-at-requires
-key-at-requires c κs = omega (arith, right-parts _ (c .before .before .before .before .pre .0) .long)
+key-at-requires c κs = search needs
 
 returns-2 : tie.Need-returns-2
 returns-2 c =
