@@ -71,6 +71,7 @@ enum hernganow_refusal {
     HERNGANOW_REFUSED_NOT_TICKED = 30, /* not ticked */
     HERNGANOW_REFUSED_STALE = 31, /* the row is not what the desk opened */
     HERNGANOW_REFUSED_ROW_OPEN = 36, /* a desk has the row open */
+    HERNGANOW_REFUSED_MISSING_SPACE = 60, /* the lent list is shorter than the row's missing numbers */
     /* Traces and seasons. */
     HERNGANOW_REFUSED_NOT_TRACE = 40, /* not a trace */
     HERNGANOW_REFUSED_SEASON_LENGTH = 42, /* not a whole number of sheets, or over 16 */

@@ -42,6 +42,7 @@ use Rattle.refusals.specs.declared.Refusal.the-variants.{
   NotTicked,
   Stale,
   RowOpen,
+  MissingSpace,
   NotTrace,
   SeasonLength,
   KeyInTwoSheets,
@@ -68,7 +69,8 @@ back =
     ∷ TooShort ∷ SamplePair ∷ NotSheet ∷ NoDesk ∷ BadKey ∷ AlreadyEnrolled ∷ LedgerFull ∷ NoRow ∷ DeskOpen ∷ DeskClosed
     ∷ OutsideRow ∷ AlreadyTicked ∷ NotTicked ∷ Stale ∷ FirstNumber ∷ DayCount ∷ SampleWords ∷ SampleSpace ∷ RowOpen ∷ SampleValue
     ∷ AnswerLength ∷ TooShort ∷ NotTrace ∷ KeyInTwoSheets ∷ SeasonLength ∷ NotSettings ∷ UnknownEdition ∷ AlreadySet
-    ∷ SettingsFull ∷ NoSetting ∷ TooShort ∷ TooShort ∷ TapeLengths ∷ TapeLengthWord ∷ TapeTime ∷ TapeRate ∷ TapeBlock ∷ []
+    ∷ SettingsFull ∷ NoSetting ∷ TooShort ∷ TooShort ∷ TapeLengths ∷ TapeLengthWord ∷ TapeTime ∷ TapeRate ∷ TapeBlock ∷ TooShort
+    ∷ TooShort ∷ TooShort ∷ TooShort ∷ TooShort ∷ MissingSpace ∷ []
 
 refusalOf : ℕ → Refusal
 refusalOf n = getD back n TooShort
@@ -110,6 +112,7 @@ found AlreadyTicked = refl
 found NotTicked = refl
 found Stale = refl
 found RowOpen = refl
+found MissingSpace = refl
 found NotTrace = refl
 found SeasonLength = refl
 found KeyInTwoSheets = refl

@@ -38,6 +38,7 @@ use Rattle.refusals.specs.declared.Refusal.the-variants.{
   NotTicked,
   Stale,
   RowOpen,
+  MissingSpace,
   NotTrace,
   SeasonLength,
   KeyInTwoSheets,
@@ -91,6 +92,7 @@ numberOf AlreadyTicked = 29
 numberOf NotTicked = 30
 numberOf Stale = 31
 numberOf RowOpen = 36
+numberOf MissingSpace = 60
 numberOf NotTrace = 40
 numberOf SeasonLength = 42
 numberOf KeyInTwoSheets = 41

@@ -42,6 +42,7 @@ pub enum Refusal {
     NotTicked,
     Stale,
     RowOpen,
+    MissingSpace,
     // Traces and seasons (document 02, Req 11 and Req 13).
     NotTrace,
     SeasonLength,
@@ -104,6 +105,7 @@ pub fn number(r: Refusal) -> u32
         Refusal::NotTicked => 30,
         Refusal::Stale => 31,
         Refusal::RowOpen => 36,
+        Refusal::MissingSpace => 60,
         Refusal::NotTrace => 40,
         Refusal::SeasonLength => 42,
         Refusal::KeyInTwoSheets => 41,

@@ -154,6 +154,9 @@ enum-told-49 c = search needs
 enum-told-50 : tie.Need-enum-told-50
 enum-told-50 c = search needs
 
+enum-told-51 : tie.Need-enum-told-51
+enum-told-51 c = search needs
+
 returns : tie.Need-returns
 returns c = sym (ap numberOf (c .enum-told .given .1))
 
@@ -304,6 +307,9 @@ returns-49 c = sym (ap numberOf (c .enum-told49 .given .1))
 returns-50 : tie.Need-returns-50
 returns-50 c = sym (ap numberOf (c .enum-told50 .given .1))
 
+returns-51 : tie.Need-returns-51
+returns-51 c = sym (ap numberOf (c .enum-told51 .given .1))
+
 pub number-spec : {M : Type 1} → statement M
 number-spec =
     tie.close
@@ -358,6 +364,7 @@ number-spec =
     enum-told-48
     enum-told-49
     enum-told-50
+    enum-told-51
     returns
     returns-2
     returns-3
@@ -407,4 +414,5 @@ number-spec =
     returns-47
     returns-48
     returns-49
-    returns-50)
+    returns-50
+    returns-51)
