@@ -11,3 +11,5 @@ pub mod Private
 pub mod Counts
 pub mod Laws
 pub mod Tally
+pub mod Missing
+pub mod Kept

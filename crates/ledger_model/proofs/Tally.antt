@@ -97,7 +97,7 @@ Uncounted d e = (openedBy d e ≡ none) × ((flag : Bool) (t : List Entry) → m
 count-snoc : (flag : Bool) (t : List Entry) (e : Entry) → markCount flag (t ++ e ∷ []) ≡ markCount flag t + markCount flag (e ∷ [])
 count-snoc flag t e = rw (only-append (marked flag) t (e ∷ [])) (length-append (only (marked flag) t) _)
 
-last-snoc : (past : List Entry) (e : Entry) (d r : ℕ) → openedBy d e ≡ none → lastOpened d past ≡ some r → lastOpened d (past ++ e ∷ []) ≡ some r
+pub last-snoc : (past : List Entry) (e : Entry) (d r : ℕ) → openedBy d e ≡ none → lastOpened d past ≡ some r → lastOpened d (past ++ e ∷ []) ≡ some r
 unfolding lastOpened
 last-snoc past e d r n h = lastOpened-append d past (e ∷ []) ∙ rw (n, h)
 

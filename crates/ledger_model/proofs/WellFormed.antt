@@ -162,7 +162,7 @@ well-formed b s (striking {r = r} f n) = struck b s r n
 
 -- ---- the whole list
 
-well-formed-from : (calls : List Call) (b : Book) → WellFormed b → WellFormed (run b calls .book)
+pub well-formed-from : (calls : List Call) (b : Book) → WellFormed b → WellFormed (run b calls .book)
 unfolding run
 well-formed-from [] b s = s
 well-formed-from (c ∷ calls) b s = well-formed-from calls (step c b .book) (well-formed b s (outcome c b))

@@ -10,4 +10,6 @@ pub mod WellFormed
 pub mod Chain
 pub mod Claim
 pub mod Tally
+pub mod Missing
+pub mod Kept
 pub mod inner

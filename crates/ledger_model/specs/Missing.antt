@@ -1,0 +1,41 @@
+-- The missing list of a place: the numbers of the records to order, and what holds of it. Assumes nothing.
+-- The manual, docs/INTERFACE.md: "Calls on the ledger".
+use Prim.Native.Nat.{ℕ, zero, suc, _≤_}
+use mathlib.Core.Path.{_≡_}
+use mathlib.Core.Logic.{_↔_}
+use mathlib.Core.Bool.{true, false}
+use mathlib.Core.List.{List, [], _∷_, map, List·Memᴰ}
+use lib.ListN.{length, take}
+use Rattle.ledger_model.specs.Positions.{position, positionNumber, Positions, has, size, missing}
+use Rattle.ledger_model.specs.Book.{Place, free, row}
+use Rattle.ledger_model.specs.Counts.{placeReport}
+use Rattle.ledger_model.specs.WellFormed.{PlaceOk}
+
+-- The positions in a set, in their order.
+unfoldable pub positionsOf : Positions → List ℕ
+positionsOf [] = []
+positionsOf (true ∷ s) = zero ∷ map suc (positionsOf s)
+positionsOf (false ∷ s) = map suc (positionsOf s)
+
+-- The numbers at the missing positions of a place, in the order of the positions. Of a free place there are none.
+abbrev pub missingNumbers : Place → List ℕ
+missingNumbers free = []
+missingNumbers (row key first ticks) = map (positionNumber key first) (positionsOf (missing ticks))
+
+-- The row report's second number is the list's length, and its third, where it has one, the list's first number.
+abbrev pub AsReported : Type 0
+AsReported = (key first : ℕ) (ticks : Positions)
+    → let numbers = missingNumbers (row key first ticks) in
+    placeReport (row key first ticks) ≡ size ticks ∷ length numbers ∷ take 1 numbers
+
+-- A number stands in the list exactly where its position is missing: unticked, with a ticked one above. No other number does.
+abbrev pub ExactlyMissing : Type 0
+ExactlyMissing = (key first : ℕ) (ticks : Positions) → PlaceOk (row key first ticks)
+    → (n : ℕ) → List·Memᴰ n (missingNumbers (row key first ticks)) ↔ (has (missing ticks) (position key first n) ≡ true)
+
+-- One position at least is ticked where one is missing: a list of 1,023 numbers is always long enough.
+abbrev pub mostMissing : ℕ
+mostMissing = 1023
+
+abbrev pub LongEnough : Type 0
+LongEnough = (p : Place) → PlaceOk p → length (missingNumbers p) ≤ mostMissing
