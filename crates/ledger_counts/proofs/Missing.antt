@@ -88,7 +88,7 @@ size-from (suc n) r p l f h = by (eq-or-lt-of-le l) (λ q. size-from n r p q f (
 -- ---- a position below the highest ticked one is missing exactly when it is unticked
 
 -- the positions after the first
-after-first : (n t : ℕ) (p : ℕ → Bool) → Top (suc n) p (suc t) → Top n (λ i. p (suc i)) t
+pub after-first : (n t : ℕ) (p : ℕ → Bool) → Top (suc n) p (suc t) → Top n (λ i. p (suc i)) t
 after-first n t p top =
     let w = top .within in
     record {
@@ -98,7 +98,7 @@ after-first n t p top =
     }
 
 -- an unticked first position has a ticked one after it
-ticked-after : (n t : ℕ) (p : ℕ → Bool) → Top (suc n) p (suc t) → p 0 ≡ false → anyTicked (table n (λ i. p (suc i))) ≡ true
+pub ticked-after : (n t : ℕ) (p : ℕ → Bool) → Top (suc n) p (suc t) → p 0 ≡ false → anyTicked (table n (λ i. p (suc i))) ≡ true
 ticked-after n zero p top e = absurd (true≢false (sym (top .last 0 refl) ∙ e))
 ticked-after n (suc k) p top e = let w = top .within in any-some n k (λ i. p (suc i)) (omega arith) (top .last (suc k) refl)
 

@@ -33,7 +33,7 @@ pub and-full : (k x y : ℕ) → x < 2 ^ k → y < 2 ^ k → bitAnd x y ≡ 2 ^ 
 and-full k x y p q e = (omega (arith, and-le-l x y), omega (arith, and-le-r x y))
 
 -- bits from n on, as those of the number shifted down by n
-shifted : (x n j : ℕ) → x / 2 ^ (n + j) ≡ x / 2 ^ n / 2 ^ j
+pub shifted : (x n j : ℕ) → x / 2 ^ (n + j) ≡ x / 2 ^ n / 2 ^ j
 shifted x n j = rw (pow-add 2 n j, ← div-div-eq-div-mul)
 
 tail-bit : (k x n i : ℕ) → x / 2 ^ n ≡ (2 ^ k - 1) / 2 ^ n → n ≤ i → i < k → bitOf x i ≡ true

@@ -23,7 +23,7 @@ ghost use Rattle.ledger_counts.specs.inner.Words.{wordBits, wordCount, l
 // A word of ticks, in bytes and in positions, and how many of them a row has.
 const WORD: usize = 8;
 
-const WORD_BITS: usize = sheet::BYTE_BITS * WORD;
+pub const WORD_BITS: usize = sheet::BYTE_BITS * WORD;
 
 const WORDS: usize = sheet::TICKS / WORD;
 
@@ -38,7 +38,7 @@ const FULL: u64 = !0;
 const POSITIONS: usize = WORD_BITS * WORDS;
 
 // The ticks of the 64 positions from 64 k on, as one number: bit i of it is position 64 k + i. LLVM makes one load of it.
-fn tick_word(s: &[u8], a: usize, k: usize) -> u64
+pub fn tick_word(s: &[u8], a: usize, k: usize) -> u64
     requires { ⌜ (a + rowSize ≤ length (now s)) × (k < wordCount) ⌝ }
     ensures { λ r. ⌜ IsWord (now (s .entry)) a k r ⌝ }
 {
@@ -60,7 +60,7 @@ fn block_ones(first: u64, second: u64, third: u64, fourth: u64) -> u32
 }
 
 // How many positions of the row at offset a are ticked: the ones of its words.
-fn ticked_count(s: &[u8], a: usize) -> u32
+pub fn ticked_count(s: &[u8], a: usize) -> u32
     requires { ⌜ a + rowSize ≤ length (now s) ⌝ }
     ensures { λ r. ⌜ r ≡ size (ticksIn (now (s .entry)) a) ⌝ }
 {
@@ -112,7 +112,7 @@ fn ticks_start(s: &[u8], a: usize) -> usize
 }
 
 // One past the highest ticked position of the row at offset a, or 0. What is unticked below it is missing.
-fn ticks_end(s: &[u8], a: usize) -> usize
+pub fn ticks_end(s: &[u8], a: usize) -> usize
     requires { ⌜ a + rowSize ≤ length (now s) ⌝ }
     ensures { λ r. ⌜ r ≡ pastHighest rowLength (tickedAt (now (s .entry)) a) ⌝ }
 {
@@ -146,7 +146,7 @@ fn lowest_unticked(s: &[u8], a: usize, end: usize) -> usize
 }
 
 // The number at position i of the row at offset a.
-fn number_in(s: &[u8], a: usize, i: usize) -> u32
+pub fn number_in(s: &[u8], a: usize, i: usize) -> u32
     requires { ⌜ (a + rowSize ≤ length (now s)) × (i < rowLength) ⌝ }
     ensures { λ r. ⌜ r ≡ numberAtPosition (now (s .entry)) a i ⌝ }
 {

@@ -7,7 +7,7 @@ use mathlib.Core.Logic.{_≢_}
 use mathlib.Core.List.{List, [], _∷_, _++_}
 use mathlib.Core.Path.{_≡_, refl, sym, ap, _∙_}
 use borrow.Author.Tests.{ne-eqb}
-use Rattle.refusals.specs.Judge.{Rule, judge, verdict}
+use Rattle.refusals.specs.Judge.{Rule, _when_, judge, verdict}
 use Rattle.refusals.proofs.Judged.{Outcome, AllGive, outcome, none, first, none-verdict, first-judge, first-gives, judge-append}
 use Rattle.ledger_model.specs.Book.{Book}
 use Rattle.ledger_model.specs.Step.{Question, Call, Ask, asked, answerWords, refusals, effect, afterRefusal, step}
@@ -69,6 +69,13 @@ refused-first xs more {n} e p = by (outcome xs)
     by (first g f) =
         let one : n ≡ g = e ∙ first-judge (λ given. given) 0 f in
         one ∙ sym (judge-append (λ given. given) xs more 0 ∙ first-judge (λ given. given) (verdict more) f)
+
+-- what rules that give n make of it
+pub given-judge : {B : Type 0} (f : ℕ → B) (xs : List (Rule ℕ)) (made : B) {n : ℕ} → n ≡ verdict xs → n ≢ 0 → f n ≡ judge f xs made
+unfolding judge
+given-judge f [] made e p = absurd (p e)
+given-judge f ((g when true) ∷ xs) made e p = ap f e
+given-judge f ((g when false) ∷ xs) made e p = given-judge f xs made e p
 
 -- what is given has what every rule gives has
 pub given-has : (P : ℕ → Type 0) (xs : List (Rule ℕ)) → AllGive P xs → {n : ℕ} → n ≡ verdict xs → n ≢ 0 → P n

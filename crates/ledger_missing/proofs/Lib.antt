@@ -1,0 +1,3 @@
+pub mod Gaps
+pub mod Calls
+pub mod Laws
