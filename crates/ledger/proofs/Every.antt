@@ -178,7 +178,7 @@ module _ (b : Book) (ok : WellFormed b) where
 
 -- ---- a list of calls
 
-chain-from : (calls : List Call) (b : Book) → WellFormed b → Chain Promised (layout b) (run b calls .log) (layout (run b calls .book))
+pub chain-from : (calls : List Call) (b : Book) → WellFormed b → Chain Promised (layout b) (run b calls .log) (layout (run b calls .book))
 unfolding run Kept
 chain-from [] b ok = stop
 chain-from (c ∷ calls) b ok = next (promised b ok c) (chain-from calls (step c b .book) (well-formed b ok (outcome c b)))

@@ -41,11 +41,7 @@ pub fn enrol(s: &mut [u8], key: u64, first: u32) -> RowAnswer
 pub fn find(s: &[u8], key: u64) -> RowAnswer
     ensures { λ r. ⌜ (rowWords r, now (s .entry)) ≡ onSheet (call (Ask (Find key))) (now (s .entry)) ⌝ }
 {
-    let verdict = verdicts::find_verdict(s, right::is_sheet(s), key);
-    if let Verdict::Refused(why) = verdict {
-        return RowAnswer::Refused(why);
-    }
-    RowAnswer::Row(ledger_layout::lookup::find_row(s, key) as u32)
+    judged::find(s, right::is_sheet(s), key)
 }
 
 // Opens a row at a desk.

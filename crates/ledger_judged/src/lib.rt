@@ -1,15 +1,16 @@
-// The calls that change a sheet, where it is known whether the sheet is right. Each leaves a right sheet right (`stays-right`), so calls that are
-// made one after the other need one check of the sheet.
+// Find, and the calls that change a sheet, where it is known whether the sheet is right. Each leaves a right sheet right (`stays-right`), so calls
+// that are made one after the other need one check of the sheet.
 pub mod verdicts;
 
 use crate::verdicts::Verdict;
 use ledger_changes::desks;
 use ledger_changes::rows;
 use ledger_changes::ticks;
+use ledger_layout::lookup;
 use ledger_sheet::Answer;
 use ledger_sheet::RowAnswer;
 ghost use mathlib.Core.Path.{_≡_};
-ghost use Rattle.ledger_model.specs.Step.{Enrol, Open, Mark, Save, Drop, Strike};
+ghost use Rattle.ledger_model.specs.Step.{Enrol, Ask, Find, Open, Mark, Save, Drop, Strike};
 ghost use Rattle.ledger_sheet.specs.Sheet.{right};
 ghost use Rattle.ledger_sheet.specs.Words.{answerWords, rowWords};
 ghost use Rattle.ledger_layout.specs.Layout.{call, onSheet};
@@ -23,6 +24,17 @@ pub fn enrol(s: &mut [u8], fine: bool, key: u64, first: u32) -> RowAnswer
         return RowAnswer::Refused(why);
     }
     RowAnswer::Row(rows::enrol_row(s, key, first))
+}
+
+pub fn find(s: &[u8], fine: bool, key: u64) -> RowAnswer
+    requires { ⌜ fine ≡ right (now s) ⌝ }
+    ensures { λ r. ⌜ (rowWords r, now (s .entry)) ≡ onSheet (call (Ask (Find key))) (now (s .entry)) ⌝ }
+{
+    let verdict = verdicts::find_verdict(s, fine, key);
+    if let Verdict::Refused(why) = verdict {
+        return RowAnswer::Refused(why);
+    }
+    RowAnswer::Row(lookup::find_row(s, key) as u32)
 }
 
 pub fn open(s: &mut [u8], fine: bool, desk: u32, row: u32) -> Answer

@@ -51,7 +51,7 @@ fn no_turn(answer: stream::Walked) -> Turn
 }
 
 // The turn at a place of a list of `size` entries, `count` of them filled.
-fn turn_at(s: &[u8], at: usize, count: usize, size: usize) -> Turn
+pub fn turn_at(s: &[u8], at: usize, count: usize, size: usize) -> Turn
     ensures { λ r. ⌜ TurnAt (now (s .entry)) at count size r ⌝ }
 {
     let cursor = stream::Cursor { at };
