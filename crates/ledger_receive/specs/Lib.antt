@@ -1,0 +1,4 @@
+pub mod Visits
+pub mod Receive
+pub mod Laws
+pub mod inner
