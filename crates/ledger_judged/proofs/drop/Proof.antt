@@ -1,8 +1,10 @@
 -- `ledger_judged::drop` meets its contract. Assumes nothing.
+use native.Mathlib.Omega.{arith}
 use mathlib.Core.List.{[], _∷_}
 use mathlib.Core.Path.{refl, ap, _∙_}
 use borrow.Author.Tests.{not-false, ltb-true}
 use Rattle.ledger_model.specs.Step.{Drop, refusals, effect, afterRefusal}
+use Rattle.ledger_sheet.specs.Sheet.{deskCount}
 use Rattle.ledger_judged.proofs.Judged.{refused-is, accepted-is, fine-is}
 use borrow.Author.Needs.{needs}
 use Rattle.ledger_judged.proofs.drop.Statement.{statement}
@@ -34,7 +36,7 @@ clear-desk-requires c κs =
     let judged = c .before .before .before in
     let g = judged .before .before .before .args in
     let fine = fine-is (Drop (g .desk)) (g .s .now) (judged .desk-verdict .ensures) (c .before .enum-told .given .1) in
-    (fine .0, ltb-true _ _ (not-false _ (fine .1 .0)))
+    (fine .0, omega (arith, ltb-true (g .desk) deskCount (not-false _ (fine .1 .0))))
 
 same-length-2 : tie.Need-same-length-2
 same-length-2 c = search needs

@@ -1,12 +1,14 @@
 -- `ledger_judged::find` meets its contract. Assumes nothing.
+use Prim.Native.Nat.{ℕ, _≤_}
 use native.Mathlib.Omega.{arith}
-use mathlib.Core.Path.{refl, _∙_}
-use borrow.Author.Tests.{not-false, ltb-true}
-use Rattle.ledger_model.specs.Step.{Ask, Find, refusals, asked, afterRefusal}
-use Rattle.ledger_model.specs.Book.{placeWith}
+use mathlib.Core.List.{List}
+use mathlib.Core.Path.{_≡_, refl}
+use Rattle.ledger_model.specs.Step.{Ask, Find, asked, afterRefusal}
+use Rattle.ledger_model.specs.Book.{place, placeWith}
 use Rattle.ledger_sheet.specs.Sheet.{rowCount}
 use Rattle.ledger_layout.specs.Layout.{bookOf}
-use Rattle.ledger_layout.proofs.Scans.{has-key}
+use Rattle.ledger_layout.specs.inner.Scans.{isRowOf}
+use Rattle.ledger_layout.proofs.Scans.{lowest-within, with-key}
 use Rattle.ledger_judged.proofs.Judged.{refused-is, answered-is, fine-is}
 use borrow.Author.Needs.{needs}
 use Rattle.ledger_judged.proofs.find.Statement.{statement}
@@ -36,14 +38,12 @@ find-row-requires c κs =
     let g = judged .before .before .args in
     fine-is (Ask (Find (g .key))) (g .s .now) (judged .find-verdict .ensures) (c .enum-told .given .1) .0
 
+-- What it finds is a place, or 32.
+few : (s : List ℕ) (key : ℕ) {r : ℕ} → r ≡ placeWith key (bookOf s .places) → r ≤ rowCount
+few s key e = omega (arith, e, with-key s key, lowest-within rowCount (λ i. isRowOf key (place (bookOf s) i)))
+
 cast-t7 : tie.Need-cast-t7
-unfolding refusals
-cast-t7 c =
-    let judged = c .before .before .before in
-    let g = judged .before .before .args in
-    let fine = fine-is (Ask (Find (g .key))) (g .s .now) (judged .find-verdict .ensures) (c .before .enum-told .given .1) in
-    let below = ltb-true (placeWith (g .key) (bookOf (g .s .now) .places)) rowCount (has-key (g .s .now) (g .key) ∙ not-false _ (fine .1 .1 .0)) in
-    omega (arith, c .find-row .ensures, below)
+cast-t7 c = omega (arith, few _ _ (c .find-row .ensures))
 
 returns-2 : tie.Need-returns-2
 unfolding asked

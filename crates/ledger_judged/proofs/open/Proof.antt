@@ -1,8 +1,10 @@
 -- `ledger_judged::open` meets its contract. Assumes nothing.
+use native.Mathlib.Omega.{arith}
 use mathlib.Core.List.{[], _∷_}
 use mathlib.Core.Path.{refl, ap, _∙_}
 use borrow.Author.Tests.{not-false, ltb-true}
 use Rattle.ledger_model.specs.Step.{Open, refusals, effect, afterRefusal}
+use Rattle.ledger_sheet.specs.Sheet.{deskCount}
 use Rattle.ledger_layout.proofs.Readers.{row-there}
 use Rattle.ledger_judged.proofs.Judged.{refused-is, accepted-is, fine-is}
 use borrow.Author.Needs.{needs}
@@ -34,8 +36,11 @@ unfolding refusals
 open-desk-requires c κs =
     let judged = c .before .before .before in
     let g = judged .before .before .before .args in
-    let fine = fine-is (Open (g .desk) (g .row)) (g .s .now) (judged .open-verdict .ensures) (c .before .enum-told .given .1) in
-    (fine .0, ltb-true _ _ (not-false _ (fine .1 .0)), row-there _ _ (fine .1 .1 .0))
+    let fine = fine-is (Open (g .desk) (g .row)) (g .s .now) (judged .open-verdict .ensures) (c .before .enum-told .given .1) in (
+      fine .0,
+      omega (arith, ltb-true (g .desk) deskCount (not-false _ (fine .1 .0))),
+      omega (arith, row-there (g .s .now) (g .row) (fine .1 .1 .0)),
+    )
 
 same-length-2 : tie.Need-same-length-2
 same-length-2 c = search needs

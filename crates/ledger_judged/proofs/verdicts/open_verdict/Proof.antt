@@ -8,6 +8,7 @@ use borrow.Author.Needs.{needs}
 use Rattle.refusals.specs.Judge.{_when_, verdict}
 use Rattle.ledger_layout.specs.Layout.{bookOf}
 use Rattle.ledger_layout.specs.inner.Rules.{rulesOn}
+use Rattle.ledger_sheet.specs.Sheet.{deskCount}
 use Rattle.ledger_model.specs.Book.{desk, isDesk, isOpen}
 use Rattle.ledger_model.specs.Step.{Open, refusals}
 use Rattle.ledger_judged.proofs.Judged.{Begun, begun, refused-first, stops, passes, none-left}
@@ -41,7 +42,10 @@ unfolding refusals
 returns-2 c = sym (begins (c .before .before) .rest _ ∙ stops _ _ (rw (c .before .is-row .ensures, Bool·not-not) at (c .if1 .taken)))
 
 is-closed-requires : tie.Need-is-closed-requires
-is-closed-requires c κs = let b = begins (c .before .before) in (b .is-sheet, ltb-true _ _ (not-false _ (b .passed)))
+is-closed-requires c κs =
+    let told = c .before .before in
+    let b = begins told in
+    (b .is-sheet, omega (arith, ltb-true (told .before .before .before .before .args .desk) deskCount (not-false _ (b .passed))))
 
 -- Where the first three pass.
 there : (c : tie.Else1) → let a = c .before .before .before .before .before .before .args in
