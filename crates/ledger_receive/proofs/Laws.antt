@@ -11,7 +11,7 @@ use lib.ListN.{length, getD, List·getD-append, List·getD-eq-default}
 use Rattle.sfdu_stream.specs.Listing.{fills, listNumbers}
 use Rattle.ledger_model.specs.Book.{Book, fresh, place, desk, closed}
 use Rattle.ledger_model.specs.Step.{Call, Answer, gave, refused, step, Entry, _⇒_, callOf, Run, run}
-use Rattle.ledger_model.specs.WellFormed.{keyOf}
+use Rattle.ledger_model.specs.WellFormed.{WellFormed, keyOf}
 use Rattle.ledger_model.specs.Chain.{Chain, stop, next}
 use Rattle.ledger_model.specs.Kept.{TickedIn, takenOut}
 use Rattle.ledger_model.proofs.Claim.{log-calls}
@@ -58,11 +58,11 @@ proper : (a : Answer) → a ≢ refused 0 → Proper a
 proper (gave words) n = tt
 proper (refused number) n = λ e. n (ap refused e)
 
-record Ran (b : Book) (log : List Entry) (t : List ℕ) : Type 0 where
-  answers : run b (map callOf log) .log ≡ log
-  holds : Holds t (run b (map callOf log) .book)
+pub record Ran (b : Book) (log : List Entry) (t : List ℕ) : Type 0 where
+  pub answers : run b (map callOf log) .log ≡ log
+  pub holds : Holds t (run b (map callOf log) .book)
 
-ran : {s t : List ℕ} {log : List Entry} → Chain Promised s log t → (b : Book) → Holds s b → Ran b log t
+pub ran : {s t : List ℕ} {log : List Entry} → Chain Promised s log t → (b : Book) → Holds s b → Ran b log t
 unfolding run
 ran stop b h = record { answers = refl; holds = h }
 ran (next {c = c} {a = a} {es = es} p k) b h =
@@ -76,26 +76,30 @@ ran (next {c = c} {a = a} {es = es} p k) b h =
     one-more e q = cc
 
 -- The book of a night's sheet.
-night-ran : (past : List Entry) (s : List ℕ) → Night past s → Ran fresh past s
+pub night-ran : (past : List Entry) (s : List ℕ) → Night past s → Ran fresh past s
 night-ran past s n =
     ran (n .calls-made) fresh (record { is-well = fresh-well-formed; is-laid = made-fresh (n .slice) (n .start) (n .made-fresh) ∙ fresh-layout })
 
 -- A night goes on.
-chain-append : {s t u : List ℕ} {es fs : List Entry} → Chain Promised s es t → Chain Promised t fs u → Chain Promised s (es ++ fs) u
+pub chain-append : {s t u : List ℕ} {es fs : List Entry} → Chain Promised s es t → Chain Promised t fs u → Chain Promised s (es ++ fs) u
 chain-append stop q = q
 chain-append (next p k) q = next p (chain-append k q)
 
+-- by the calls of a receive
+pub receive-chain : (d : ℕ) (stream list s : List ℕ) (b : Book) → Holds s b → Accepted d s
+    → Chain Promised s (run (bookOf s) (callsOf d stream list s) .log) (sheetAfter d stream list s)
+receive-chain d stream list s b h a =
+    let well : WellFormed (bookOf s) = rw (holds-book h) (h .is-well) in
+    let laid : s ≡ layout (bookOf s) = h .is-laid ∙ ap layout (sym (holds-book h)) in
+    rw (sheet-is d stream list s a) (from-laid s (bookOf s) laid (chain-from (callsOf d stream list s) (bookOf s) well))
+
 pub night-goes-on : NightGoesOn
 night-goes-on past s n d stream list a =
-    let k = night-ran past s n .holds in
-    let here : Holds s (bookOf s) = record { is-well = rw (holds-book k) (k .is-well); is-laid = k .is-laid ∙ ap layout (sym (holds-book k)) } in
-    let calls = callsOf d stream list s in
     record {
       slice = n .slice;
       start = n .start;
       made-fresh = n .made-fresh;
-      calls-made = chain-append (n .calls-made)
-          (rw (sheet-is d stream list s a) (from-laid s (bookOf s) (here .is-laid) (chain-from calls (bookOf s) (here .is-well))));
+      calls-made = chain-append (n .calls-made) (receive-chain d stream list s _ (night-ran past s n .holds) a);
     }
 
 -- ---- what was received is not ordered

@@ -4,4 +4,5 @@ pub mod Arrivals
 pub mod Rounds
 pub mod Receives
 pub mod Laws
+pub mod Nights
 pub mod Again

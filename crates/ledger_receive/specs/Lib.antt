@@ -1,4 +1,5 @@
 pub mod Visits
 pub mod Receive
 pub mod Laws
+pub mod Nights
 pub mod inner
