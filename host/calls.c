@@ -13,13 +13,16 @@
 #define MOST_SETTINGS 1024
 #define MOST_NUMBERS 131072
 #define MOST_PACKED 70000
+#define MOST_LIST 1100
 #define FILLED 165
 #define FILLED_NUMBER 7
 
 enum op {
+    READ_ONE = 1,
     READ_HEADERS = 4,
     TELEMETRY_KEY = 6,
     RSR_KEY = 7,
+    PARTS = 10,
     DATE = 12,
     UNPACK,
     PACK,
@@ -39,7 +42,12 @@ enum op {
     CONVERT,
     REPLAY,
     SEASON,
-    LOAD_SETTINGS = 39,
+    ROW,
+    DESK,
+    MISSING_NUMBERS,
+    RECEIVE,
+    REPLAY_ON,
+    LOAD_SETTINGS,
     MAKE_EMPTY,
     ADD,
     ASK
@@ -63,6 +71,9 @@ static size_t settings_length = HERNGANOW_SETTINGS;
 /* What one frame's samples are unpacked into, or packed from and into. */
 static int32_t numbers[MOST_NUMBERS];
 static uint8_t packed[MOST_PACKED];
+
+/* What missing numbers and the outcomes of records are written into. */
+static uint32_t list[MOST_LIST];
 
 static uint64_t big_endian(const uint8_t *bytes, size_t length)
 {
@@ -108,7 +119,7 @@ static uint32_t crc(const uint8_t *bytes, size_t length)
 
 static int is_on_sheet(uint32_t op)
 {
-    return op >= LOAD && op <= REPLAY;
+    return (op >= LOAD && op <= REPLAY) || (op >= ROW && op <= REPLAY_ON);
 }
 
 static int is_on_settings(uint32_t op)
@@ -123,7 +134,7 @@ static int is_load(uint32_t op)
 
 static int is_exported(uint32_t op)
 {
-    return op == READ_HEADERS || op == TELEMETRY_KEY || op == RSR_KEY || (op >= DATE && op <= GAIN) || op == SEASON || is_on_sheet(op)
+    return op == READ_ONE || op == PARTS || op == READ_HEADERS || op == TELEMETRY_KEY || op == RSR_KEY || (op >= DATE && op <= GAIN) || op == SEASON || is_on_sheet(op)
         || is_on_settings(op);
 }
 
@@ -133,9 +144,21 @@ static int has_crc(uint32_t op)
     return op == UNPACK || op == PACK || is_on_sheet(op) || is_on_settings(op);
 }
 
+/* Whether a call is lent a list of numbers; its line then has the list's crc before the sheet's. */
+static int has_list(uint32_t op)
+{
+    return op == MISSING_NUMBERS || op == RECEIVE;
+}
+
 static uint32_t make(const struct frame *f, uint8_t *answer, size_t length)
 {
     switch (f->op) {
+    case READ_ONE: return hernganow_read_one(f->a, f->a_length, answer, length);
+    case PARTS: return hernganow_parts(f->key, answer, length);
+    case ROW: return hernganow_row(sheet, sheet_length, f->x, answer, length);
+    case MISSING_NUMBERS: return hernganow_missing_numbers(sheet, sheet_length, f->x, list, f->z, answer, length);
+    case RECEIVE: return hernganow_receive(sheet, sheet_length, f->x, f->a, f->a_length, list, f->z, answer, length);
+    case REPLAY_ON: return hernganow_replay_on(f->a, f->a_length, sheet, sheet_length, answer, length);
     case READ_HEADERS: return hernganow_read_headers(f->a, f->a_length, f->x, answer, length);
     case TELEMETRY_KEY: return hernganow_telemetry_key(f->x, f->y, f->z, f->w, answer, length);
     case RSR_KEY: return hernganow_rsr_key(f->x, f->y, f->z, f->w, answer, length);
@@ -184,6 +207,15 @@ static uint32_t crc_of_lent(const struct frame *f)
     return crc(laid, 4 * (size_t)f->z);
 }
 
+/* The crc of a list, each number as 4 bytes, most significant first. */
+static uint32_t crc_of_list(size_t count)
+{
+    static uint8_t laid[4 * MOST_LIST];
+    for (size_t i = 0; i < 4 * count; i++)
+        laid[i] = (uint8_t)(list[i / 4] >> (24 - 8 * (i % 4)));
+    return crc(laid, 4 * count);
+}
+
 /* What a frame does before its call: ops 19 and 39 are no calls, and op 31 and samples are written into slices of their own. */
 static void prepare(const struct frame *f)
 {
@@ -191,6 +223,8 @@ static void prepare(const struct frame *f)
         settings_length = f->a_length;
         memcpy(settings, f->a, settings_length);
     }
+    for (size_t i = 0; has_list(f->op) && i < f->z; i++)
+        list[i] = FILLED_NUMBER;
     for (size_t i = 0; f->op == UNPACK && i < f->z; i++)
         numbers[i] = FILLED_NUMBER;
     for (size_t i = 0; f->op == PACK && i < f->a_length / 4; i++)
@@ -211,7 +245,7 @@ static int does_nothing(const struct frame *f)
 {
     static const size_t lengths[] = {0, HERNGANOW_ANSWER - 1, HERNGANOW_ANSWER + 1};
     static uint8_t before[MOST_SHEET];
-    uint32_t sum = has_crc(f->op) ? crc_of_lent(f) : 0;
+    uint32_t sum = has_crc(f->op) ? crc_of_lent(f) : 0, list_sum = has_list(f->op) ? crc_of_list(f->z) : 0;
     memcpy(before, sheet, sizeof sheet);
     for (size_t i = 0; i < sizeof lengths / sizeof lengths[0]; i++) {
         uint8_t answer[HERNGANOW_ANSWER + 8], filled[sizeof answer];
@@ -223,6 +257,8 @@ static int does_nothing(const struct frame *f)
             return 0;
         if (has_crc(f->op) && crc_of_lent(f) != sum)
             return 0;
+        if (has_list(f->op) && crc_of_list(f->z) != list_sum)
+            return 0;
     }
     return 1;
 }
@@ -230,7 +266,7 @@ static int does_nothing(const struct frame *f)
 /* How many numbers a none has that is one word of a line: a first gap's, a season's, the 'same' of a replay. */
 static size_t numbers_of_none(uint32_t op)
 {
-    return op == FIRST_GAP ? 2 : op == SEASON || op == REPLAY ? 3 : 1;
+    return op == FIRST_GAP ? 2 : op == SEASON || op == REPLAY || op == REPLAY_ON ? 3 : 1;
 }
 
 /* A season's line has three words for each sheet, behind the number of sheets; the answer does not have them. */
@@ -245,7 +281,7 @@ static void leave_sheets_out(uint64_t *words, size_t *count)
 }
 
 /* The answer that a line's words tell, from the reference's words alone; where a call is lent something to change, the last is its crc. */
-static void told(char *line, const struct frame *f, uint8_t answer[HERNGANOW_ANSWER], uint64_t *sum)
+static void told(char *line, const struct frame *f, uint8_t answer[HERNGANOW_ANSWER], uint64_t *sum, uint64_t *list_sum)
 {
     size_t count = 0;
     uint64_t words[HERNGANOW_ANSWER] = {0};
@@ -260,6 +296,10 @@ static void told(char *line, const struct frame *f, uint8_t answer[HERNGANOW_ANS
         leave_sheets_out(words, &count);
     if (has_crc(f->op)) {
         *sum = words[--count];
+        words[count] = 0;
+    }
+    if (has_list(f->op)) {
+        *list_sum = words[--count];
         words[count] = 0;
     }
     for (size_t i = 0; i < HERNGANOW_ANSWER; i++)
@@ -280,13 +320,53 @@ static int agrees(const struct frame *f, const uint8_t wanted[HERNGANOW_ANSWER])
     return !memcmp(answer, wanted, sizeof answer);
 }
 
+/* Whether an answer is these numbers, and zeros behind them. */
+static int is_answer(const uint8_t answer[HERNGANOW_ANSWER], const uint64_t *numbers_wanted, size_t count)
+{
+    for (int i = 0; i < HERNGANOW_ANSWER / 8; i++)
+        if (hernganow_number(answer, i) != ((size_t)i < count ? numbers_wanted[i] : 0))
+            return 0;
+    return 1;
+}
+
+/* A desk's line tells two calls: its row, what it has not saved, and whether a save would be stale; `none` where it is closed. */
+static int is_desk_right(const struct frame *f, char *line)
+{
+    uint64_t words[6] = {0};
+    size_t count = 0;
+    int closed = 0;
+    for (char *word = strtok(line, " "); word && count < 6; word = strtok(NULL, " "))
+        if (strcmp(word, "none"))
+            words[count++] = strtoull(word, NULL, 10);
+        else
+            closed = 1;
+    uint8_t desk[HERNGANOW_ANSWER], unsaved[HERNGANOW_ANSWER];
+    if (hernganow_desk(sheet, sheet_length, f->x, desk, HERNGANOW_ANSWER - 1) != HERNGANOW_REFUSED_ANSWER_LENGTH
+        || hernganow_unsaved(sheet, sheet_length, f->x, unsaved, HERNGANOW_ANSWER - 1) != HERNGANOW_REFUSED_ANSWER_LENGTH)
+        return 0;
+    hernganow_desk(sheet, sheet_length, f->x, desk, sizeof desk);
+    hernganow_unsaved(sheet, sheet_length, f->x, unsaved, sizeof unsaved);
+    if (count < 2 || crc(sheet, sheet_length) != words[count - 1])
+        return 0;
+    if (words[0])
+        return is_answer(desk, words, 1) && is_answer(unsaved, words, 1);
+    if (closed) {
+        const uint64_t none[] = {0, HERNGANOW_NONE, HERNGANOW_NONE}, refused[] = {HERNGANOW_REFUSED_DESK_CLOSED};
+        return is_answer(desk, none, 3) && is_answer(unsaved, refused, 1);
+    }
+    const uint64_t open[] = {0, words[1], words[4]}, changes[] = {0, words[2], words[3]};
+    return is_answer(desk, open, 3) && is_answer(unsaved, changes, 3);
+}
+
 /* Whether the call of a frame answers as its line tells. */
 static int is_right(const struct frame *f, char *line)
 {
     uint8_t wanted[HERNGANOW_ANSWER], answer[HERNGANOW_ANSWER + 8], behind[8];
-    uint64_t sum = 0;
+    uint64_t sum = 0, list_sum = 0;
+    if (f->op == DESK)
+        return is_desk_right(f, line);
     prepare(f);
-    told(line, f, wanted, &sum);
+    told(line, f, wanted, &sum, &list_sum);
     if (!is_load(f->op)) {
         memset(answer, FILLED, sizeof answer);
         memset(behind, FILLED, sizeof behind);
@@ -298,6 +378,8 @@ static int is_right(const struct frame *f, char *line)
             return 0;
     }
     if (f->op == GAIN && !agrees(f, wanted))
+        return 0;
+    if (has_list(f->op) && crc_of_list(f->z) != list_sum)
         return 0;
     return !has_crc(f->op) || crc_of_lent(f) == sum;
 }

@@ -103,6 +103,15 @@ enum hernganow_at {
     /* A key; a row that was enrolled or found. */
     HERNGANOW_AT_KEY = 1,
     HERNGANOW_AT_ROW = 1,
+    /* A key's parts: its kind and its four numbers. */
+    HERNGANOW_AT_PARTS_KIND = 1,
+    HERNGANOW_AT_PARTS_SPACECRAFT = 2,
+    HERNGANOW_AT_PARTS_SOURCE = 3,
+    HERNGANOW_AT_PARTS_EQUIPMENT = 4,
+    HERNGANOW_AT_PARTS_STREAM = 5,
+    HERNGANOW_AT_PARTS_STATION = 3,
+    HERNGANOW_AT_PARTS_RECEIVER = 4,
+    HERNGANOW_AT_PARTS_SUBCHANNEL = 5,
     /* A date. */
     HERNGANOW_AT_DATE_YEAR = 1,
     HERNGANOW_AT_DATE_DAY = 2,
@@ -110,6 +119,23 @@ enum hernganow_at {
     HERNGANOW_AT_TICKED = 1,
     HERNGANOW_AT_MISSING = 2,
     HERNGANOW_AT_LOWEST = 3,
+    /* Whether a slice is a sheet. */
+    HERNGANOW_AT_IS_SHEET = 1,
+    /* A row's stream. */
+    HERNGANOW_AT_ROW_KEY = 1,
+    HERNGANOW_AT_ROW_FIRST = 2,
+    /* A desk. */
+    HERNGANOW_AT_DESK_ROW = 1,
+    HERNGANOW_AT_DESK_STALE = 2,
+    /* What a desk has not saved. */
+    HERNGANOW_AT_UNSAVED_TICKS = 1,
+    HERNGANOW_AT_UNSAVED_UNTICKS = 2,
+    /* A stream received. */
+    HERNGANOW_AT_RECEIVED_COUNT = 1,
+    HERNGANOW_AT_RECEIVED_PLACE = 2,
+    HERNGANOW_AT_RECEIVED_STOP = 3,
+    HERNGANOW_AT_RECEIVED_SECOND = 4,
+    HERNGANOW_AT_RECEIVED_TICKED = 5,
     /* The first gap. */
     HERNGANOW_AT_GAP_NUMBER = 1,
     HERNGANOW_AT_GAP_ROW = 2,
@@ -131,7 +157,7 @@ enum hernganow_at {
     HERNGANOW_AT_SETTING_FRAME = 3,
     /* A gain multiplier. */
     HERNGANOW_AT_GAIN = 1,
-    /* How many samples or bytes were written. */
+    /* How many samples or bytes were written; how many numbers are missing. */
     HERNGANOW_AT_COUNT = 1,
     /* Read headers, of both kinds. */
     HERNGANOW_AT_KIND = 1,
@@ -189,6 +215,12 @@ static inline uint64_t hernganow_number(const uint8_t *answer, enum hernganow_at
 }
 
 /* ---- Records */
+
+/* Reads the first record of the slice; bytes behind it do not matter. Answers the kind (1 telemetry, 2 RSR), the record's length and the four
+ * primary values. Refused: 1 to 11, with HERNGANOW_AT_FAULT: the offset of the wrong field's first byte, or for 1 and 6 how many bytes there were. */
+uint32_t hernganow_read_one(
+    const uint8_t *record, size_t record_length,
+    uint8_t *answer, size_t answer_length);
 
 /* The header fields of the record that the slice begins with, which has to be of the wanted kind: 1 telemetry, 2 RSR.
  * Answers the kind, the record's length, the primary block's four numbers, the fields, the stream key; then, of telemetry, the received
@@ -248,6 +280,9 @@ uint32_t hernganow_telemetry_key(
 uint32_t hernganow_rsr_key(
     uint32_t spacecraft, uint32_t station, uint32_t receiver, uint32_t subchannel,
     uint8_t *answer, size_t answer_length);
+
+/* Takes a key apart. Answers the kind (1 telemetry, 2 RSR) and the four numbers, in the order of the call that makes it. Refused: 22. */
+uint32_t hernganow_parts(uint64_t key, uint8_t *answer, size_t answer_length);
 
 /* ---- Dates */
 
@@ -319,6 +354,46 @@ uint32_t hernganow_first_gap(
     const uint8_t *sheet, size_t sheet_length,
     uint8_t *answer, size_t answer_length);
 
+/* Whether the slice is a ledger sheet. Answers 1 or 0. */
+uint32_t hernganow_is_sheet(const uint8_t *sheet, size_t sheet_length, uint8_t *answer, size_t answer_length);
+
+/* The stream of a row. Answers its key and its first number. Refused: 20, 25. */
+uint32_t hernganow_row(
+    const uint8_t *sheet, size_t sheet_length,
+    uint32_t row,
+    uint8_t *answer, size_t answer_length);
+
+/* A desk. Answers its row, and 1 where a save would be stale now, else 0; both are HERNGANOW_NONE where the desk is closed. Refused: 20, 21. */
+uint32_t hernganow_desk(
+    const uint8_t *sheet, size_t sheet_length,
+    uint32_t desk,
+    uint8_t *answer, size_t answer_length);
+
+/* What a desk has not saved. Answers how many ticks and how many unticks. Refused: 20, 21, 27. */
+uint32_t hernganow_unsaved(
+    const uint8_t *sheet, size_t sheet_length,
+    uint32_t desk,
+    uint8_t *answer, size_t answer_length);
+
+/* The missing numbers of a row, in the order of their positions, at the start of the list; its rest stays, and all of it where the call is refused.
+ * 1,023 numbers are always enough. Answers how many there are. Refused: 20, 25, 60. */
+uint32_t hernganow_missing_numbers(
+    const uint8_t *sheet, size_t sheet_length,
+    uint32_t row,
+    uint32_t *list, size_t list_length,
+    uint8_t *answer, size_t answer_length);
+
+/* Receives a stream at a desk that has no row open: for each whole record the desk finds its row, opens it, ticks the record's number and saves.
+ * The record's outcome stands in the list: 0 ticked, 12 a field is out of range, 25 no row has its key, 28 outside the row, 29 ticked already. The
+ * desk is closed at the end. Answers how many records, where the walk stopped and why (0 at the stream's end, 16 where the list is full, else the
+ * refusal of the record there) with the number that goes with it, and how many were ticked. Refused: 20, 21, 26. */
+uint32_t hernganow_receive(
+    uint8_t *sheet, size_t sheet_length,
+    uint32_t desk,
+    const uint8_t *stream, size_t stream_length,
+    uint32_t *list, size_t list_length,
+    uint8_t *answer, size_t answer_length);
+
 /* Makes the slice a sheet of an old one, of 6,776 bytes, whose rows had no used word; rows keep their places, open desks stay open.
  * Refused: 20, where the old one is not right or the slice is not HERNGANOW_SHEET bytes. */
 uint32_t hernganow_convert(
@@ -333,6 +408,13 @@ uint32_t hernganow_convert(
  * none: all three all ones. The sheet is left as that entry's call made it, or the last call. docs/INTERFACE.md has the trace's bytes.
  * Refused: 20, where the slice is not HERNGANOW_SHEET bytes; 40, where the trace is not well-formed: the sheet stays as it was. */
 uint32_t hernganow_replay(
+    const uint8_t *trace, size_t trace_length,
+    uint8_t *sheet, size_t sheet_length,
+    uint8_t *answer, size_t answer_length);
+
+/* Plays the trace over the sheet as it stands: so the pieces of a long log are played one after the other. Answers as replay does.
+ * Refused: 20, where it is not a ledger sheet; 40. */
+uint32_t hernganow_replay_on(
     const uint8_t *trace, size_t trace_length,
     uint8_t *sheet, size_t sheet_length,
     uint8_t *answer, size_t answer_length);

@@ -1,7 +1,7 @@
 //! What the calls of a script met: which refusals, and of refused records which wrong field.
 
 use crate::ops;
-use crate::script::{self, Frame, BAD_FRAME};
+use crate::script::{self, Calls, Frame, BAD_FRAME};
 use std::collections::BTreeMap;
 use std::io::{self, Write};
 use std::ops::RangeInclusive;
@@ -25,7 +25,12 @@ const REFUSALS: &[RangeInclusive<u32>] = &[
     43..=47,
     // Medium band records.
     50..=54,
+    // Missing lists.
+    60..=60,
 ];
+
+/// The outcomes of records received that it has to meet.
+const OUTCOMES: [u32; 5] = [0, 12, 25, 28, 29];
 
 /// The wrong fields that it has to meet: the refusal, and the field's offset in the record.
 const FIELDS: &[(u32, &[u64])] = &[
@@ -51,13 +56,16 @@ pub struct Coverage {
     fields: BTreeMap<(u32, u64), usize>,
     /// By refusal, the walks and lists that a record behind the first one stopped.
     behind: BTreeMap<u32, usize>,
+    /// By outcome, the records received.
+    outcomes: BTreeMap<u32, usize>,
     bad_frame: bool,
 }
 
 impl Coverage {
     pub fn of(script: &[u8]) -> Coverage {
         let mut coverage = Coverage { bytes: script.len(), ..Coverage::default() };
-        script::run(script, |frame, line| {
+        let mut calls = Calls::default();
+        script::run_on(&mut calls, script, |frame, line| {
             match frame {
                 Some(frame) => coverage.count(frame, line),
                 None => coverage.bad_frame = true,
@@ -65,6 +73,7 @@ impl Coverage {
             Ok(())
         })
         .expect("nothing is written");
+        coverage.outcomes = calls.outcomes;
         coverage
     }
 
@@ -97,6 +106,8 @@ impl Coverage {
             .flat_map(|(number, offsets)| offsets.iter().map(|offset| (*number, *offset)))
             .filter(|field| !self.fields.contains_key(field));
         let mut missing: Vec<String> = refusals.map(|number| number.to_string()).collect();
+        let outcomes = OUTCOMES.iter().filter(|outcome| !self.outcomes.contains_key(outcome));
+        missing.extend(outcomes.map(|outcome| format!("a record's {outcome}")));
         missing.extend(fields.map(|(number, offset)| format!("{number} at {offset}")));
         missing
     }
@@ -119,6 +130,8 @@ impl Coverage {
         }
         let behind: Vec<String> = self.behind.iter().map(|(number, count)| format!("{number}: {count}")).collect();
         writeln!(out, "walks and lists stopped behind a record, {}", behind.join(", "))?;
+        let outcomes: Vec<String> = self.outcomes.iter().map(|(number, count)| format!("{number}: {count}")).collect();
+        writeln!(out, "records received, {}", outcomes.join(", "))?;
         let missing = self.missing();
         writeln!(out, "missing: {}", if missing.is_empty() { "none".to_string() } else { missing.join(", ") })?;
         if self.bad_frame {

@@ -1,4 +1,6 @@
-//! Stream keys. Document 01: 'Stream key'; request 03: what a stream's record numbers are counted modulo.
+//! Stream keys. Document 01: 'Stream key'; request 03: what a stream's record numbers are counted modulo; the parts of a key.
+
+use crate::record::{RSR, TELEMETRY};
 
 /// RSR keys start here, and take 32 bits from here on.
 pub const FIRST_RSR: u64 = 1 << 42;
@@ -48,4 +50,19 @@ pub(crate) fn of_telemetry(spacecraft: u32, source: u32, equipment: u32, stream:
 /// The key of numbers that are each within its field.
 pub(crate) fn of_rsr(spacecraft: u32, station: u32, receiver: u32, subchannel: u32) -> u64 {
     FIRST_RSR + ((spacecraft as u64) << 24) + ((station as u64) << 16) + ((receiver as u64) << 8) + subchannel as u64
+}
+
+/// The kind of a stream, and its four numbers in the order in which a key is made of them.
+pub fn parts(key: u64) -> Result<(u32, [u32; 4]), u32> {
+    if !valid(key) {
+        return Err(22);
+    }
+    let (kind, widths) = if key < FIRST_RSR { (TELEMETRY, [10, 8, 16, 8]) } else { (RSR, [8, 8, 8, 8]) };
+    let mut rest = key;
+    let mut numbers = widths.map(|_| 0);
+    for (number, width) in numbers.iter_mut().zip(widths).rev() {
+        *number = (rest & ((1 << width) - 1)) as u32;
+        rest >>= width;
+    }
+    Ok((kind, numbers))
 }

@@ -1,6 +1,6 @@
 //! The ledger sheet. Document 01: 'The ledger sheet'; request 02: ticks are counted by words; request 03: RSR numbers
 //! have 16 bits; request 10: rows are struck and used again. In each call the sheet is judged first (20), then the
-//! refusals stand in the table's order.
+//! refusals stand in the table's order. `trusted` has the same calls on a sheet that is known to be right.
 
 use crate::keys;
 use crate::record::number;
@@ -136,7 +136,7 @@ fn desk_right(s: &[u8], d: usize) -> bool {
     }
 }
 
-fn judge_sheet(s: &[u8]) -> Result<(), u32> {
+pub fn judge_sheet(s: &[u8]) -> Result<(), u32> {
     if is_sheet(s) {
         Ok(())
     } else {
@@ -163,9 +163,18 @@ fn judge_row(s: &[u8], row: u32) -> Result<usize, u32> {
     }
 }
 
-/// The desk (20, 21), if it has a row open (27).
+/// The desk of a right sheet, if it has no row open (21, 26).
+pub fn judge_closed_desk(s: &[u8], d: u32) -> Result<usize, u32> {
+    let d = judge_desk(d)?;
+    if desk(s, d)[0] == 1 {
+        Err(26)
+    } else {
+        Ok(d)
+    }
+}
+
+/// The desk of a right sheet, if it has a row open (21, 27).
 fn judge_open_desk(s: &[u8], d: u32) -> Result<usize, u32> {
-    judge_sheet(s)?;
     let d = judge_desk(d)?;
     if desk(s, d)[0] == 1 {
         Ok(d)
@@ -229,26 +238,12 @@ pub fn strike(s: &mut [u8], r: u32) -> Result<(), u32> {
 
 pub fn find(s: &[u8], key: u64) -> Result<usize, u32> {
     judge_sheet(s)?;
-    if !keys::valid(key) {
-        return Err(22);
-    }
-    row_with(s, key).ok_or(25)
+    trusted::find(s, key)
 }
 
 pub fn open(s: &mut [u8], d: u32, r: u32) -> Result<(), u32> {
     judge_sheet(s)?;
-    let d = judge_desk(d)?;
-    let r = judge_row(s, r)?;
-    if desk(s, d)[0] == 1 {
-        return Err(26);
-    }
-    let place = desk_place(d);
-    s[place] = 1;
-    s[place + ROW_NAMED] = r as u8;
-    let row = row_place(r)..row_place(r) + ROW;
-    s.copy_within(row.clone(), place + OPENED);
-    s.copy_within(row, place + WORKED);
-    Ok(())
+    trusted::open(s, d, r)
 }
 
 /// (n - first) modulo the stream's modulus, where n is a number of the stream and that is in the row.
@@ -265,47 +260,121 @@ fn ticked(ticks: &[u8], position: u32) -> bool {
 }
 
 pub fn tick(s: &mut [u8], desk: u32, n: u32) -> Result<(), u32> {
-    set_tick(s, desk, n, true)
+    judge_sheet(s)?;
+    trusted::set_tick(s, desk, n, true)
 }
 
 pub fn untick(s: &mut [u8], desk: u32, n: u32) -> Result<(), u32> {
-    set_tick(s, desk, n, false)
-}
-
-/// Changes one bit of the desk's worked copy; 29 and 30 are judged on that copy.
-fn set_tick(s: &mut [u8], desk: u32, n: u32, wanted: bool) -> Result<(), u32> {
-    let desk = judge_open_desk(s, desk)?;
-    let worked = &mut s[desk_place(desk) + WORKED..][..ROW];
-    let Some(position) = position(key(worked), first(worked), n) else {
-        return Err(28);
-    };
-    if ticked(ticks(worked), position) == wanted {
-        return Err(if wanted { 29 } else { 30 });
-    }
-    worked[TICKS + position as usize / 8] ^= 1 << (position % 8);
-    Ok(())
+    judge_sheet(s)?;
+    trusted::set_tick(s, desk, n, false)
 }
 
 pub fn save(s: &mut [u8], d: u32) -> Result<(), u32> {
-    let d = judge_open_desk(s, d)?;
-    let r = desk(s, d)[ROW_NAMED] as usize;
-    let stale = row(s, r) != &desk(s, d)[OPENED..WORKED];
-    if !stale {
-        let worked = desk_place(d) + WORKED;
-        s.copy_within(worked..worked + ROW, row_place(r));
+    judge_sheet(s)?;
+    trusted::save(s, d)
+}
+
+pub fn drop_desk(s: &mut [u8], desk: u32) -> Result<(), u32> {
+    judge_sheet(s)?;
+    trusted::drop_desk(s, desk)
+}
+
+/// The calls that a record's visit is made of, on a sheet that is known to be right.
+pub mod trusted {
+    use super::*;
+
+    pub fn find(s: &[u8], key: u64) -> Result<usize, u32> {
+        if !keys::valid(key) {
+            return Err(22);
+        }
+        row_with(s, key).ok_or(25)
     }
-    clear_desk(s, d);
-    if stale {
-        Err(31)
-    } else {
+
+    pub fn open(s: &mut [u8], d: u32, r: u32) -> Result<(), u32> {
+        judge_desk(d)?;
+        let r = judge_row(s, r)?;
+        let d = judge_closed_desk(s, d)?;
+        let place = desk_place(d);
+        s[place] = 1;
+        s[place + ROW_NAMED] = r as u8;
+        let row = row_place(r)..row_place(r) + ROW;
+        s.copy_within(row.clone(), place + OPENED);
+        s.copy_within(row, place + WORKED);
+        Ok(())
+    }
+
+    /// Changes one bit of the desk's worked copy; 29 and 30 are judged on that copy.
+    pub fn set_tick(s: &mut [u8], desk: u32, n: u32, wanted: bool) -> Result<(), u32> {
+        let desk = judge_open_desk(s, desk)?;
+        let worked = &mut s[desk_place(desk) + WORKED..][..ROW];
+        let Some(position) = position(key(worked), first(worked), n) else {
+            return Err(28);
+        };
+        if ticked(ticks(worked), position) == wanted {
+            return Err(if wanted { 29 } else { 30 });
+        }
+        worked[TICKS + position as usize / 8] ^= 1 << (position % 8);
+        Ok(())
+    }
+
+    pub fn save(s: &mut [u8], d: u32) -> Result<(), u32> {
+        let d = judge_open_desk(s, d)?;
+        let r = desk(s, d)[ROW_NAMED] as usize;
+        let stale = is_stale(s, d);
+        if !stale {
+            let worked = desk_place(d) + WORKED;
+            s.copy_within(worked..worked + ROW, row_place(r));
+        }
+        clear_desk(s, d);
+        if stale {
+            Err(31)
+        } else {
+            Ok(())
+        }
+    }
+
+    pub fn drop_desk(s: &mut [u8], desk: u32) -> Result<(), u32> {
+        let desk = judge_open_desk(s, desk)?;
+        clear_desk(s, desk);
         Ok(())
     }
 }
 
-pub fn drop_desk(s: &mut [u8], desk: u32) -> Result<(), u32> {
-    let desk = judge_open_desk(s, desk)?;
-    clear_desk(s, desk);
-    Ok(())
+/// Whether the row of an open desk is another than that desk opened.
+fn is_stale(s: &[u8], d: usize) -> bool {
+    let r = desk(s, d)[ROW_NAMED] as usize;
+    row(s, r) != &desk(s, d)[OPENED..WORKED]
+}
+
+// Questions.
+
+/// A row's key and first number.
+pub fn row_of(s: &[u8], r: u32) -> Result<(u64, u32), u32> {
+    judge_sheet(s)?;
+    let r = judge_row(s, r)?;
+    Ok((key(row(s, r)), first(row(s, r))))
+}
+
+/// The row that a desk has open, and whether a save would be stale now; none where the desk is closed.
+pub fn desk_of(s: &[u8], d: u32) -> Result<Option<(usize, bool)>, u32> {
+    judge_sheet(s)?;
+    let d = judge_desk(d)?;
+    if desk(s, d)[0] == 0 {
+        return Ok(None);
+    }
+    Ok(Some((desk(s, d)[ROW_NAMED] as usize, is_stale(s, d))))
+}
+
+/// How many ticks and how many unticks an open desk has not saved: the positions that it has ticked and had not when it
+/// opened the row, and the other way about.
+pub fn unsaved(s: &[u8], d: u32) -> Result<(u32, u32), u32> {
+    judge_sheet(s)?;
+    let d = judge_open_desk(s, d)?;
+    let (opened, worked) = (tick_words(&desk(s, d)[OPENED..WORKED]), tick_words(&desk(s, d)[WORKED..]));
+    let only = |here: &[u64; TICK_WORDS], there: &[u64; TICK_WORDS]| {
+        here.iter().zip(there).map(|(here, there)| (here & !there).count_ones()).sum()
+    };
+    Ok((only(&worked, &opened), only(&opened, &worked)))
 }
 
 #[derive(Debug, PartialEq)]
@@ -331,6 +400,44 @@ pub fn report_row(row: &[u8]) -> Report {
     let ticked = words.iter().map(|word| word.count_ones()).sum();
     let lowest = lowest_unticked(&words).filter(|position| *position < end);
     Report { ticked, missing: end - ticked, lowest: lowest.map(|position| number_at(row, position)) }
+}
+
+/// The numbers of a row's missing records, in the order of their positions, to the start of the list; answers how many.
+pub fn missing_numbers(s: &[u8], r: u32, list: &mut [u32]) -> Result<usize, u32> {
+    judge_sheet(s)?;
+    let r = judge_row(s, r)?;
+    missing_in(row(s, r), list)
+}
+
+/// The same of a row's bytes; 60 where the list is too short.
+pub fn missing_in(row: &[u8], list: &mut [u32]) -> Result<usize, u32> {
+    let words = tick_words(row);
+    let end = ticks_end(&words);
+    let ticked: u32 = words.iter().map(|word| word.count_ones()).sum();
+    let Some(list) = list.get_mut(..(end - ticked) as usize) else {
+        return Err(60);
+    };
+    let (first, mask) = (first(row), (keys::modulus(key(row)) - 1) as u32);
+    let mut count = 0;
+    for (k, word) in (0..).zip(words) {
+        let start = first.wrapping_add(64 * k);
+        let mut unticked = !word & below(end.saturating_sub(64 * k));
+        while unticked != 0 {
+            list[count] = start.wrapping_add(unticked.trailing_zeros()) & mask;
+            count += 1;
+            unticked &= unticked - 1;
+        }
+    }
+    Ok(count)
+}
+
+/// A word whose lowest so many bits are set, or all.
+fn below(bits: u32) -> u64 {
+    if bits < 64 {
+        (1 << bits) - 1
+    } else {
+        u64::MAX
+    }
 }
 
 /// The ticks as words of 64: bit i of word k is position 64 k + i.

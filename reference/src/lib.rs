@@ -10,6 +10,7 @@ pub mod iq;
 pub mod keys;
 pub mod ledger;
 pub mod list;
+pub mod receive;
 pub mod record;
 pub mod replay;
 pub mod sample_text;
@@ -19,22 +20,27 @@ pub mod stream;
 pub mod tapes;
 
 // What is done with them.
+pub mod agreed;
 pub mod bench;
 pub mod coverage;
 pub mod files;
 pub mod make;
 pub mod nights;
 pub mod ops;
+pub mod pass;
 pub mod privacy;
 pub mod random;
 pub mod sample;
 pub mod script;
 pub mod tables;
+pub mod wrong_sheets;
 
 #[cfg(feature = "rattle")]
 pub mod rattle;
 
 #[cfg(test)]
 mod book;
+#[cfg(test)]
+mod ranges;
 #[cfg(test)]
 mod tests;

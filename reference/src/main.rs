@@ -1,5 +1,6 @@
 //! The commands; see README.md.
 
+use reference::agreed;
 use reference::coverage::Coverage;
 use reference::{bench, files, list, privacy, random, sample, sample_text, script, season, tables, tapes};
 use std::ffi::OsString;
@@ -14,12 +15,13 @@ reference samples [--raw] [FILE..]
                                  the samples of streams of RSR records: I Q a line, or 32-bit little-endian integers
 reference season [FILE..]        the season's gap report over ledger sheets
 reference random SEED COUNT [PART]
-                                 a random call script; of calls on records, samples, ledger, seasons, traces, tapes, settings or gain alone
+                                 a random call script; of calls on records, samples, ledger, receive, seasons, traces, tapes, settings or gain alone
 reference sample [NAME]          a sample stream; without a name, the names, what is wrong in each, and its last line
 reference big BYTES              a stream of mixed records of about so many bytes
 reference bench                  benchmarks
 reference privacy SEED PAIRS     pairs of nights that differ in a desk's unsaved work
-reference tables SEED COUNT      tables of entries against number lists, over random streams";
+reference tables SEED COUNT      tables of entries against number lists, over random streams
+reference agreed SEED ROUNDS     cases of the agreed gain, each with its answer; fails where a number that it can give is missing";
 
 fn main() -> ExitCode {
     let args: Vec<OsString> = std::env::args_os().skip(1).collect();
@@ -82,6 +84,7 @@ fn command(args: &[OsString], out: &mut impl Write) -> io::Result<bool> {
             writeln!(out, "{pairs} pairs of nights, {told} told of unsaved work; in {differed} it was not the same")?;
             return Ok(told == 0);
         }
+        ["agreed", seed, rounds] => return agreed::write(parse(seed)?, parse(rounds)? as usize, out),
         ["tables", seed, count] => {
             let tried = tables::compare(parse(seed)?, parse(count)? as usize);
             writeln!(out, "{tried} tables are the same")?;

@@ -111,9 +111,6 @@ pub fn record(kind: u32, primary: [u8; 4], secondary: &[u8], data: &[u8]) -> Vec
     out
 }
 
-pub const TELEMETRY_PRIMARY: [u8; 4] = [1, 10, 254, 0];
-pub const RSR_PRIMARY: [u8; 4] = [21, 4, 255, 0];
-
 /// Random bytes in which every judged field is in range.
 pub fn secondary(rng: &Rng, kind: u32) -> Vec<u8> {
     let layout = record::layout_of(kind).expect("one of the two kinds");

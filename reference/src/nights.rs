@@ -19,7 +19,8 @@ const FIRSTS: [u32; 9] =
 const RSR_FIRSTS: [u32; 9] = [0, 1, 2, 1_000, 32_767, 65_535, 65_530, 65_536 - POSITIONS + 1, 65_536 - POSITIONS];
 /// No RSR stream has these numbers.
 const BAD_RSR_FIRSTS: [u32; 5] = [65_536, 65_537, 65_536 + 65_530, 1 << 31, u32::MAX];
-const BAD_DESKS: [u32; 6] = [DESK_PLACES as u32, DESK_PLACES as u32 + 1, 255, 256, 256 + DESK_PLACES as u32, u32::MAX];
+pub const BAD_DESKS: [u32; 6] =
+    [DESK_PLACES as u32, DESK_PLACES as u32 + 1, 255, 256, 256 + DESK_PLACES as u32, u32::MAX];
 
 #[derive(Clone, Copy)]
 pub enum NightCase {
@@ -209,8 +210,9 @@ impl Generator {
                 0 => ops::FRESH,
                 1..=10 => ops::ENROL,
                 11..=18 => ops::FIND,
-                19..=38 => ops::ROW_REPORT,
-                39..=44 => ops::FIRST_GAP,
+                19..=30 => ops::ROW_REPORT,
+                31..=40 => self.rng.pick(&[ops::ROW, ops::DESK, ops::DESK, ops::MISSING_NUMBERS]),
+                41..=44 => ops::FIRST_GAP,
                 45..=60 => self.rng.between(ops::OPEN as usize, ops::DROP as usize) as u32,
                 61..=68 => ops::STRIKE,
                 _ => 0,
@@ -244,6 +246,9 @@ impl Generator {
     /// A call of this op, with arguments good and bad.
     pub fn call(&mut self, op: u32) {
         let frame = match op {
+            ops::MISSING_NUMBERS => return self.missing_list(),
+            ops::RECEIVE => return self.short_receive(),
+            ops::REPLAY_ON => return self.short_replay(),
             ops::ENROL => {
                 let key = self.enrolment_key();
                 Frame { op, key, x: any_first_number(&self.rng, key), ..Frame::default() }
@@ -254,15 +259,15 @@ impl Generator {
                 let x = self.desk();
                 Frame { op, x, y: self.number(x), ..Frame::default() }
             }
-            ops::SAVE | ops::DROP => Frame { op, x: self.desk(), ..Frame::default() },
-            ops::ROW_REPORT | ops::STRIKE => Frame { op, x: self.row(), ..Frame::default() },
+            ops::SAVE | ops::DROP | ops::DESK => Frame { op, x: self.desk(), ..Frame::default() },
+            ops::ROW_REPORT | ops::STRIKE | ops::ROW => Frame { op, x: self.row(), ..Frame::default() },
             _ => Frame { op, ..Frame::default() },
         };
         self.emit(frame);
     }
 
     /// The sheet, where it is one; else a fresh one, for the choice of numbers only.
-    fn view(&self) -> Vec<u8> {
+    pub fn view(&self) -> Vec<u8> {
         let mut view = self.calls.sheet.clone();
         if !ledger::is_sheet(&view) {
             view = vec![0; SHEET];
@@ -292,7 +297,7 @@ impl Generator {
         }
     }
 
-    fn desk(&self) -> u32 {
+    pub fn desk(&self) -> u32 {
         if self.rng.percent(12) {
             self.rng.pick(&BAD_DESKS)
         } else {
@@ -301,7 +306,7 @@ impl Generator {
     }
 
     /// A row, mostly a used one.
-    fn row(&self) -> u32 {
+    pub fn row(&self) -> u32 {
         let view = self.view();
         let used: Vec<u32> = ledger::used_rows(&view).map(|row| row as u32).collect();
         if used.is_empty() || self.rng.percent(6) {
@@ -344,7 +349,7 @@ impl Generator {
 }
 
 /// One of some hundred valid keys, an edge, or any.
-fn new_key(rng: &Rng) -> u64 {
+pub fn new_key(rng: &Rng) -> u64 {
     match rng.below(4) {
         0 => rng.pick(&VALID_EDGES),
         1 => FIRST_RSR + (177 << 24) + rng.below(50),
@@ -354,7 +359,7 @@ fn new_key(rng: &Rng) -> u64 {
 }
 
 /// A first number that a row of this key can have.
-fn first_number(rng: &Rng, key: u64) -> u32 {
+pub fn first_number(rng: &Rng, key: u64) -> u32 {
     let rsr = key >= FIRST_RSR;
     match rng.percent(80) {
         true => rng.pick(if rsr { &RSR_FIRSTS } else { &FIRSTS }),

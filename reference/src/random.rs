@@ -2,6 +2,7 @@
 //! comes up soon. Ledger calls stand in nights.rs, those of later requests in random/.
 
 use crate::dates::{FIRST_YEAR, LAST_YEAR};
+use crate::keys::{FIRST_RSR, PAST_RSR};
 use crate::make::{self, put, Deck, Rng};
 use crate::ops;
 use crate::record::{
@@ -15,6 +16,7 @@ mod gain;
 mod idr;
 mod iq;
 pub mod old_sheets;
+mod receive;
 pub mod season;
 pub mod settings;
 pub mod traces;
@@ -35,6 +37,7 @@ enum Scene {
     Night,
     Sheets,
     OldSheets,
+    Receives,
     Seasons,
     Traces,
     Tapes,
@@ -55,6 +58,7 @@ const SCENES: &[(Scene, usize, &str)] = &[
     (Scene::Night, 2, "ledger"),
     (Scene::Sheets, 10, "ledger"),
     (Scene::OldSheets, 4, "ledger"),
+    (Scene::Receives, 8, "receive"),
     (Scene::Seasons, 2, "seasons"),
     (Scene::Traces, 4, "traces"),
     (Scene::Tapes, 8, "tapes"),
@@ -89,6 +93,7 @@ pub struct Generator {
     samples: [Deck<iq::IqCase>; 6],
     iq_kinds: Deck<usize>,
     old_sheets: Deck<old_sheets::OldCase>,
+    receives: Deck<receive::ReceiveCase>,
     seasons: [Deck<season::SeasonCase>; 4],
     season_kinds: Deck<usize>,
     traces: [Deck<traces::TraceCase>; 4],
@@ -118,7 +123,7 @@ pub fn script_of(seed: u64, count: usize, part: Option<&str>) -> Vec<Frame> {
         streams: Deck::new(STREAM_CASES.to_vec()),
         longs: Deck::new(LONG_CASES.to_vec()),
         sheets: Deck::new(crate::nights::sheet_cases()),
-        sheet_ops: Deck::new((ops::ENROL..=ops::STRIKE).collect()),
+        sheet_ops: Deck::new(sheet_ops()),
         pieces: Deck::new(crate::nights::PIECES.to_vec()),
         nights: Deck::new(crate::nights::NIGHT_CASES.to_vec()),
         dates: Deck::new(dates::date_cases()),
@@ -126,6 +131,7 @@ pub fn script_of(seed: u64, count: usize, part: Option<&str>) -> Vec<Frame> {
         samples: iq::iq_cases().map(Deck::new),
         iq_kinds: Deck::new(iq::IQ_KINDS.to_vec()),
         old_sheets: Deck::new(old_sheets::old_cases()),
+        receives: Deck::new(receive::receive_cases()),
         seasons: season::season_cases().map(Deck::new),
         season_kinds: Deck::new(season::SEASON_KINDS.to_vec()),
         traces: traces::trace_cases().map(Deck::new),
@@ -142,6 +148,13 @@ pub fn script_of(seed: u64, count: usize, part: Option<&str>) -> Vec<Frame> {
         g.play(scene);
     }
     g.frames
+}
+
+/// The ops that are tried on sheets right and damaged.
+fn sheet_ops() -> Vec<u32> {
+    (ops::ENROL..=ops::STRIKE)
+        .chain([ops::ROW, ops::DESK, ops::MISSING_NUMBERS, ops::RECEIVE, ops::REPLAY_ON])
+        .collect()
 }
 
 impl Generator {
@@ -167,6 +180,7 @@ impl Generator {
             Scene::Night => self.night(),
             Scene::Sheets => self.sheets(),
             Scene::OldSheets => self.old_sheets(),
+            Scene::Receives => self.receives(),
             Scene::Seasons => self.seasons(),
             Scene::Traces => self.traces(),
             Scene::Tapes => self.tapes(),
@@ -547,6 +561,9 @@ fn header_case(rng: &Rng, case: HeaderCase) -> Frame {
 
 #[derive(Clone, Copy)]
 enum KeyCase {
+    /// The parts of any key, valid or not; of one of `KEY_EDGES`.
+    Parts,
+    PartsOf(u64),
     Any(u32),
     /// The op, one of the four numbers, and its value.
     Part(u32, usize, u32),
@@ -560,8 +577,14 @@ fn widths(op: u32) -> [u32; 4] {
     }
 }
 
+/// Keys at and about the ends of the two kinds.
+const KEY_EDGES: [u64; 10] =
+    [0, u32::MAX as u64, 1 << 32, FIRST_RSR - 1, FIRST_RSR, FIRST_RSR + 1, PAST_RSR - 1, PAST_RSR, 1 << 63, u64::MAX];
+
 fn key_cases() -> Vec<KeyCase> {
     let mut cases = [ops::TELEMETRY_KEY, ops::RSR_KEY].map(KeyCase::Any).repeat(6);
+    cases.extend([KeyCase::Parts; 12]);
+    cases.extend(KEY_EDGES.map(KeyCase::PartsOf));
     for op in [ops::TELEMETRY_KEY, ops::RSR_KEY] {
         for (part, bits) in widths(op).into_iter().enumerate() {
             let values = [0, (1 << bits) - 1, 1 << bits, (1 << bits) + 1, 1 << 31, u32::MAX];
@@ -572,7 +595,15 @@ fn key_cases() -> Vec<KeyCase> {
 }
 
 fn key_case(rng: &Rng, case: KeyCase) -> Frame {
-    let (KeyCase::Any(op) | KeyCase::Part(op, ..)) = case;
+    let op = match case {
+        KeyCase::Any(op) | KeyCase::Part(op, ..) => op,
+        KeyCase::PartsOf(key) => return Frame { op: ops::KEY_PARTS, key, ..Frame::default() },
+        KeyCase::Parts => {
+            let key =
+                rng.pick(&[rng.below(FIRST_RSR), rng.below(PAST_RSR), FIRST_RSR + rng.below(1 << 32), rng.next()]);
+            return Frame { op: ops::KEY_PARTS, key, ..Frame::default() };
+        }
+    };
     let mut parts = widths(op).map(|bits| rng.word() >> (32 - bits));
     if let KeyCase::Part(_, part, value) = case {
         parts[part] = value;

@@ -301,11 +301,17 @@ pub fn read_headers(s: &[u8], wanted: u32) -> Result<(Record, Fields), Refused> 
     if record.kind != wanted {
         return Err(Refused::Number(15));
     }
-    let fields = match record.kind {
+    let fields = read_fields(s, &record)?;
+    Ok((record, fields))
+}
+
+/// The fields of a record that read one accepted.
+#[inline(always)]
+pub fn read_fields(s: &[u8], record: &Record) -> Result<Fields, Refused> {
+    Ok(match record.kind {
         TELEMETRY => Fields::Telemetry(read_telemetry(part(s, SECONDARY))?),
         _ => Fields::Rsr(read_rsr(&record.primary, part(s, SECONDARY))?),
-    };
-    Ok((record, fields))
+    })
 }
 
 const TELEMETRY_BLOCK: usize = 84;

@@ -1,4 +1,4 @@
-//! A night's calls kept in a trace, and played again over a fresh sheet. Request 11.
+//! A night's calls kept in a trace, and played again over a fresh sheet (request 11), or over the sheet as it stands.
 
 use crate::ledger::{self, SHEET};
 use crate::record::number;
@@ -64,18 +64,32 @@ pub fn replay(trace: &[u8], s: &mut [u8]) -> Result<Replayed, u32> {
     if s.len() != SHEET {
         return Err(20);
     }
-    let entries = entries(trace).ok_or(40u32)?;
-    if !entries.iter().all(|entry| read_entry(entry).is_some()) {
-        return Err(40);
-    }
+    let entries = read_trace(trace)?;
     ledger::fresh(s)?;
-    for (i, (call, written)) in entries.iter().filter_map(read_entry).enumerate() {
+    Ok(play(&entries, s))
+}
+
+/// Plays the trace over the sheet as it stands. Entries count from the trace's own first.
+pub fn replay_on(trace: &[u8], s: &mut [u8]) -> Result<Replayed, u32> {
+    ledger::judge_sheet(s)?;
+    let entries = read_trace(trace)?;
+    Ok(play(&entries, s))
+}
+
+fn play(entries: &[(Call, Answer)], s: &mut [u8]) -> Replayed {
+    for (i, (call, written)) in entries.iter().enumerate() {
         let answer = call.make(s);
-        if answer != written {
-            return Ok(Replayed::Differs(i, answer));
+        if answer != *written {
+            return Replayed::Differs(i, answer);
         }
     }
-    Ok(Replayed::Same)
+    Replayed::Same
+}
+
+/// The calls and the answers written; 40 where the trace is not well formed.
+fn read_trace(trace: &[u8]) -> Result<Vec<(Call, Answer)>, u32> {
+    let entries = entries(trace).ok_or(40u32)?;
+    entries.iter().map(read_entry).collect::<Option<_>>().ok_or(40)
 }
 
 /// The entries of a trace whose header is right.

@@ -1,9 +1,10 @@
 //! Sample streams for lessons, and long mixed streams for benchmarks.
 
-use crate::make::{self, put, put_secondary, Rng, RSR_PRIMARY, TELEMETRY_PRIMARY};
+use crate::make::{self, put, Rng};
+use crate::pass;
 use crate::random::old_sheets::as_old;
-use crate::record::{self, RSR, TELEMETRY, TELEMETRY_LAYOUT};
-use crate::{iq, keys, ledger, list, tapes};
+use crate::record::{self, RSR_LAYOUT, TELEMETRY, TELEMETRY_LAYOUT};
+use crate::{iq, keys, ledger, list, tapes, wrong_sheets};
 use std::io::{self, Write};
 
 const SEED: u64 = 1;
@@ -20,82 +21,82 @@ pub struct Sample {
 pub static SAMPLES: [Sample; 13] = [
     Sample {
         name: "good-night",
-        last_line: "49866 0 0",
-        about: "A whole night: 240 records of five streams, both kinds; virtual stream 1 wraps past number \
+        last_line: "238462 0 0",
+        about: "48 seconds of a night: 240 records of five streams, both kinds; virtual stream 1 wraps past number \
             4294967295, subchannel 2 past 65535.",
         make: good_night,
     },
     Sample {
         name: "refusal-01",
-        last_line: "572 1 19",
+        last_line: "2564 1 19",
         about: "Under 20 bytes: after three records stand the first 19 bytes of a label.",
         make: || spoilt(|r| r.truncate(19)),
     },
     Sample {
         name: "refusal-02",
-        last_line: "572 2 572",
+        last_line: "2564 2 2564",
         about: "Authority wrong: the fourth record spells NJPl at its bytes 0 to 3.",
         make: || stopped(|r| r[3] = b'l'),
     },
     Sample {
         name: "refusal-03",
-        last_line: "572 3 576",
+        last_line: "2564 3 2568",
         about: "Bytes 4 to 7 wrong: label version 1 at byte 4 of the fourth record.",
         make: || stopped(|r| r[4] = b'1'),
     },
     Sample {
         name: "refusal-04",
-        last_line: "572 4 580",
+        last_line: "2564 4 2572",
         about: "Kind unknown: C998 at bytes 8 to 11 of the fourth record.",
         make: || stopped(|r| r[8..12].copy_from_slice(b"C998")),
     },
     Sample {
         name: "refusal-05",
-        last_line: "572 5 584",
+        last_line: "2564 5 2576",
         about: "Label length 99 at bytes 12 to 19 of the fourth record; a telemetry label says at least 100.",
         make: || stopped(|r| put(r, 12, 8, 99)),
     },
     Sample {
         name: "refusal-06",
-        last_line: "572 6 139",
+        last_line: "2564 6 139",
         about: "Under N bytes: the fourth record lacks its last byte, and the stream ends.",
         make: || spoilt(|r| r.truncate(r.len() - 1)),
     },
     Sample {
         name: "refusal-07",
-        last_line: "572 7 594",
+        last_line: "2564 7 2586",
         about: "Aggregation label wrong: length 96 where 92 is right, at byte 22 of the fourth record.",
         make: || stopped(|r| put(r, 22, 2, 96)),
     },
     Sample {
         name: "refusal-08",
-        last_line: "572 8 596",
+        last_line: "2564 8 2588",
         about: "Primary label wrong: type 3 where 2 is right, at byte 24 of the fourth record.",
         make: || stopped(|r| put(r, 24, 2, 3)),
     },
     Sample {
         name: "refusal-09",
-        last_line: "572 9 604",
+        last_line: "2564 9 2596",
         about: "Secondary label wrong: type 104 (RSR) at byte 32 of the fourth record, a telemetry one.",
         make: || stopped(|r| put(r, 32, 2, 104)),
     },
     Sample {
         name: "refusal-10",
-        last_line: "572 10 688",
+        last_line: "2564 10 2680",
         about: "Data type wrong: 11 where 10 is right, at byte 116 of the fourth record.",
         make: || stopped(|r| put(r, 116, 2, 11)),
     },
     Sample {
         name: "refusal-11",
-        last_line: "572 11 690",
+        last_line: "2564 11 2682",
         about:
             "Data length wrong: 40 where 20 is right, at byte 118 of the fourth record (the label's 20 added twice).",
         make: || stopped(|r| put(r, 118, 2, 40)),
     },
     Sample {
         name: "refusal-17",
-        last_line: "572 17 0",
-        about: "N 65537, one over the program's buffer: the fourth record, whole, with 65417 bytes of data.",
+        last_line: "2564 17 0",
+        about: "N 65538, two over the program's buffer: the fourth record, whole, with 65418 bytes of data.",
         make: too_long,
     },
 ];
@@ -117,7 +118,7 @@ pub static LISTED: [Sample; 5] = [
     },
     Sample {
         name: "mixed",
-        last_line: "150582 0 0",
+        last_line: "167372 0 0",
         about: "Records of many lengths: the buffer is filled anew several times.",
         make: mixed,
     },
@@ -132,7 +133,7 @@ pub static LISTED: [Sample; 5] = [
 ];
 
 /// Ledger sheets.
-pub static SHEETS: [Sample; 5] = [
+pub static SHEETS: [Sample; 6] = [
     Sample {
         name: "sheets/old-night",
         last_line: "",
@@ -145,6 +146,13 @@ pub static SHEETS: [Sample; 5] = [
         last_line: "",
         about: "The same, converted: 6,968 bytes, each row with its used word.",
         make: night_sheet,
+    },
+    Sample {
+        name: "sheets/two-spacecraft",
+        last_line: "",
+        about: "Row 0 is of spacecraft 5, row 1 of spacecraft 517, the same station, equipment and virtual stream; \
+            both have numbers 1 to 9 but 7.",
+        make: two_spacecraft,
     },
     Sample {
         name: "season/april",
@@ -170,6 +178,25 @@ pub static SHEETS: [Sample; 5] = [
     },
 ];
 
+/// Two streams that differ in bit 7 of the spacecraft's first byte alone.
+fn two_spacecraft() -> Vec<u8> {
+    let mut s = vec![0; ledger::SHEET];
+    let mut work = || -> Result<(), u32> {
+        ledger::fresh(&mut s)?;
+        for (row, spacecraft) in [5, 517].into_iter().enumerate() {
+            ledger::enrol(&mut s, keys::telemetry_key(spacecraft, 43, 2, 1)?, 1)?;
+            ledger::open(&mut s, 0, row as u32)?;
+            for number in (1..=9).filter(|number| *number != 7) {
+                ledger::tick(&mut s, 0, number)?;
+            }
+            ledger::save(&mut s, 0)?;
+        }
+        Ok(())
+    };
+    work().expect("no call is refused");
+    s
+}
+
 /// A sheet with rows for virtual streams of one month's equipment: the first numbers ticked in each, but for some.
 fn month(equipment: u32, rows: &[(u32, u32)], left_out: &[(u32, u32)]) -> Vec<u8> {
     let mut s = vec![0; ledger::SHEET];
@@ -191,7 +218,7 @@ fn month(equipment: u32, rows: &[(u32, u32)], left_out: &[(u32, u32)]) -> Vec<u8
 
 /// Two telemetry streams and one of RSR whose numbers pass 65,535. Desk 0 has work on the first that is not saved; desk 3
 /// has the third open.
-fn night_sheet() -> Vec<u8> {
+pub(crate) fn night_sheet() -> Vec<u8> {
     let mut s = vec![0; ledger::SHEET];
     let keys = [keys::telemetry_key(177, 43, 2, 1), keys::telemetry_key(177, 43, 2, 2), keys::rsr_key(177, 43, 1, 2)];
     let mut night = || -> Result<(), u32> {
@@ -212,28 +239,56 @@ fn night_sheet() -> Vec<u8> {
     s
 }
 
-/// Streams to unpack.
-pub static RSR_STREAMS: [Sample; 1] = [Sample {
-    name: "rsr/tone",
-    last_line: "",
-    about: "Two seconds of a tone, two records: samples of 8 bits, 1,000 a second, 48 to a period.",
-    make: tone,
-}];
+/// Streams to unpack: the second record is spoilt but for the first stream.
+pub static RSR_STREAMS: [Sample; 5] = [
+    Sample {
+        name: "rsr/tone",
+        last_line: "",
+        about: "Two seconds of a tone, two records: samples of 8 bits, 1,000 a second, 48 to a period.",
+        make: || [tone(0), tone(1)].concat(),
+    },
+    Sample {
+        name: "rsr/refusal-12",
+        last_line: "",
+        about: "Field out of range: uplink band U at byte 2310, byte 50 of the second record. \
+            A telemetry record may say U, a receiver's says S, X or K.",
+        make: || behind_one(|r| r[50] = b'U'),
+    },
+    Sample {
+        name: "rsr/refusal-15",
+        last_line: "",
+        about: "Another kind: the second record, at byte 2260, is a telemetry record, and a right one.",
+        make: || behind_one(|r| *r = pass::telemetry(1, 1, 7, &[])),
+    },
+    Sample {
+        name: "rsr/refusal-19",
+        last_line: "",
+        about: "Sample size 8 with rate 3, no pair of table 3-1: bytes 2328, and 2330 and 2331.",
+        make: || behind_one(|r| put(r, iq::RATE, 2, 3)),
+    },
+    Sample {
+        name: "rsr/refusal-34",
+        last_line: "",
+        about: "No whole words: the second record's data are 2,002 bytes (its data length, bytes 2518 and 2519).",
+        make: || behind_one(|r| *r = pass::rsr(1, 1, 1, &[&r[RSR_LAYOUT.data_value..], &[0, 0]].concat())),
+    },
+];
 
-fn tone() -> Vec<u8> {
-    let rng = Rng::new(SEED);
-    let second = |number: u32| {
-        let mut record = rsr(&rng, 1, number, 2_000);
-        record[iq::SIZE] = 8;
-        put(&mut record, iq::RATE, 2, 1);
-        let turns = (0..1_000).map(|n| n + 1_000 * number as usize);
-        // A number is odd.
-        let numbers: Vec<i32> = turns.flat_map(|n| [cosine(n), cosine(n + 36)]).map(|c| c >> 1 << 1 | 1).collect();
-        let data = record.len() - 2_000;
-        iq::pack(8, 1, &numbers, &mut record[data..]).expect("every number has a code");
-        record
-    };
-    [second(0), second(1)].concat()
+/// A second of the tone, and the next one spoilt.
+fn behind_one(spoil: fn(&mut Vec<u8>)) -> Vec<u8> {
+    let mut last = tone(1);
+    spoil(&mut last);
+    [tone(0), last].concat()
+}
+
+/// A second of a tone, so many seconds after it began.
+fn tone(second: u32) -> Vec<u8> {
+    let turns = (0..1_000).map(|n| n + 1_000 * second as usize);
+    // A number is odd.
+    let numbers: Vec<i32> = turns.flat_map(|n| [cosine(n), cosine(n + 36)]).map(|c| c >> 1 << 1 | 1).collect();
+    let mut data = [0; SECOND];
+    iq::pack(8, 1, &numbers, &mut data).expect("every number has a code");
+    pass::rsr(second.into(), 1, second, &data)
 }
 
 /// 200 times the cosine of n 48ths of a turn.
@@ -247,9 +302,42 @@ fn cosine(n: usize) -> i32 {
     }
 }
 
+/// Records for the lessons of docs/LESSONS.md.
+pub static LESSONS: [Sample; 2] = [
+    Sample {
+        name: "lessons/outer-length",
+        last_line: "0 7 22",
+        about: "The label is right and three blocks are not: aggregation length 96 where 92 is right (byte 22), \
+            secondary type 104 where 78 is right (byte 32), data length 40 where 20 is right (byte 118).",
+        make: outer_length,
+    },
+    Sample {
+        name: "lessons/bit-8",
+        last_line: "120 0 0",
+        about:
+            "Record 7 of spacecraft 517 (bytes 38 and 39: 2, 5). A reader of the top bits takes it for spacecraft 5.",
+        make: || {
+            let mut record = pass::telemetry(0, 1, 7, &[]);
+            put(&mut record, SPACECRAFT, 2, 517);
+            record
+        },
+    },
+];
+
+/// Bytes 6 and 7 of a telemetry record's secondary block.
+const SPACECRAFT: usize = record::SECONDARY + 6;
+
+fn outer_length() -> Vec<u8> {
+    let mut record = pass::telemetry(3, 1, 9, &Rng::new(SEED).bytes(20));
+    for (at, wrong) in [(22, 96), (32, 104), (118, 40)] {
+        put(&mut record, at, 2, wrong);
+    }
+    record
+}
+
 /// What is stored in samples/.
 pub fn stored() -> impl Iterator<Item = &'static Sample> {
-    SAMPLES.iter().chain(&tapes::TAPES).chain(&SHEETS).chain(&RSR_STREAMS)
+    SAMPLES.iter().chain(&LESSONS).chain(&tapes::TAPES).chain(&SHEETS).chain(&wrong_sheets::SHEETS).chain(&RSR_STREAMS)
 }
 
 pub fn sample(name: &str) -> Option<Vec<u8>> {
@@ -270,56 +358,21 @@ fn mixed() -> Vec<u8> {
     stream
 }
 
-fn telemetry(rng: &Rng, stream: u64, number: u32, data: usize) -> Vec<u8> {
-    let mut secondary = make::secondary(rng, TELEMETRY);
-    for (at, width, value) in [
-        (4, 2, 48 << 8 | 48),
-        (6, 2, 177),
-        (10, 1, 43),
-        (22, 4, number as u64),
-        (28, 1, 2),
-        (30, 1, stream),
-        (74, 2, 2),
-    ] {
-        put_secondary(&mut secondary, at, width, value);
-    }
-    make::record(TELEMETRY, TELEMETRY_PRIMARY, &secondary, &rng.bytes(data))
-}
-
-fn rsr(rng: &Rng, subchannel: u64, number: u32, data: usize) -> Vec<u8> {
-    let mut secondary = make::secondary(rng, RSR);
-    let fields = [
-        (4, 2, 48 << 8 | 48),
-        (8, 2, number as u64 & 0xFFFF),
-        (10, 1, 40),
-        (11, 1, 43),
-        (12, 1, 1),
-        (13, 1, subchannel),
-        (14, 1, 0),
-        (15, 1, 177),
-        (16, 2, 4_021),
-        (28, 2, 2_008),
-        (30, 2, 242),
-    ];
-    for (at, width, value) in fields {
-        put_secondary(&mut secondary, at, width, value);
-    }
-    make::record(RSR, RSR_PRIMARY, &secondary, &rng.bytes(data))
-}
+/// The bytes of a second of 1,000 samples of 8 bits.
+const SECOND: usize = 2_000;
 
 fn good_night() -> Vec<u8> {
     let rng = Rng::new(SEED);
     let mut stream = Vec::new();
-    for i in 0..48u32 {
+    for second in 0..48u32 {
         for virtual_stream in 1..=3 {
             let first = if virtual_stream == 1 { 4_294_967_270 } else { 1 };
-            let data = 2 * rng.index(30);
-            stream.extend(telemetry(&rng, virtual_stream, i.wrapping_add(first), data));
+            let data = rng.bytes(2 * rng.index(30));
+            stream.extend(pass::telemetry(second.into(), virtual_stream, second.wrapping_add(first), &data));
         }
         for subchannel in 1..=2 {
             let first = if subchannel == 2 { 65_510 } else { 0 };
-            let data = 4 * rng.index(20);
-            stream.extend(rsr(&rng, subchannel, i + first, data));
+            stream.extend(pass::rsr(second.into(), subchannel, second + first, &rng.bytes(SECOND)));
         }
     }
     stream
@@ -328,20 +381,25 @@ fn good_night() -> Vec<u8> {
 /// Two telemetry records, one of RSR, and a telemetry record with 20 bytes of data that `spoil` spoils.
 fn spoilt(spoil: fn(&mut Vec<u8>)) -> Vec<u8> {
     let rng = Rng::new(SEED);
-    let mut last = telemetry(&rng, 1, 9, 20);
+    let mut last = pass::telemetry(3, 1, 9, &rng.bytes(20));
     spoil(&mut last);
-    [telemetry(&rng, 1, 7, 0), rsr(&rng, 1, 300, 8), telemetry(&rng, 1, 8, 64), last].concat()
+    let first = [pass::telemetry(0, 1, 7, &[]), pass::rsr(1, 1, 300, &rng.bytes(SECOND))];
+    [first.concat(), pass::telemetry(2, 1, 8, &rng.bytes(64)), last].concat()
 }
 
 /// The same, and a good record after it, which a listing does not reach.
 fn stopped(spoil: fn(&mut Vec<u8>)) -> Vec<u8> {
     let mut stream = spoilt(spoil);
-    stream.extend(telemetry(&Rng::new(SEED), 1, 10, 0));
+    stream.extend(pass::telemetry(4, 1, 10, &[]));
     stream
 }
 
+/// A data length is even.
 fn too_long() -> Vec<u8> {
-    stopped(|r| *r = telemetry(&Rng::new(SEED), 1, 9, list::WINDOW + 1 - TELEMETRY_LAYOUT.data_value))
+    stopped(|r| {
+        let data = Rng::new(SEED).bytes(list::WINDOW + 2 - TELEMETRY_LAYOUT.data_value);
+        *r = pass::telemetry(3, 1, 9, &data);
+    })
 }
 
 /// A stream of whole records, of at least `bytes` bytes: the same some megabytes over and over.
@@ -367,24 +425,20 @@ pub fn big(bytes: u64, out: &mut impl Write) -> io::Result<()> {
 /// Lengths as they come in a night: short and framed telemetry, and RSR at several sample rates.
 pub fn mixed_record(rng: &Rng) -> Vec<u8> {
     let number = rng.word() >> rng.below(32);
+    let telemetry = |stream, data| pass::telemetry(0, stream, number, &rng.bytes(data));
+    let rsr = |subchannel, data| pass::rsr(0, subchannel, number, &rng.bytes(data));
     match rng.below(20) {
-        0..=8 => {
-            let data = rng.between(0, 280);
-            telemetry(rng, 1, number, data)
-        }
-        9..=15 => telemetry(rng, 2, number, 1_264),
-        16..=18 => rsr(rng, 1, number, 2_000),
-        _ => {
-            let data = rng.pick(&[16_000, 20_000, 25_000]);
-            rsr(rng, 2, number, data)
-        }
+        0..=8 => telemetry(1, rng.between(0, 280)),
+        9..=15 => telemetry(2, 1_264),
+        16..=18 => rsr(1, 2_000),
+        _ => rsr(2, rng.pick(&[16_000, 20_000, 25_000])),
     }
 }
 
 /// Streams of records all of one length, for benchmarks.
 pub fn telemetry_stream(records: u32, record_length: usize) -> Vec<u8> {
-    let rng = Rng::new(SEED);
-    let mut record = telemetry(&rng, 1, 0, record_length - TELEMETRY_LAYOUT.data_value);
+    let data = Rng::new(SEED).bytes(record_length - TELEMETRY_LAYOUT.data_value);
+    let mut record = pass::telemetry(0, 1, 0, &data);
     let mut stream = Vec::with_capacity(records as usize * record_length);
     let (at, width) = record::number_field(TELEMETRY);
     for number in 0..records {
@@ -396,7 +450,7 @@ pub fn telemetry_stream(records: u32, record_length: usize) -> Vec<u8> {
 
 /// A record with the most samples of a size, for benchmarks.
 pub fn samples_record(size: u32, rate: u32) -> Vec<u8> {
-    let mut record = rsr(&Rng::new(SEED), 1, 7, 65_532);
+    let mut record = pass::rsr(0, 1, 7, &Rng::new(SEED).bytes(65_532));
     record[iq::SIZE] = size as u8;
     put(&mut record, iq::RATE, 2, rate.into());
     record
@@ -405,8 +459,8 @@ pub fn samples_record(size: u32, rate: u32) -> Vec<u8> {
 pub fn headers_sample(kind: u32) -> Vec<u8> {
     let rng = Rng::new(SEED);
     if kind == TELEMETRY {
-        telemetry(&rng, 1, 7, 1_264)
+        pass::telemetry(0, 1, 7, &rng.bytes(1_264))
     } else {
-        rsr(&rng, 1, 7, 2_000)
+        pass::rsr(0, 1, 7, &rng.bytes(SECOND))
     }
 }

@@ -3,15 +3,18 @@
 use crate::record::{self, Fields, Record, Refused, Rsr, Telemetry};
 use crate::stream::{self, Cursor, Step, Stop};
 use crate::{convert, dates, gain, keys, ledger, ops};
+use std::collections::BTreeMap;
 use std::io::{self, Write};
 
 mod idr;
 mod iq;
+mod receive;
 mod replay;
 mod season;
 mod settings;
 
 pub use idr::MOST_TAPE_SLICE;
+pub use receive::MOST_NUMBERS;
 pub use settings::MOST_SETTINGS;
 
 pub const HEADER: usize = 40;
@@ -74,8 +77,15 @@ pub fn read_frame(s: &[u8]) -> Option<(Frame, usize)> {
 }
 
 /// Hands each frame with its line to `each`; after a bad frame, the line alone, and no more.
-pub fn run(script: &[u8], mut each: impl FnMut(Option<&Frame>, &str) -> io::Result<()>) -> io::Result<()> {
-    let mut calls = Calls::default();
+pub fn run(script: &[u8], each: impl FnMut(Option<&Frame>, &str) -> io::Result<()>) -> io::Result<()> {
+    run_on(&mut Calls::default(), script, each)
+}
+
+pub fn run_on(
+    calls: &mut Calls,
+    script: &[u8],
+    mut each: impl FnMut(Option<&Frame>, &str) -> io::Result<()>,
+) -> io::Result<()> {
     let mut rest = script;
     while !rest.is_empty() {
         let answer = read_frame(rest).and_then(|(frame, end)| calls.line(&frame).map(|line| (frame, end, line)));
@@ -92,11 +102,13 @@ pub fn run(script: &[u8], mut each: impl FnMut(Option<&Frame>, &str) -> io::Resu
 pub struct Calls {
     pub sheet: Vec<u8>,
     pub settings: Vec<u8>,
+    /// How many records had which outcome when they were received; no line tells of one.
+    pub outcomes: BTreeMap<u32, usize>,
 }
 
 impl Default for Calls {
     fn default() -> Calls {
-        Calls { sheet: vec![0; ledger::SHEET], settings: vec![0; crate::settings::SETTINGS] }
+        Calls { sheet: vec![0; ledger::SHEET], settings: vec![0; crate::settings::SETTINGS], outcomes: BTreeMap::new() }
     }
 }
 
@@ -113,6 +125,7 @@ impl Calls {
             ops::RSR_KEY => Some(line_of_key(keys::rsr_key(f.x, f.y, f.z, f.w))),
             ops::WALK => Some(line_of_stop(&stream::walk(&f.a))),
             ops::LIST_NUMBERS => number_lists(f),
+            ops::KEY_PARTS => Some(line_of_parts(keys::parts(f.key))),
             ops::STEP => Some(line_of_step(Cursor { place: f.key }.step(&f.a))),
             ops::DATE_OF => Some(line_of_date(dates::date_of(f.x))),
             ops::UNPACK => iq::unpack(f),
@@ -120,8 +133,9 @@ impl Calls {
             ops::GAIN => Some(line_of_gain(gain::gain(&f.a, f.x))),
             ops::READ_TAPE => Some(idr::read(f)),
             ops::WRITE_TAPE => idr::write(f),
-            ops::NEW_SHEET..=ops::REPLAY => self.ledger_line(f),
+            ops::NEW_SHEET..=ops::REPLAY | ops::ROW | ops::DESK | ops::REPLAY_ON => self.ledger_line(f),
             ops::SEASON => Some(season::line(f)),
+            ops::MISSING_NUMBERS | ops::RECEIVE => receive::line(self, f),
             ops::NEW_SETTINGS..=ops::ASK => settings::line(&mut self.settings, f),
             _ => None,
         }
@@ -162,6 +176,8 @@ impl Calls {
                 *s = vec![SLICE_FILL; f.z as usize];
                 convert::convert(&f.a, s).map(nothing)
             }
+            ops::ROW => ledger::row_of(s, f.x).map(|(key, first)| format!(" {key} {first}")),
+            ops::DESK => desk_words(s, f.x),
             _ => replay::answer(s, f),
         };
         let crc = crc32(s);
@@ -170,6 +186,15 @@ impl Calls {
             Err(refusal) => format!("{refusal} {crc}"),
         })
     }
+}
+
+/// `none`, or the row, the ticks and the unticks that are not saved, and whether a save would be stale now.
+fn desk_words(s: &[u8], desk: u32) -> Result<String, u32> {
+    let Some((row, stale)) = ledger::desk_of(s, desk)? else {
+        return Ok(" none".to_string());
+    };
+    let (ticks, unticks) = ledger::unsaved(s, desk)?;
+    Ok(format!(" {row} {ticks} {unticks} {}", stale as u32))
 }
 
 fn or_none<T: ToString>(value: Option<T>) -> String {
@@ -259,6 +284,13 @@ fn rsr_words(r: &Rsr) -> String {
 fn line_of_key(answer: Result<u64, u32>) -> String {
     match answer {
         Ok(key) => format!("0 {key}"),
+        Err(refusal) => refusal.to_string(),
+    }
+}
+
+fn line_of_parts(answer: Result<(u32, [u32; 4]), u32>) -> String {
+    match answer {
+        Ok((kind, [a, b, c, d])) => format!("0 {kind} {a} {b} {c} {d}"),
         Err(refusal) => refusal.to_string(),
     }
 }

@@ -76,7 +76,7 @@ pub fn table(s: &[u8], entries: &mut [Entry]) -> Stop {
 /// Steps to the end, to a refused record, or to a whole record for which no entry is free (16). Hands each record found
 /// to `keep`, with its index and its place.
 #[inline]
-fn go_over(s: &[u8], free: usize, mut keep: impl FnMut(usize, usize, Record)) -> Stop {
+pub fn go_over(s: &[u8], free: usize, mut keep: impl FnMut(usize, usize, Record)) -> Stop {
     let mut cursor = Cursor { place: 0 };
     let mut count = 0;
     loop {

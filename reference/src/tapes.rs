@@ -76,7 +76,7 @@ pub static TAPES: [Sample; 6] = [
         name: "tapes/good-tape",
         last_line: "15168 0 end of tape",
         about: "Records 1, 2 and 61 of a run; the time tag of the second is not valid.",
-        make: || [tagged(1, 5), untagged(2), tagged(61, 6)].concat(),
+        make: || [tagged(1, 5), untagged(2, 5), tagged(61, 6)].concat(),
     },
     Sample {
         name: "tapes/refusal-50",
@@ -126,11 +126,23 @@ fn behind_one(spoil: fn(&mut Vec<u8>)) -> Vec<u8> {
     tape
 }
 
-/// A record of day 238, 3:24 and so many seconds: recorded at 300,000 samples a second, played back at 75,000.
+/// A record of day 238, 3:24 and so many seconds, whose time tag and sample count are valid.
 fn tagged(number: u16, second: u16) -> Vec<u8> {
     let first_of_run = (number == 1) as u16;
-    let mut words = header(number);
+    let mut words = header(number, second);
     words[0] |= 1 << 15 | first_of_run << 14 | 1 << 12;
+    record(&words)
+}
+
+/// A record between two whole seconds: its words 6 to 28 are still those of the second before, and not valid.
+fn untagged(number: u16, second: u16) -> Vec<u8> {
+    record(&header(number, second))
+}
+
+/// Tape 1, spacecraft 32, station 43, DRA tape 7: recorded at 300,000 samples a second, played back at 75,000.
+fn header(number: u16, second: u16) -> [u16; HEADER_WORDS] {
+    let mut words = [0; HEADER_WORDS];
+    words[..5].copy_from_slice(&[1, number, LENGTH_WORD, 32 << 8 | 43, 7]);
     words[5] = 0x2380;
     words[6] = 0x3240;
     words[7] = second << 12;
@@ -144,17 +156,6 @@ fn tagged(number: u16, second: u16) -> Vec<u8> {
     words[23] = 40_000;
     words[25] = 0b111;
     words[27] = 1;
-    record(&words)
-}
-
-fn untagged(number: u16) -> Vec<u8> {
-    record(&header(number))
-}
-
-/// Tape 1, spacecraft 32, station 43, DRA tape 7.
-fn header(number: u16) -> [u16; HEADER_WORDS] {
-    let mut words = [0; HEADER_WORDS];
-    words[..5].copy_from_slice(&[1, number, LENGTH_WORD, 32 << 8 | 43, 7]);
     words
 }
 

@@ -1,22 +1,28 @@
 // The numbers of an answer, for whoever exports, prints or times it (document 02, Req 06): the refusal's number, or 0 and the answer's
 // numbers in the papers' order; zeros behind them. Most answers have a few numbers, which are handed out without the zeros.
 pub mod agreements;
+pub mod ledgers;
+pub mod nights;
 pub mod places;
 pub mod receivers;
 pub mod records;
+pub mod seasons;
+pub mod streams;
 pub mod tapes;
 
 use dates::DateAnswer;
 use keys::KeyAnswer;
+use keys::KeyParts;
 use refusals::Refusal;
 use sfdu::Fault;
+use sfdu::nesting;
 ghost use mathlib.Core.List.{[], _∷_};
 ghost use Rattle.refusals.specs.Table.{numberOf};
 ghost use Rattle.sfdu.specs.Read.{faultWords};
 ghost use Rattle.dates.specs.Answers as Dates;
 ghost use Rattle.keys.specs.Words as Keys;
 ghost use Rattle.answers.specs.Numbers.{plain};
-ghost use Rattle.answers.specs.inner.Numbers.{Few};
+ghost use Rattle.answers.specs.inner.Numbers.{Few, Numbers};
 
 // How many numbers an answer has, and how many bytes each.
 pub const NUMBERS: usize = 32;
@@ -76,4 +82,59 @@ pub fn date(answer: DateAnswer) -> [u64; FEW]
         }
         DateAnswer::Refused(why) => refused(why),
     }
+}
+
+// A refusal that no number goes with, among all numbers of an answer.
+pub fn refused_alone(why: Refusal) -> [u64; NUMBERS]
+    ensures { λ r. ⌜ Numbers r (plain (numberOf why ∷ [])) ⌝ }
+{
+    let mut numbers = [0u64; NUMBERS];
+    numbers[places::REFUSAL] = refusals::number(why) as u64;
+    numbers
+}
+
+// A key taken apart: its kind and its four numbers.
+pub fn parts(answer: KeyParts) -> [u64; NUMBERS]
+    ensures { λ r. ⌜ Numbers r (plain (Keys.partsWords answer)) ⌝ }
+{
+    match answer {
+        KeyParts::Telemetry {
+            spacecraft,
+            source,
+            equipment,
+            stream,
+        } => five(
+            nesting::TELEMETRY_NUMBER as u64,
+            spacecraft as u64,
+            source as u64,
+            equipment as u64,
+            stream as u64,
+        ),
+        KeyParts::Rsr {
+            spacecraft,
+            station,
+            receiver,
+            subchannel,
+        } => five(
+            nesting::RSR_NUMBER as u64,
+            spacecraft as u64,
+            station as u64,
+            receiver as u64,
+            subchannel as u64,
+        ),
+        KeyParts::Refused(why) => refused_alone(why),
+    }
+}
+
+// Five numbers behind the 0.
+pub(crate) fn five(a: u64, b: u64, c: u64, d: u64, e: u64) -> [u64; NUMBERS]
+    ensures { λ r. ⌜ Numbers r (plain (0 ∷ a ∷ b ∷ c ∷ d ∷ e ∷ [])) ⌝ }
+{
+    let mut numbers = [0u64; NUMBERS];
+    numbers[1] = a;
+    numbers[2] = b;
+    numbers[3] = c;
+    numbers[4] = d;
+    numbers[5] = e;
+    numbers
 }

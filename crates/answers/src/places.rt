@@ -9,6 +9,23 @@ pub const KEY: usize = 1;
 
 pub const ROW: usize = 1;
 
+// A key's parts: its kind and its four numbers.
+pub const PARTS_KIND: usize = 1;
+
+pub const PARTS_SPACECRAFT: usize = 2;
+
+pub const PARTS_SOURCE: usize = 3;
+
+pub const PARTS_EQUIPMENT: usize = 4;
+
+pub const PARTS_STREAM: usize = 5;
+
+pub const PARTS_STATION: usize = 3;
+
+pub const PARTS_RECEIVER: usize = 4;
+
+pub const PARTS_SUBCHANNEL: usize = 5;
+
 // A date.
 pub const DATE_YEAR: usize = 1;
 
@@ -20,6 +37,35 @@ pub const TICKED: usize = 1;
 pub const MISSING: usize = 2;
 
 pub const LOWEST: usize = 3;
+
+// Whether a slice is a sheet.
+pub const IS_SHEET: usize = 1;
+
+// A row's stream.
+pub const ROW_KEY: usize = 1;
+
+pub const ROW_FIRST: usize = 2;
+
+// A desk.
+pub const DESK_ROW: usize = 1;
+
+pub const DESK_STALE: usize = 2;
+
+// What a desk has not saved.
+pub const UNSAVED_TICKS: usize = 1;
+
+pub const UNSAVED_UNTICKS: usize = 2;
+
+// A stream received: how many records, where the walk stopped and why, and how many were ticked.
+pub const RECEIVED_COUNT: usize = 1;
+
+pub const RECEIVED_PLACE: usize = 2;
+
+pub const RECEIVED_STOP: usize = 3;
+
+pub const RECEIVED_SECOND: usize = 4;
+
+pub const RECEIVED_TICKED: usize = 5;
 
 // The first gap.
 pub const GAP_NUMBER: usize = 1;
@@ -58,7 +104,7 @@ pub const SETTING_FRAME: usize = 3;
 // A gain multiplier.
 pub const GAIN: usize = 1;
 
-// How many samples or bytes were written.
+// How many samples or bytes were written; how many numbers are missing.
 pub const COUNT: usize = 1;
 
 // Read headers, of both kinds.

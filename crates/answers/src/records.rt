@@ -47,7 +47,7 @@ pub fn headers(found: sfdu_headers::Headers) -> [u64; NUMBERS]
 }
 
 // A refusal, and the offset or the count that goes with it.
-fn wrong(fault: Fault) -> [u64; NUMBERS]
+pub(crate) fn wrong(fault: Fault) -> [u64; NUMBERS]
     ensures { λ r. ⌜ Numbers r (plain (faultWords fault)) ⌝ }
 {
     let refusal = fault.refusal;

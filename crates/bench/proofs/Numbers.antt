@@ -4,9 +4,9 @@ use native.Mathlib.Omega.{arith}
 use mathlib.Core.List.{List, [], _∷_, _++_, append-assoc}
 use mathlib.Core.Path.{_≡_, refl, sym, ap, _∙_}
 use lib.Bits.{bitXor}
-use lib.ListN.{length, getD, drop, replicate, length-append}
+use lib.ListN.{length, getD, drop, replicate}
 use lib.Seq.{drop-at}
-use Rattle.ledger_season.specs.declared.SheetCounts.{SheetCounts}
+use Rattle.ledger_season.proofs.Read.{length-sheets}
 use Rattle.ledger_season.specs.declared.SeasonReport.{SeasonReport}
 use Rattle.ledger_season.specs.Report.{mostSheets}
 use Rattle.ledger_season.specs.Season.{countsWords, sheetsWords, orFurther, Answers}
@@ -31,11 +31,6 @@ few-onto {numbers = ns} promised e f =
     rw (← e, ← f .same, past-zeros ns 28 0, past-zeros ns 28 1, past-zeros ns 28 2, past-zeros ns 28 3)
 
 -- ---- a season
-
-length-sheets : (cs : List SheetCounts) → length (sheetsWords cs) ≡ 3 * length cs
-unfolding sheetsWords
-length-sheets [] = refl
-length-sheets (c ∷ cs) = length-append (countsWords c) (sheetsWords cs) ∙ omega (arith, length-sheets cs)
 
 pub season-onto : {words : List ℕ} (r : SeasonReport) → Answers words r → bitXor (r .count) (countsOnto (countsWords (r .total))) ≡ seasonOnto words
 season-onto r e =

@@ -1,7 +1,7 @@
 // Calls whose answers are a few numbers: these, one on the other.
 use answers::agreements;
+use answers::ledgers;
 use answers::receivers;
-use ledger_answers::ledgers;
 use ledger_season::SheetCounts;
 ghost use mathlib.Core.Path.{_≡_};
 ghost use Rattle.keys.specs.Key.{telemetryKeyCall};

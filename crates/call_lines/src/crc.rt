@@ -25,9 +25,29 @@ const TABLE: [u32; 16] = [
 pub fn crc(s: &[u8]) -> u32 {
     let mut register = ALL_ONES;
     for i in 0..s.len() {
-        register = four_bits(four_bits(register ^ wide(s[i])));
+        register = byte(register, wide(s[i]));
     }
     register ^ ALL_ONES
+}
+
+// Of numbers of four bytes, the highest first.
+pub fn crc_of_numbers(list: &[u32]) -> u32 {
+    let mut register = ALL_ONES;
+    for i in 0..list.len() {
+        register = four_bytes(register, list[i]);
+    }
+    register ^ ALL_ONES
+}
+
+fn four_bytes(register: u32, n: u32) -> u32 {
+    let one = byte(register, n / 16777216);
+    let two = byte(one, n / 65536 % 256);
+    let three = byte(two, n / 256 % 256);
+    byte(three, n % 256)
+}
+
+fn byte(register: u32, value: u32) -> u32 {
+    four_bits(four_bits(register ^ value))
 }
 
 fn four_bits(register: u32) -> u32 {

@@ -4,6 +4,7 @@ pub mod line;
 mod lists;
 pub mod ops;
 mod records;
+pub mod samples;
 mod tapes;
 
 // What a call is and takes, and the lengths of the two runs of bytes that come with it.
@@ -31,6 +32,8 @@ const KEY: usize = 2;
 
 const DATE: usize = 3;
 
+const PARTS: usize = 6;
+
 // A call that is lent no sheet, by its op. Where the frame is bad its line has no words.
 pub fn on_bytes(f: Frame, a: &[u8], b: &[u8], out: &mut [u8], at: usize) -> usize {
     let op = f.op;
@@ -54,6 +57,7 @@ pub fn on_bytes(f: Frame, a: &[u8], b: &[u8], out: &mut [u8], at: usize) -> usiz
         ),
         ops::WALK => records::stopped(out, at, sfdu_stream::walk(a)),
         ops::LIST_NUMBERS => lists::list_numbers(f, a, out, at),
+        ops::KEY_PARTS => line::told_of(out, at, answers::parts(keys::parts(f.key)), PARTS),
         ops::STEP => records::step(a, f.key, out, at),
         ops::DATE_OF => line::told(out, at, answers::date(dates::date_of(f.x)), DATE),
         ops::READ_TAPE => tapes::read(a, out, at),

@@ -88,6 +88,17 @@ pub fn told(out: &mut [u8], at: usize, answer: [u64; answers::FEW], accepted: us
     numbers(out, at, &answer, 0, n)
 }
 
+// The same of an answer with more numbers.
+pub fn told_of(
+    out: &mut [u8],
+    at: usize,
+    answer: [u64; answers::NUMBERS],
+    accepted: usize,
+) -> usize {
+    let n = told_count(answer[places::REFUSAL], accepted);
+    numbers(out, at, &answer, 0, n)
+}
+
 // The same of an answer whose numbers from index i on can be a none, for which a word stands.
 pub fn told_or(
     out: &mut [u8],

@@ -17,6 +17,8 @@ pub const WALK: u32 = 8;
 
 pub const LIST_NUMBERS: u32 = 9;
 
+pub const KEY_PARTS: u32 = 10;
+
 pub const STEP: u32 = 11;
 
 pub const DATE_OF: u32 = 12;
@@ -62,6 +64,16 @@ pub const CONVERT: u32 = 31;
 pub const REPLAY: u32 = 32;
 
 pub const SEASON: u32 = 33;
+
+pub const ROW: u32 = 34;
+
+pub const DESK: u32 = 35;
+
+pub const MISSING_NUMBERS: u32 = 36;
+
+pub const RECEIVE: u32 = 37;
+
+pub const REPLAY_ON: u32 = 38;
 
 // The ops on the settings begin here. After this one they are as long as the frame's first run.
 pub const NEW_SETTINGS: u32 = 39;

@@ -114,7 +114,7 @@ fn low_byte(n: u32) -> u8 {
     (n % BYTE_VALUES) as u8
 }
 
-pub(crate) fn stopped(out: &mut [u8], at: usize, walked: Walked) -> usize {
+pub fn stopped(out: &mut [u8], at: usize, walked: Walked) -> usize {
     let stop = walked.stop;
     let counted = line::number(out, at, walked.count as u64);
     let placed = line::number(out, counted, walked.place as u64);

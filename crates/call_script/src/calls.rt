@@ -1,4 +1,5 @@
 // The call of a frame, by its op. Where the frame is bad its line has no words.
+use crate::receives;
 use crate::seasons;
 use crate::sheets;
 use call_lines::Frame;
@@ -25,8 +26,11 @@ pub(crate) fn call(
     if f.op == ops::SEASON {
         return seasons::season(a, out, at);
     }
-    if f.op == ops::REPLAY {
-        return sheets::replayed(a, sheet, n, out, at);
+    if (f.op == ops::MISSING_NUMBERS) | (f.op == ops::RECEIVE) {
+        return receives::line(f, a, sheet, n, out, at);
+    }
+    if (f.op == ops::REPLAY) | (f.op == ops::REPLAY_ON) {
+        return sheets::replayed(f.op, a, sheet, n, out, at);
     }
     sheets::on_sheet(f, sheet, n, out, at)
 }
@@ -34,7 +38,7 @@ pub(crate) fn call(
 fn on_bytes(f: Frame, a: &[u8], b: &[u8], out: &mut [u8], at: usize) -> usize {
     let op = f.op;
     match op {
-        ops::UNPACK | ops::PACK | ops::GAIN => call_samples::line(f, a, out, at),
+        ops::UNPACK | ops::PACK | ops::GAIN => call_lines::samples::line(f, a, out, at),
         _ => call_lines::on_bytes(f, a, b, out, at),
     }
 }

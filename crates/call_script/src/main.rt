@@ -4,6 +4,7 @@ ghost use Prim.Native.Nat.{_<_};
 mod calls;
 mod frame;
 mod missions;
+mod receives;
 mod seasons;
 mod sheets;
 

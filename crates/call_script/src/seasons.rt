@@ -1,7 +1,7 @@
 // The line of the season's report.
 use answers::places;
+use answers::seasons;
 use call_lines::line;
-use ledger_answers::seasons;
 use ledger_season::SeasonReport;
 use ledger_season::SheetCounts;
 

@@ -1,11 +1,12 @@
 // The lines of the calls on the ledger sheet.
+use answers::ledgers;
+use answers::nights;
 use answers::places;
 use call_lines::Frame;
 use call_lines::crc;
 use call_lines::line;
 use call_lines::ops;
-use ledger_answers::ledgers;
-use ledger_answers::nights;
+use ledger_replay::Replayed;
 use ledger_sheet::Answer;
 
 // How many numbers the answers have where they are accepted.
@@ -16,6 +17,10 @@ const ROW: usize = 2;
 const REPORT: usize = 4;
 
 const GAP: usize = 3;
+
+const STREAM: usize = 3;
+
+const DESK_ROW: usize = 2;
 
 const REPLAYED: usize = 4;
 
@@ -51,15 +56,29 @@ fn fill(s: &mut [u8]) {
     }
 }
 
-// The trace t played again over the sheet, which is the first n bytes of its room.
-pub(crate) fn replayed(t: &[u8], room: &mut [u8], n: usize, out: &mut [u8], at: usize) -> usize {
+// The trace t played again over a fresh sheet, or over the sheet as it stands. The sheet is the first n bytes of its room.
+pub(crate) fn replayed(
+    op: u32,
+    t: &[u8],
+    room: &mut [u8],
+    n: usize,
+    out: &mut [u8],
+    at: usize,
+) -> usize {
     if room.len() < n {
         return at;
     }
     let s = &mut room[..n];
-    let answer = nights::replayed(ledger_replay::replay(t, s));
+    let answer = nights::replayed(play(op, t, s));
     let end = line::told_or(out, at, answer, REPLAYED, places::ENTRY, b"same");
     line::number(out, end, crc::crc(s) as u64)
+}
+
+fn play(op: u32, t: &[u8], s: &mut [u8]) -> Replayed {
+    if op == ops::REPLAY_ON {
+        return ledger_replay::replay_on(t, s);
+    }
+    ledger_replay::replay(t, s)
 }
 
 // A call on the sheet, which is the first n bytes of its room. The crc of the whole sheet after the call ends its line.
@@ -105,6 +124,8 @@ fn ask(f: Frame, s: &[u8], out: &mut [u8], at: usize) -> usize {
     match op {
         ops::FIND => line::told(out, at, ledgers::row(ledger::find(s, f.key)), ROW),
         ops::ROW_REPORT => report(ledgers::report(ledger::row_report(s, f.x)), out, at),
+        ops::ROW => line::told(out, at, ledgers::stream(ledger::row(s, f.x)), STREAM),
+        ops::DESK => desk(s, f.x, out, at),
         ops::FIRST_GAP => gap(ledgers::gap(ledger::first_gap(s)), out, at),
         _ => at,
     }
@@ -116,4 +137,17 @@ fn report(answer: [u64; answers::FEW], out: &mut [u8], at: usize) -> usize {
 
 fn gap(answer: [u64; answers::FEW], out: &mut [u8], at: usize) -> usize {
     line::told_or(out, at, answer, GAP, places::GAP_NUMBER, b"none")
+}
+
+// A desk's row, or none; and for an open desk what it has not saved, and whether a save would be stale.
+fn desk(s: &[u8], desk: u32, out: &mut [u8], at: usize) -> usize {
+    let answer = ledgers::desk(ledger::desk(s, desk));
+    let end = line::told_or(out, at, answer, DESK_ROW, places::DESK_ROW, b"none");
+    let unsaved = ledgers::unsaved(ledger::unsaved(s, desk));
+    if unsaved[places::REFUSAL] != call_lines::ACCEPTED {
+        return end;
+    }
+    let ticks = line::number(out, end, unsaved[places::UNSAVED_TICKS]);
+    let unticks = line::number(out, ticks, unsaved[places::UNSAVED_UNTICKS]);
+    line::number(out, unticks, answer[places::DESK_STALE])
 }

@@ -4,15 +4,16 @@ use Prim.Native.Nat.{ℕ, zero, suc, _+_, _-_, _<_, _≤_}
 use native.Mathlib.Nat.{add-zero, le-refl}
 use native.Mathlib.Omega.{arith}
 use mathlib.Core.Path.{_≡_, refl, ap}
-use mathlib.Core.Bool.{Bool, true, false, cond, _&&_, false≢true}
+use mathlib.Core.Bool.{Bool, true, false, cond, false≢true}
 use mathlib.Core.List.{[], _∷_}
 use lib.Dec.{leb, ltb}
 use borrow.Author.Tests.{ltb-true, ltb-false, leb-true, leb-false, lt-ltb, le-ltb, le-leb}
+use Rattle.laws.proofs.Bools.{and-split}
 use Rattle.refusals.specs.Judge.{judge}
 use Rattle.refusals.proofs.Laws.{number-injective}
 use Rattle.dates.specs.Calendar.{firstYear, lastYear, isLeap, yearLength, daysOfYears, newYear, isYear, isDay, isDate, dayCount, dateFrom, dateOf}
 use Rattle.dates.specs.inner.Within.{Within}
-use Rattle.dates.specs.Laws.{BackFromCount, ForthFromBack, EveryCount, RefusedPast, Since1958, WordsInjective}
+use Rattle.dates.specs.Laws.{BackFromCount, ForthFromBack, EveryCount, RefusedPast, NewYear1958, NewYear3000, Since1958, WordsInjective}
 use Rattle.dates.specs.declared.DateAnswer.the-variants.{Date, Refused}
 
 -- ---- the request's numbers
@@ -21,11 +22,11 @@ pub new-year-1900 : newYear 1900 ≡ 0
 unfolding newYear daysOfYears
 new-year-1900 = refl
 
-pub new-year-1958 : newYear 1958 ≡ 21184
+pub new-year-1958 : NewYear1958
 unfolding newYear daysOfYears yearLength isLeap
 new-year-1958 = refl
 
-pub new-year-3000 : newYear 3000 ≡ 401767
+pub new-year-3000 : NewYear3000
 unfolding newYear daysOfYears yearLength isLeap
 new-year-3000 = refl
 
@@ -66,10 +67,6 @@ new-year-top year h l = omega (arith, new-years-grow year 3000 h l, new-year-300
 
 -- ---- dates
 
-pub and-true : (x y : Bool) → (x && y) ≡ true → (x ≡ true) × (y ≡ true)
-and-true true y e = (refl, e)
-and-true false y e = (e, cc)
-
 pub record IsDate (year day : ℕ) : Type 0 where
   pub first : firstYear ≤ year
   pub last : year ≤ lastYear
@@ -79,9 +76,9 @@ pub record IsDate (year day : ℕ) : Type 0 where
 pub date-is : (year day : ℕ) → isDate year day ≡ true → IsDate year day
 unfolding isDate isYear isDay
 date-is year day e =
-    let z = and-true (isYear year) (isDay year day) e in
-    let y = and-true (leb firstYear year) (leb year lastYear) (z .0) in
-    let d = and-true (leb 1 day) (leb day (yearLength year)) (z .1) in
+    let z = and-split (isYear year) (isDay year day) e in
+    let y = and-split (leb firstYear year) (leb year lastYear) (z .0) in
+    let d = and-split (leb 1 day) (leb day (yearLength year)) (z .1) in
     record { first = leb-true _ _ (y .0); last = leb-true _ _ (y .1); counted = leb-true _ _ (d .0); within = leb-true _ _ (d .1) }
 
 pub is-date : (year day : ℕ) → IsDate year day → isDate year day ≡ true

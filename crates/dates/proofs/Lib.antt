@@ -2,3 +2,4 @@ pub mod Laws
 pub mod Rule
 pub mod Computed
 pub mod Mean
+pub mod Contracts

@@ -31,6 +31,13 @@ EveryCount = (count : ℕ) → count ≤ lastCount → Dated count
 abbrev pub RefusedPast : Type 0
 RefusedPast = (count : ℕ) → lastCount < count → dateOf count ≡ 33 ∷ []
 
+-- Request 01's own numbers: 1 January 1958, and that of the last year.
+abbrev pub NewYear1958 : Type 0
+NewYear1958 = newYear 1958 ≡ 21184
+
+abbrev pub NewYear3000 : Type 0
+NewYear3000 = newYear 3000 ≡ 401767
+
 -- A telemetry record has 16 bits of days from 1 January 1958: with that day's number they are a count that has a date.
 abbrev pub Since1958 : Type 0
 Since1958 = (days : ℕ) → days < 65536 → Dated (newYear 1958 + days)

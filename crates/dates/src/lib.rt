@@ -3,11 +3,15 @@ use refusals::Refusal;
 ghost use mathlib.Core.Path.{_≡_};
 ghost use Prim.Native.Nat.{_≤_, _+_};
 ghost use Rattle.dates.specs.Calendar.{firstYear, lastYear, lastCount, isLeap, yearLength, newYear, isYear, isDay, isDate, dateOf};
-ghost use Rattle.dates.specs.Answers.{countOf, wordsOf};
+ghost use Rattle.dates.specs.Answers.{wordsOf};
 ghost use Rattle.dates.specs.Table.{NewYears};
 ghost use Rattle.dates.specs.inner.Within.{Within};
+ghost use Rattle.dates.specs.inner.Counted.{countOf};
 
 mod table;
+
+use table::NEW_YEARS;
+use table::YEARS;
 
 const FIRST_YEAR: u16 = 1900;
 
@@ -15,8 +19,6 @@ const LAST_YEAR: u16 = 3000;
 
 // The last day of the last year.
 const LAST_COUNT: u32 = 402131;
-
-const YEARS: usize = 1101;
 
 const YEAR_DAYS: u32 = 365;
 
@@ -47,17 +49,11 @@ pub enum DateAnswer {
     Refused(Refusal),
 }
 
-// The table of new years, in one piece: entry i is the day number of 1 January of the year 1900 + i.
+// The table of new years: entry i is the day number of 1 January of the year 1900 + i.
 pub fn new_years() -> [u32; YEARS]
     ensures { λ r. ⌜ NewYears r ⌝ }
 {
-    let mut table = [0u32; YEARS];
-    let mut i = 0;
-    while i < YEARS {
-        table[i] = table::entry(i);
-        i += 1;
-    }
-    table
+    NEW_YEARS
 }
 
 // Whether a year has 366 days.
@@ -112,7 +108,7 @@ fn new_year(year: u16) -> u32
     (year - FIRST_YEAR) as u32 * YEAR_DAYS + leaps
 }
 
-// The day count of a date.
+// The day count of a date. It computes: read headers calls it for every RSR record. It is no public call, for it refuses without a number.
 pub fn day_count(year: u16, day: u16) -> CountAnswer
     ensures { λ r. ⌜ r ≡ countOf year day ⌝ }
 {
@@ -124,14 +120,13 @@ pub fn day_count(year: u16, day: u16) -> CountAnswer
 }
 
 // The table's year i and its entry.
-fn year_at(i: usize) -> TableYear
-    requires { ⌜ firstYear + i ≤ lastYear ⌝ }
+fn year_at(table: &[u32; YEARS], i: usize) -> TableYear
+    requires { ⌜ NewYears (now table) × (firstYear + i ≤ lastYear) ⌝ }
     ensures { λ r. ⌜ (r .year ≡ firstYear + i) × (r .start ≡ newYear (r .year)) ⌝ }
 {
-    let start = table::entry(i);
     TableYear {
         year: FIRST_YEAR + i as u16,
-        start,
+        start: table[i],
     }
 }
 
@@ -141,17 +136,16 @@ fn year_of(count: u32) -> TableYear
     requires { ⌜ count ≤ lastCount ⌝ }
     ensures { λ r. ⌜ Within (r .year) count × (r .start ≡ newYear (r .year)) ⌝ }
 {
+    let table = new_years();
     let years = (count * CYCLE_YEARS + EARLY) / CYCLE_DAYS;
     let i = years as usize;
     if YEARS <= i {
-        return year_at(i - 1);
+        return year_at(&table, i - 1);
     }
-    let start = table::entry(i);
-    if count < start {
-        return year_at(i - 1);
+    if count < table[i] {
+        return year_at(&table, i - 1);
     }
-    let year = FIRST_YEAR + years as u16;
-    TableYear { year, start }
+    year_at(&table, i)
 }
 
 // The date of a day count; refused past the last day of 3000.

@@ -4,8 +4,9 @@ use native.Mathlib.Omega.{arith}
 use borrow.Author.Tests.{ne-eqb}
 use mathlib.Core.List.{List, [], _∷_, _++_, append-assoc}
 use mathlib.Core.Path.{_≡_, refl, sym, ap, _∙_}
-use lib.ListN.{length, drop, length-append}
+use lib.ListN.{length, drop}
 use lib.Seq.{drop-at}
+use Rattle.ledger_season.proofs.Read.{length-sheets}
 use Rattle.refusals.proofs.Laws.{number-positive}
 use Rattle.refusals.specs.Table.{numberOf}
 use Rattle.ledger_sheet.specs.declared.Answer.{Answer}
@@ -15,13 +16,8 @@ use Rattle.ledger_season.specs.Season.{answerNumber, countsWords, sheetsWords, 
 use Rattle.ledger_season.specs.declared.SheetCounts.{SheetCounts}
 use Rattle.ledger_season.specs.declared.SeasonGap.{SeasonGap}
 use Rattle.ledger_season.specs.declared.SeasonReport.{SeasonReport}
-use Rattle.ledger_answers.specs.inner.Seasons.{inAllWords}
+use Rattle.answers.specs.inner.Seasons.{inAllWords}
 use Rattle.host.specs.Seasons.{inAllOf}
-
-length-sheets : (cs : List SheetCounts) → length (sheetsWords cs) ≡ 3 * length cs
-unfolding sheetsWords
-length-sheets [] = refl
-length-sheets (c ∷ cs) = length-append (countsWords c) (sheetsWords cs) ∙ omega (arith, length-sheets cs)
 
 -- the words of the sheets cut out
 cut : (a : Answer) (count : ℕ) (sheets : List ℕ) (total : SheetCounts) (gap : SeasonGap) → length sheets ≡ 3 * mostSheets

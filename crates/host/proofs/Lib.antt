@@ -1,2 +1,3 @@
 pub mod Exports
 pub mod InAll
+pub mod Bytes

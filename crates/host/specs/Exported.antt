@@ -10,7 +10,7 @@ use Rattle.refusals.specs.Table.{numberOf}
 use Rattle.refusals.specs.declared.Refusal.the-variants.{AnswerLength}
 use Rattle.sfdu_headers.specs.Words.{Word}
 use Rattle.answers.specs.Numbers.{numbersOf, plain}
-use Rattle.host_write.specs.Answer.{answerSize, answerBytes}
+use Rattle.host.specs.Answer.{answerSize, answerBytes}
 
 -- The number that is returned: the first of the answer's.
 abbrev pub returned : List Word → ℕ
@@ -20,14 +20,14 @@ returned words = getD (numbersOf words) 0 0
 unfoldable pub exported : (words : List Word) (answer : List ℕ) → ℕ × List ℕ
 exported words answer = cond (eqb (length answer) answerSize) (returned words, answerBytes (numbersOf words)) (numberOf AnswerLength, answer)
 
--- A call that changes a lent slice, and promises numbers, of which `read` makes the words of its answer, and the slice as it is left: what is
--- returned, the answer's slice, and that slice.
-unfoldable pub exportedAs : {A : Type 0} (read : List ℕ → List Word) (promised : List A → List ℕ × List A) (answer : List ℕ) (lent : List A)
-    → ℕ × List ℕ × List A
+-- A call that changes what it is lent (a slice, or a pair of slices), and promises numbers, of which `read` makes the words of its answer, and what
+-- is lent as it is left: what is returned, the answer's slice, and what is lent.
+unfoldable pub exportedAs : {Lent : Type 0} (read : List ℕ → List Word) (promised : Lent → List ℕ × Lent) (answer : List ℕ) (lent : Lent)
+    → ℕ × List ℕ × Lent
 exportedAs read promised answer lent =
     let words = read (promised lent .0) in
     cond (eqb (length answer) answerSize) (returned words, answerBytes (numbersOf words), promised lent .1) (numberOf AnswerLength, answer, lent)
 
 -- Where none of the words is a none.
-abbrev pub exportedOn : {A : Type 0} (promised : List A → List ℕ × List A) (answer : List ℕ) (lent : List A) → ℕ × List ℕ × List A
+abbrev pub exportedOn : {Lent : Type 0} (promised : Lent → List ℕ × Lent) (answer : List ℕ) (lent : Lent) → ℕ × List ℕ × Lent
 exportedOn promised answer lent = exportedAs plain promised answer lent

@@ -1,3 +1,6 @@
 -- What the contracts of `host` cite.
 pub mod Exported
+pub mod Received
 pub mod Seasons
+pub mod Answer
+pub mod inner

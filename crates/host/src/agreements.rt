@@ -1,6 +1,6 @@
 // Mission agreements: the settings sheet.
+use crate::write;
 use answers::agreements;
-use host_write as write;
 ghost use mathlib.Core.Path.{_≡_};
 ghost use Rattle.settings.specs.Model.{add, ask};
 ghost use Rattle.settings.specs.Layout.{onSheet, emptyOn};

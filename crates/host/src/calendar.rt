@@ -1,5 +1,5 @@
 // Dates.
-use host_write as write;
+use crate::write;
 ghost use mathlib.Core.Path.{_≡_};
 ghost use Rattle.dates.specs.Calendar.{dateOf};
 ghost use Rattle.answers.specs.Numbers.{plain};

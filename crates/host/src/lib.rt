@@ -8,3 +8,4 @@ pub mod records;
 pub mod seasons;
 pub mod sheets;
 pub mod stream_keys;
+pub mod write;

@@ -1,8 +1,8 @@
 // A night's calls in a trace, played again.
-use host_write as write;
-use ledger_answers::nights;
+use crate::write;
+use answers::nights;
 ghost use mathlib.Core.Path.{_≡_};
-ghost use Rattle.ledger_replay.specs.Replay.{replayOn};
+ghost use Rattle.ledger_replay.specs.Replay.{replayOn, replayOnSheet};
 ghost use Rattle.answers.specs.Numbers.{withNone};
 ghost use Rattle.host.specs.Exported.{exportedAs};
 
@@ -16,5 +16,18 @@ pub extern "C" fn hernganow_replay(trace: &[u8], sheet: &mut [u8], answer: &mut 
         return write::unwritten();
     }
     let found = ledger_replay::replay(trace, sheet);
+    write::write_few(answer, nights::replayed(found))
+}
+
+// Plays the trace over the sheet as it stands.
+#[no_mangle]
+pub extern "C" fn hernganow_replay_on(trace: &[u8], sheet: &mut [u8], answer: &mut [u8]) -> u32
+    ensures { λ r. ⌜ (r, now (answer .exit), now (sheet .exit))
+        ≡ exportedAs (withNone 4) (replayOnSheet (now (trace .entry))) (now (answer .entry)) (now (sheet .entry)) ⌝ }
+{
+    if answer.len() != answers::ANSWER {
+        return write::unwritten();
+    }
+    let found = ledger_replay::replay_on(trace, sheet);
     write::write_few(answer, nights::replayed(found))
 }

@@ -1,6 +1,6 @@
 // RSR records: the gain multiplier, samples.
+use crate::write;
 use answers::receivers;
-use host_write as write;
 ghost use mathlib.Core.Path.{_≡_};
 ghost use Rattle.sfdu_gain.specs.Gain.{gaining, agreedGain};
 ghost use Rattle.sfdu_samples.specs.Calls.{unpacking, packing};

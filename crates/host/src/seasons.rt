@@ -1,10 +1,10 @@
 // The season.
-use host_write as write;
-use ledger_answers::seasons;
+use crate::write;
+use answers::seasons;
 ghost use mathlib.Core.Path.{_≡_};
 ghost use Rattle.ledger_season.specs.Season.{season};
 ghost use Rattle.answers.specs.Numbers.{withNone};
-ghost use Rattle.ledger_answers.specs.Seasons.{inAllCount};
+ghost use Rattle.answers.specs.Seasons.{inAllCount};
 ghost use Rattle.host.specs.Exported.{exported};
 ghost use Rattle.host.specs.Seasons.{inAllOf};
 

@@ -1,12 +1,18 @@
 // The ledger sheet.
-use host_write as write;
-use ledger_answers::ledgers;
+use crate::write;
+use answers::ledgers;
+use answers::streams;
 ghost use mathlib.Core.Path.{_≡_};
-ghost use Rattle.ledger_model.specs.Step.{Enrol, Ask, Find, RowReport, FirstGap, Open, Tick, Untick, Save, Drop, Strike};
+ghost use mathlib.Core.Bool.{cond};
+ghost use mathlib.Core.List.{[], _∷_};
+ghost use Rattle.ledger_sheet.specs.Sheet.{right};
+ghost use Rattle.ledger_model.specs.Step.{Enrol, Ask, Find, RowReport, FirstGap, RowStream, DeskState, Unsaved, Open, Tick, Untick, Save, Drop, Strike};
 ghost use Rattle.ledger_layout.specs.Layout.{call, onSheet, freshOn};
 ghost use Rattle.ledger_convert.specs.Convert.{convertOn};
+ghost use Rattle.ledger_missing.specs.Missing.{missingOn};
 ghost use Rattle.answers.specs.Numbers.{plain, withNone};
 ghost use Rattle.host.specs.Exported.{exported, exportedOn};
+ghost use Rattle.host.specs.Received.{received};
 
 // Makes the slice a fresh sheet.
 #[no_mangle]
@@ -156,4 +162,89 @@ pub extern "C" fn hernganow_convert(old: &[u8], sheet: &mut [u8], answer: &mut [
     }
     let found = ledger_convert::convert(old, sheet);
     write::write_few(answer, ledgers::answer(found))
+}
+
+// Whether the slice is a ledger sheet: 1 or 0.
+#[no_mangle]
+pub extern "C" fn hernganow_is_sheet(sheet: &[u8], answer: &mut [u8]) -> u32
+    ensures { λ r. ⌜ (r, now (answer .exit)) ≡ exported (plain (0 ∷ cond (right (now (sheet .entry))) 1 0 ∷ [])) (now (answer .entry)) ⌝ }
+{
+    if answer.len() != answers::ANSWER {
+        return write::unwritten();
+    }
+    let found = ledger::is_sheet(sheet);
+    write::write_few(answer, ledgers::is_sheet(found))
+}
+
+// The stream of a row: its key and first number.
+#[no_mangle]
+pub extern "C" fn hernganow_row(sheet: &[u8], row: u32, answer: &mut [u8]) -> u32
+    ensures { λ r. ⌜ (r, now (answer .exit)) ≡ exported (plain (onSheet (call (Ask (RowStream row))) (now (sheet .entry)) .0)) (now (answer .entry)) ⌝ }
+{
+    if answer.len() != answers::ANSWER {
+        return write::unwritten();
+    }
+    let found = ledger::row(sheet, row);
+    write::write_few(answer, ledgers::stream(found))
+}
+
+// The row that a desk has open, and whether a save would be stale now.
+#[no_mangle]
+pub extern "C" fn hernganow_desk(sheet: &[u8], desk: u32, answer: &mut [u8]) -> u32
+    ensures { λ r. ⌜ (r, now (answer .exit)) ≡ exported (withNone 3 (onSheet (call (Ask (DeskState desk))) (now (sheet .entry)) .0)) (now (answer .entry)) ⌝ }
+{
+    if answer.len() != answers::ANSWER {
+        return write::unwritten();
+    }
+    let found = ledger::desk(sheet, desk);
+    write::write_few(answer, ledgers::desk(found))
+}
+
+// How many ticks and unticks a desk has not saved.
+#[no_mangle]
+pub extern "C" fn hernganow_unsaved(sheet: &[u8], desk: u32, answer: &mut [u8]) -> u32
+    ensures { λ r. ⌜ (r, now (answer .exit)) ≡ exported (plain (onSheet (call (Ask (Unsaved desk))) (now (sheet .entry)) .0)) (now (answer .entry)) ⌝ }
+{
+    if answer.len() != answers::ANSWER {
+        return write::unwritten();
+    }
+    let found = ledger::unsaved(sheet, desk);
+    write::write_few(answer, ledgers::unsaved(found))
+}
+
+// The missing numbers of a row, at the start of the list.
+#[no_mangle]
+pub extern "C" fn hernganow_missing_numbers(
+    sheet: &[u8],
+    row: u32,
+    list: &mut [u32],
+    answer: &mut [u8],
+) -> u32
+    ensures { λ r. ⌜ (r, now (answer .exit), now (list .exit))
+        ≡ exportedOn (missingOn row (now (sheet .entry))) (now (answer .entry)) (now (list .entry)) ⌝ }
+{
+    if answer.len() != answers::ANSWER {
+        return write::unwritten();
+    }
+    let found = ledger_missing::missing_numbers(sheet, row, list);
+    write::write_few(answer, ledgers::missing(found))
+}
+
+// Receives a stream at a desk: each whole record is a visit, whose outcome stands in the list.
+#[no_mangle]
+pub extern "C" fn hernganow_receive(
+    sheet: &mut [u8],
+    desk: u32,
+    stream: &[u8],
+    list: &mut [u32],
+    answer: &mut [u8],
+) -> u32
+    ensures { λ r. ⌜ (r, now (answer .exit), (now (list .exit), now (sheet .exit)))
+        ≡ exportedOn (received desk (now (stream .entry))) (now (answer .entry)) (now (list .entry), now (sheet .entry)) ⌝ }
+{
+    if answer.len() != answers::ANSWER {
+        return write::unwritten();
+    }
+    let found = ledger_receive::receive(sheet, desk, stream, list);
+    write::write(answer, streams::received(found))
 }

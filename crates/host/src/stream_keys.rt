@@ -1,7 +1,7 @@
 // Stream keys.
-use host_write as write;
+use crate::write;
 ghost use mathlib.Core.Path.{_≡_};
-ghost use Rattle.keys.specs.Key.{telemetryKeyCall, rsrKeyCall};
+ghost use Rattle.keys.specs.Key.{telemetryKeyCall, rsrKeyCall, partsCall};
 ghost use Rattle.answers.specs.Numbers.{plain};
 ghost use Rattle.host.specs.Exported.{exported};
 
@@ -39,4 +39,16 @@ pub extern "C" fn hernganow_rsr_key(
     }
     let found = keys::rsr_key(spacecraft, station, receiver, subchannel);
     write::write_few(answer, answers::key(found))
+}
+
+// The kind and the four numbers of a key.
+#[no_mangle]
+pub extern "C" fn hernganow_parts(key: u64, answer: &mut [u8]) -> u32
+    ensures { λ r. ⌜ (r, now (answer .exit)) ≡ exported (plain (partsCall key)) (now (answer .entry)) ⌝ }
+{
+    if answer.len() != answers::ANSWER {
+        return write::unwritten();
+    }
+    let found = keys::parts(key);
+    write::write(answer, answers::parts(found))
 }

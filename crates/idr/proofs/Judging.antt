@@ -1,7 +1,7 @@
 -- What a list of refusals decides, by its verdict; a record that is accepted. Assumes nothing.
 use Prim.Native.Nat.{ℕ, _<_}
 use native.Mathlib.Omega.{arith}
-use mathlib.Core.Bool.{Bool, true, false}
+use mathlib.Core.Bool.{Bool, true, false, and-true}
 use mathlib.Core.List.{List, [], _∷_}
 use mathlib.Core.Path.{_≡_, refl, sym, ap, _∙_}
 use borrow.Author.Tests.{eq-eqb, eqb-true}
@@ -14,7 +14,6 @@ use Rattle.refusals.proofs.Judged.{NoneHolds, Numbered, Outcome, none, first, o
 use Rattle.refusals.proofs.Judged.{none-applies, none-hold, none-verdict, verdict-none}
 use Rattle.refusals.proofs.Laws.{number-positive}
 use Rattle.octets.specs.Octets.{part}
-use Rattle.octets.proofs.Laws.{and-true}
 use Rattle.idr.specs.Words.{headerCount, recordSize, samplesAt, samplesSize, header}
 use Rattle.idr.specs.Rules.{wordRules}
 use Rattle.idr.specs.inner.Lent.{lentRules}

@@ -6,10 +6,11 @@ use mathlib.Core.Path.{_≡_, refl, sym, ap, _∙_}
 use borrow.Author.Tests.{eqb-true, not-false}
 use lib.Dec.{lit<}
 use lib.ListN.{length, getD, length-append}
+use Rattle.laws.proofs.Bools.{and-split}
 use Rattle.refusals.specs.Judge.{verdict}
 use Rattle.refusals.proofs.Judged.{none-verdict}
 use Rattle.octets.specs.Octets.{numberAt, bytesOf, part}
-use Rattle.octets.proofs.Laws.{Bytes, length-bytesOf, length-part, and-split}
+use Rattle.octets.proofs.Laws.{Bytes, length-bytesOf, length-part}
 use Rattle.octets.proofs.Parts.{number-first, number-second, number-bytes, bytes-number, part-join, part-whole, part-second}
 use Rattle.idr.specs.Words.{wordSize, headerCount, samplesAt, samplesSize, recordSize, wordsAt, header}
 use Rattle.idr.specs.Rules.{wordRules}

@@ -1,24 +1,25 @@
--- Laws of stream keys: which are valid, that a made key is, and that a key names one stream. Assumes nothing.
+-- Laws of stream keys: which are valid, that a made key is, that a key names one stream, and that its parts are that stream. Assumes nothing.
 use Prim.Native.Nat.{ℕ, zero, _*_, _+_, _^_, _/_, _%_, _-_, _<_, _≤_}
-use native.Mathlib.Nat.{add-zero, mod-lt, mod-eq-of-lt, div-add-mod', div-eq-of-lt, div-lt-iff-lt-mul, mul-add-div-right, mul-add-mod-self-right}
+use native.Mathlib.Nat.{add-zero, mod-eq-of-lt, div-eq-of-lt, mul-add-div-right, mul-add-mod-self-right}
 use native.Mathlib.Omega.{arith}
 use mathlib.Core.Path.{_≡_, refl, sym, ap, _∙_}
 use mathlib.Core.Bool.{Bool, true, false, not, _&&_, _||_, false≢true}
-use mathlib.Core.List.{[], _∷_}
+use mathlib.Core.Logic.{_≢_}
+use mathlib.Core.List.{List, [], _∷_}
 use lib.Dec.{leb, ltb}
-use borrow.Author.Tests.{ltb-true, ltb-false, lt-ltb, le-leb, not-false}
+use borrow.Author.Tests.{ltb-true, ltb-false, lt-ltb, le-ltb, le-leb, not-false}
+use Rattle.laws.proofs.Bools.{and-split}
 use Rattle.refusals.specs.Judge.{_when_, judge}
 use Rattle.refusals.proofs.Laws.{number-injective}
 use Rattle.keys.specs.Key.{rsrStart, rsrEnd, validKey, telemetryKey, rsrKey, made, telemetryKeyCall, rsrKeyCall}
+use Rattle.keys.specs.Key.{telemetryKind, telemetryParts, rsrKind, rsrParts, partsCall}
 use Rattle.keys.specs.declared.KeyAnswer.the-variants.{Key, Refused}
-use Rattle.keys.specs.Words.{DifferentKeys}
-use Rattle.keys.specs.Stream.{Stream, telemetry, rsr, keyCall}
+use Rattle.keys.specs.declared.KeyParts.the-variants as P
+use Rattle.keys.specs.Words.{DifferentKeys, DifferentParts}
+use Rattle.keys.specs.Stream.{Stream, telemetry, rsr, keyCall, streamWords, PartsAreStream, RefusedIsNoStream}
+use Rattle.keys.specs.Laws.{NamesOne, MadeValid, Named, ValidNamed}
 
 -- ---- the widths
-
-pub and-true : (x y : Bool) → (x && y) ≡ true → (x ≡ true) × (y ≡ true)
-and-true true y e = (refl, e)
-and-true false y e = (e, cc)
 
 -- Four numbers below their limits.
 pub record Below (a m b n c o d p : ℕ) : Type 0 where
@@ -29,9 +30,9 @@ pub record Below (a m b n c o d p : ℕ) : Type 0 where
 
 pub below : (a m b n c o d p : ℕ) → (ltb a m && ltb b n && ltb c o && ltb d p) ≡ true → Below a m b n c o d p
 below a m b n c o d p e =
-    let z = and-true (ltb a m && ltb b n && ltb c o) (ltb d p) e in
-    let y = and-true (ltb a m && ltb b n) (ltb c o) (z .0) in
-    let x = and-true (ltb a m) (ltb b n) (y .0) in
+    let z = and-split (ltb a m && ltb b n && ltb c o) (ltb d p) e in
+    let y = and-split (ltb a m && ltb b n) (ltb c o) (z .0) in
+    let x = and-split (ltb a m) (ltb b n) (y .0) in
     record { one = ltb-true a m (x .0); two = ltb-true b n (x .1); three = ltb-true c o (y .1); four = ltb-true d p (z .1) }
 
 -- What is known of four numbers that were found to fit.
@@ -67,7 +68,7 @@ below-valid key = at (ltb key rsrStart) refl
   where
     at : (t : Bool) → ltb key rsrStart ≡ t → (t || (leb rsrStart key && ltb key rsrEnd)) ≡ true → key < rsrEnd
     at true e h = omega (arith, ltb-true key rsrStart e)
-    at false e h = ltb-true key rsrEnd (and-true (leb rsrStart key) (ltb key rsrEnd) h .1)
+    at false e h = ltb-true key rsrEnd (and-split (leb rsrStart key) (ltb key rsrEnd) h .1)
 
 -- ---- four fields side by side, whatever their widths
 
@@ -96,27 +97,6 @@ fields m n o p a b c d a′ b′ c′ d′ w w′ e =
     let y = digit o _ c _ c′ (w .three) (w′ .three) (z .0) in
     let x = digit n a b a′ b′ (w .two) (w′ .two) (y .0) in
     record { one = x .0; two = x .1; three = y .1; four = z .1 }
-
--- Every number below the product of the four limits is made of four such fields.
-record Unpacked (m n o p key : ℕ) : Type 0 where
-  a : ℕ
-  b : ℕ
-  c : ℕ
-  d : ℕ
-  fit : (ltb a m && ltb b n && ltb c o && ltb d p) ≡ true
-  is : packed n o p a b c d ≡ key
-
-unpack : (m n o p key : ℕ) → zero < n → zero < o → zero < p → key < m * n * o * p → Unpacked m n o p key
-unpack m n o p key hn ho hp h =
-    let top = div-lt-iff-lt-mul hn .1 (div-lt-iff-lt-mul ho .1 (div-lt-iff-lt-mul hp .1 h)) in
-    record {
-      a = key / p / o / n;
-      b = key / p / o % n;
-      c = key / p % o;
-      d = key % p;
-      fit = fitting _ m _ n _ o _ p record { one = top; two = mod-lt _ hn; three = mod-lt _ ho; four = mod-lt key hp };
-      is = rw (div-add-mod' (key / p / o) n, div-add-mod' (key / p) o, div-add-mod' key p);
-    }
 
 -- ---- a call that makes a key
 
@@ -158,7 +138,7 @@ pub rsr-between : (a b c d key : ℕ) → rsrKeyCall a b c d ≡ 0 ∷ key ∷ [
 rsr-between a b c d key e = let h = rsr-made a b c d key e in (omega arith, omega arith)
 
 -- A made key is valid.
-pub made-valid : (s : Stream) (key : ℕ) → keyCall s ≡ 0 ∷ key ∷ [] → validKey key ≡ true
+pub made-valid : MadeValid
 made-valid (telemetry a b c d) key e = valid-below key (omega (arith, telemetry-low a b c d key e))
 made-valid (rsr a b c d) key e = valid-below key (rsr-between a b c d key e .1)
 
@@ -166,8 +146,8 @@ made-valid (rsr a b c d) key e = valid-below key (rsr-between a b c d key e .1)
 one-kind : {A : Type 0} (a b c d a′ b′ c′ d′ key : ℕ) → telemetryKeyCall a b c d ≡ 0 ∷ key ∷ [] → rsrKeyCall a′ b′ c′ d′ ≡ 0 ∷ key ∷ [] → A
 one-kind a b c d a′ b′ c′ d′ key e e′ = absurd (omega (arith, telemetry-low a b c d key e, rsr-between a′ b′ c′ d′ key e′ .0))
 
--- A key names one stream: the same key is made of the same four numbers by the same kind's call alone.
-pub names-one : (s t : Stream) (key : ℕ) → keyCall s ≡ 0 ∷ key ∷ [] → keyCall t ≡ 0 ∷ key ∷ [] → s ≡ t
+-- A key names one stream.
+pub names-one : NamesOne
 names-one (telemetry a b c d) (telemetry a′ b′ c′ d′) key e e′ =
     let h = telemetry-made a b c d key e in
     let h′ = telemetry-made a′ b′ c′ d′ key e′ in
@@ -181,27 +161,101 @@ names-one (rsr a b c d) (rsr a′ b′ c′ d′) key e e′ =
 names-one (telemetry a b c d) (rsr a′ b′ c′ d′) key e e′ = one-kind a b c d a′ b′ c′ d′ key e e′
 names-one (rsr a b c d) (telemetry a′ b′ c′ d′) key e e′ = one-kind a′ b′ c′ d′ a b c d key e′ e
 
--- Every valid key names a stream: the calls make all the valid keys.
-pub record Named (key : ℕ) : Type 0 where
-  pub stream : Stream
-  pub is : keyCall stream ≡ 0 ∷ key ∷ []
+-- ---- a call that takes a key apart
 
-pub valid-named : (key : ℕ) → validKey key ≡ true → Named key
-unfolding telemetryKeyCall rsrKeyCall judge
-valid-named key e = at (ltb key rsrStart) refl
+-- What it answers, by where the key lies.
+pub parts-refused : (key : ℕ) → rsrEnd ≤ key → 22 ∷ [] ≡ partsCall key
+unfolding partsCall judge validKey
+parts-refused key h = rw (le-ltb key rsrStart (omega arith), le-ltb key rsrEnd h, le-leb rsrStart key (omega arith))
+
+pub telemetry-taken : (key : ℕ) → key < rsrStart → 0 ∷ telemetryKind ∷ telemetryParts key ≡ partsCall key
+unfolding partsCall judge validKey
+telemetry-taken key h = rw (lt-ltb key rsrStart h)
+
+pub rsr-taken : (key : ℕ) → rsrStart ≤ key → key < rsrEnd → 0 ∷ rsrKind ∷ rsrParts (key - rsrStart) ≡ partsCall key
+unfolding partsCall judge validKey
+rsr-taken key h l = rw (le-ltb key rsrStart h, le-leb rsrStart key h, lt-ltb key rsrEnd l)
+
+-- Every valid key names a stream, which its parts are.
+telemetry-named : (key : ℕ) → key < rsrStart → Named key
+telemetry-named key l =
+    let a = key / 2 ^ 32 in
+    let b = key / 2 ^ 24 % 2 ^ 8 in
+    let c = key / 2 ^ 8 % 2 ^ 16 in
+    let d = key % 2 ^ 8 in
+    let k : telemetryKey a b c d ≡ key = omega arith in
+    let made = telemetry-answers a b c d record { one = omega arith; two = omega arith; three = omega arith; four = omega arith } in
+    record { stream = telemetry a b c d; is = rw k at made; parts = sym (telemetry-taken key l) }
+
+rsr-named : (key : ℕ) → rsrStart ≤ key → key < rsrEnd → Named key
+rsr-named key h l =
+    let above = key - rsrStart in
+    let a = above / 2 ^ 24 in
+    let b = above / 2 ^ 16 % 2 ^ 8 in
+    let c = above / 2 ^ 8 % 2 ^ 8 in
+    let d = above % 2 ^ 8 in
+    let k : rsrKey a b c d ≡ key = omega arith in
+    let made = rsr-answers a b c d record { one = omega arith; two = omega arith; three = omega arith; four = omega arith } in
+    record { stream = rsr a b c d; is = rw k at made; parts = sym (rsr-taken key h l) }
+
+named-below : (key : ℕ) → key < rsrEnd → Named key
+named-below key l = by (ltb key rsrStart) refl
   where
-    at : (t : Bool) → ltb key rsrStart ≡ t → Named key
-    at true t =
-        let l = ltb-true key rsrStart t in
-        let u = unpack (2 ^ 10) (2 ^ 8) (2 ^ 16) (2 ^ 8) key (omega arith) (omega arith) (omega arith) (omega arith) in
-        let k : telemetryKey (u .a) (u .b) (u .c) (u .d) ≡ key = omega (arith, u .is) in
-        record { stream = telemetry (u .a) (u .b) (u .c) (u .d); is = rw (u .fit, k) }
-    at false t =
-        let l = ltb-false key rsrStart t in
-        let h = below-valid key e in
-        let u = unpack (2 ^ 8) (2 ^ 8) (2 ^ 8) (2 ^ 8) (key - rsrStart) (omega arith) (omega arith) (omega arith) (omega arith) in
-        let k : rsrKey (u .a) (u .b) (u .c) (u .d) ≡ key = omega (arith, u .is) in
-        record { stream = rsr (u .a) (u .b) (u .c) (u .d); is = rw (u .fit, k) }
+    by : (t : Bool) → ltb key rsrStart ≡ t → Named key
+    by true t = telemetry-named key (ltb-true key rsrStart t)
+    by false t = rsr-named key (ltb-false key rsrStart t) l
+
+pub valid-named : ValidNamed
+valid-named key e = named-below key (below-valid key e)
+
+-- Streams with the same words are the same.
+stream-same : (s t : Stream) → streamWords s ≡ streamWords t → s ≡ t
+stream-same (telemetry a b c d) (telemetry a′ b′ c′ d′) e = cc
+stream-same (rsr a b c d) (rsr a′ b′ c′ d′) e = cc
+stream-same (telemetry a b c d) (rsr a′ b′ c′ d′) e = cc
+stream-same (rsr a b c d) (telemetry a′ b′ c′ d′) e = cc
+
+-- A key whose call to take it apart is accepted lies below the end of the keys.
+taken-below : (key : ℕ) (words : List ℕ) → partsCall key ≡ 0 ∷ words → key < rsrEnd
+taken-below key words e = by (ltb key rsrEnd) refl
+  where
+    by : (t : Bool) → ltb key rsrEnd ≡ t → key < rsrEnd
+    by true t = ltb-true key rsrEnd t
+    by false t =
+        let same : 22 ∷ [] ≡ 0 ∷ words = parts-refused key (ltb-false key rsrEnd t) ∙ e in
+        let z : _≡_ {A = ℕ} 22 0 = cc in
+        absurd (omega arith)
+
+-- The parts of a key are the stream that it names, both ways.
+pub parts-are-stream : PartsAreStream
+parts-are-stream s key = (made, taken)
+  where
+    made : keyCall s ≡ 0 ∷ key ∷ [] → partsCall key ≡ 0 ∷ streamWords s
+    made e =
+        let n = valid-named key (made-valid s key e) in
+        rw (← names-one (n .stream) s key (n .is) e) (n .parts)
+
+    taken : partsCall key ≡ 0 ∷ streamWords s → keyCall s ≡ 0 ∷ key ∷ []
+    taken e =
+        let n = named-below key (taken-below key _ e) in
+        let same : streamWords (n .stream) ≡ streamWords s = cc in
+        rw (← stream-same (n .stream) s same) (n .is)
+
+pub refused-is-no-stream : RefusedIsNoStream
+refused-is-no-stream key = (none, refused)
+  where
+    none : partsCall key ≡ 22 ∷ [] → (s : Stream) → keyCall s ≢ 0 ∷ key ∷ []
+    none e s m =
+        let z : 22 ∷ [] ≡ 0 ∷ streamWords s = sym e ∙ parts-are-stream s key .0 m in
+        let y : _≡_ {A = ℕ} 22 0 = cc in
+        omega arith
+
+    refused : ((s : Stream) → keyCall s ≢ 0 ∷ key ∷ []) → partsCall key ≡ 22 ∷ []
+    refused nobody = by (ltb key rsrEnd) refl
+      where
+        by : (t : Bool) → ltb key rsrEnd ≡ t → partsCall key ≡ 22 ∷ []
+        by true t = let n = named-below key (ltb-true key rsrEnd t) in absurd (nobody (n .stream) (n .is))
+        by false t = sym (parts-refused key (ltb-false key rsrEnd t))
 
 -- ---- answers
 
@@ -211,3 +265,14 @@ words-injective (Key k) (Key l) e = cc
 words-injective (Key k) (Refused r) e = cc
 words-injective (Refused r) (Key k) e = cc
 words-injective (Refused r) (Refused s) e = ap Refused (number-injective r s (cc))
+
+pub parts-injective : DifferentParts
+parts-injective (P.Telemetry a b c d) (P.Telemetry a′ b′ c′ d′) e = cc
+parts-injective (P.Rsr a b c d) (P.Rsr a′ b′ c′ d′) e = cc
+parts-injective (P.Telemetry a b c d) (P.Rsr a′ b′ c′ d′) e = cc
+parts-injective (P.Rsr a b c d) (P.Telemetry a′ b′ c′ d′) e = cc
+parts-injective (P.Telemetry a b c d) (P.Refused r) e = cc
+parts-injective (P.Rsr a b c d) (P.Refused r) e = cc
+parts-injective (P.Refused r) (P.Telemetry a b c d) e = cc
+parts-injective (P.Refused r) (P.Rsr a b c d) e = cc
+parts-injective (P.Refused r) (P.Refused s) e = ap P.Refused (number-injective r s (cc))

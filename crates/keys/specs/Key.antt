@@ -1,8 +1,8 @@
--- Document 01, "Stream key": how a key is made of a stream's four numbers, which keys are valid, and what the two calls that
--- make one answer. Assumes nothing.
+-- Document 01, "Stream key": how a key is made of a stream's four numbers, which keys are valid, what the two calls that make one
+-- answer, and what the call that takes one apart answers. Assumes nothing.
 -- The manual, docs/INTERFACE.md: "Stream key".
-use Prim.Native.Nat.{ℕ, _+_, _*_, _^_}
-use mathlib.Core.Bool.{Bool, not, _&&_, _||_}
+use Prim.Native.Nat.{ℕ, _+_, _*_, _-_, _/_, _%_, _^_}
+use mathlib.Core.Bool.{Bool, cond, not, _&&_, _||_}
 use mathlib.Core.List.{List, [], _∷_}
 use lib.Dec.{leb, ltb}
 use Rattle.refusals.specs.Judge.{Rule, _when_, judge}
@@ -61,3 +61,24 @@ rsrKeyCall spacecraft station receiver subchannel =
     made
     ((22 when not (rsrFits spacecraft station receiver subchannel)) ∷ [])
     (rsrKey spacecraft station receiver subchannel)
+
+-- The four numbers of a telemetry key, each from its bits.
+abbrev pub telemetryParts : (key : ℕ) → List ℕ
+telemetryParts key = key / 2 ^ 32 ∷ key / 2 ^ 24 % 2 ^ 8 ∷ key / 2 ^ 8 % 2 ^ 16 ∷ key % 2 ^ 8 ∷ []
+
+-- Those of an RSR key that lies so far above the lowest one.
+abbrev pub rsrParts : (above : ℕ) → List ℕ
+rsrParts above = above / 2 ^ 24 ∷ above / 2 ^ 16 % 2 ^ 8 ∷ above / 2 ^ 8 % 2 ^ 8 ∷ above % 2 ^ 8 ∷ []
+
+-- The kinds of stream, by number.
+abbrev pub telemetryKind : ℕ
+telemetryKind = 1
+
+abbrev pub rsrKind : ℕ
+rsrKind = 2
+
+-- A key taken apart: its kind, and the four numbers in the order of the call that makes it; 22 where it is no stream's.
+unfoldable pub partsCall : (key : ℕ) → List ℕ
+partsCall key =
+    judge (λ n. n ∷ []) ((22 when not (validKey key)) ∷ [])
+    (0 ∷ cond (isTelemetryKey key) (telemetryKind ∷ telemetryParts key) (rsrKind ∷ rsrParts (key - rsrStart)))

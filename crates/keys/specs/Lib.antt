@@ -2,3 +2,4 @@ pub mod Key
 pub mod Numbers
 pub mod Words
 pub mod Stream
+pub mod Laws

@@ -1,12 +1,14 @@
-// Stream keys: made of a stream's four numbers, and judged (document 01, "Stream key").
+// Stream keys: made of a stream's four numbers, judged, and taken apart again (document 01, "Stream key").
 use refusals::Refusal;
 ghost use mathlib.Core.Path.{_≡_};
 ghost use mathlib.Core.Bool.{_&&_};
+ghost use mathlib.Core.List.{_∷_};
 ghost use Prim.Native.Nat.{_<_, _^_};
 ghost use lib.Dec.{ltb};
-ghost use Rattle.keys.specs.Key.{validKey, telemetryKey, rsrKey, telemetryKeyCall, rsrKeyCall};
+ghost use Rattle.keys.specs.Key.{validKey, telemetryKey, rsrKey, telemetryKeyCall, rsrKeyCall, partsCall};
+ghost use Rattle.keys.specs.Key.{rsrStart, telemetryKind, telemetryParts, rsrKind, rsrParts};
 ghost use Rattle.keys.specs.Numbers.{isNumber};
-ghost use Rattle.keys.specs.Words.{wordsOf};
+ghost use Rattle.keys.specs.Words.{wordsOf, partsWords};
 
 // The first number too wide for a field of 8, 10 or 16 bits.
 const LIMIT_8: u32 = 256;
@@ -34,6 +36,23 @@ pub const RSR_NUMBERS: u32 = LIMIT_16;
 
 pub enum KeyAnswer {
     Key(u64),
+    Refused(Refusal),
+}
+
+// What a key is made of: the numbers in the order of the call that makes it.
+pub enum KeyParts {
+    Telemetry {
+        spacecraft: u32,
+        source: u32,
+        equipment: u32,
+        stream: u32,
+    },
+    Rsr {
+        spacecraft: u32,
+        station: u32,
+        receiver: u32,
+        subchannel: u32,
+    },
     Refused(Refusal),
 }
 
@@ -154,4 +173,42 @@ pub fn is_number(key: u64, n: u32) -> bool
         return true;
     }
     n < RSR_NUMBERS
+}
+
+// Takes a key apart: its kind, and the four numbers that make it.
+pub fn parts(key: u64) -> KeyParts
+    ensures { λ r. ⌜ partsWords r ≡ partsCall key ⌝ }
+{
+    if RSR_END <= key {
+        return KeyParts::Refused(Refusal::BadKey);
+    }
+    if key < RSR_START {
+        return telemetry_parts(key);
+    }
+    rsr_parts(key - RSR_START)
+}
+
+fn telemetry_parts(key: u64) -> KeyParts
+    requires { ⌜ key < rsrStart ⌝ }
+    ensures { λ r. ⌜ partsWords r ≡ 0 ∷ telemetryKind ∷ telemetryParts key ⌝ }
+{
+    KeyParts::Telemetry {
+        spacecraft: (key / AT_32) as u32,
+        source: (key / AT_24 % AT_8) as u32,
+        equipment: (key / AT_8 % AT_16) as u32,
+        stream: (key % AT_8) as u32,
+    }
+}
+
+// Of a key that lies so far above the lowest RSR key.
+fn rsr_parts(above: u64) -> KeyParts
+    requires { ⌜ above < 2 ^ 32 ⌝ }
+    ensures { λ r. ⌜ partsWords r ≡ 0 ∷ rsrKind ∷ rsrParts above ⌝ }
+{
+    KeyParts::Rsr {
+        spacecraft: (above / AT_24) as u32,
+        station: (above / AT_16 % AT_8) as u32,
+        receiver: (above / AT_8 % AT_8) as u32,
+        subchannel: (above % AT_8) as u32,
+    }
 }

@@ -1,15 +1,16 @@
--- The equations of `MadeFresh` and `Promised` are those of the functions' contracts: each is had from what the check says that a caller
--- learns of the call (`Learnt`, made from its `ensures`). `a` is the arguments, of which the first is the sheet; `e` the same
--- at exit; r the answer. Assumes nothing.
-use mathlib.Core.List.{List}
+-- The equations of `MadeFresh` and `Promised` are those of the functions' contracts: nothing is asked of a caller, and each is had from what
+-- the check says that it learns of the call (`Learnt`, made from its `ensures`). `a` is the arguments, of which the first is the sheet; `e`
+-- the same at exit; r the answer. Assumes nothing.
 use mathlib.Core.Path.{_≡_}
-use contract.Lifetimes.{Lfts}
-use denote.Triple.Clauses.{AtExit}
-use borrow.Fn.Kinds.{PK, RK, Out, Dens, GoodsP, resT, endedOf}
-use Rattle.ledger_model.specs.Step.{Enrol, Ask, Find, RowReport, FirstGap, Open, Tick, Untick, Save, Drop, Strike}
+use Rattle.laws.proofs.Keeps.{Keeps}
+use Rattle.ledger_model.specs.Step.{Find, RowReport, FirstGap, RowStream, DeskState, Unsaved}
+use Rattle.ledger_model.specs.Step.{Enrol, Ask, Open, Tick, Untick, Save, Drop, Strike}
+use Rattle.ledger_sheet.specs.Words.{answerWords}
 use Rattle.ledger_sheet.specs.declared.Answer.the-variants as A
-use Rattle.ledger_layout.specs.Demand3.{answerOf, rowAnswerOf, reportAnswerOf, gapAnswerOf}
-use Rattle.ledger.specs.Demand3.{MadeFresh, Promised, enrolled, found, reported, gapped, opened, ticked, unticked, saved, dropped, struck}
+use Rattle.ledger_layout.specs.Layout.{freshOn}
+use Rattle.ledger_layout.specs.Demand3.{answerOf, rowAnswerOf, reportAnswerOf, gapAnswerOf, streamAnswerOf, deskAnswerOf, unsavedAnswerOf}
+use Rattle.ledger.specs.Demand3.{MadeFresh, Promised, enrolled, found, reported, gapped, row-told, desk-told, unsaved-told}
+use Rattle.ledger.specs.Demand3.{opened, ticked, unticked, saved, dropped, struck}
 use Rattle.ledger.proofs.fresh.Reads as fresh
 use Rattle.ledger.proofs.fresh.Kinds as fresh-kinds
 use Rattle.ledger.proofs.enrol.Reads as enrol
@@ -32,45 +33,65 @@ use Rattle.ledger.proofs.row_report.Reads as report
 use Rattle.ledger.proofs.row_report.Kinds as report-kinds
 use Rattle.ledger.proofs.first_gap.Reads as gap
 use Rattle.ledger.proofs.first_gap.Kinds as gap-kinds
+use Rattle.ledger.proofs.row.Reads as stream
+use Rattle.ledger.proofs.row.Kinds as stream-kinds
+use Rattle.ledger.proofs.desk.Reads as desk
+use Rattle.ledger.proofs.desk.Kinds as desk-kinds
+use Rattle.ledger.proofs.unsaved.Reads as unsaved
+use Rattle.ledger.proofs.unsaved.Kinds as unsaved-kinds
 
--- From what is learnt of a call on arguments of their types, P.
-abbrev Gives : (ps : List (PK 1)) (r : RK 1) → (learnt P : Out 1 ps r) → Type 0
-Gives ps r learnt P =
-    (κs : Lfts 1) (a : Dens κs ps) (x : resT r κs .Denot) (e : AtExit (endedOf 1 ps r) κs) → GoodsP κs ps a → learnt κs a x e → P κs a x e
+pub fresh-keeps : Keeps 1 fresh-kinds.ps fresh-kinds.r fresh.Asked fresh.Learnt
+    (λ κs a r e. ((answerWords r, e .0 .now) ≡ freshOn (a .0 .now)) × (r ≡ A.Done → MadeFresh (a .0 .now) (e .0 .now)))
+fresh-keeps = record { asks-nothing = λ κs a. tt; gives = λ κs a r e fits h. (h, λ done. rw done at h) }
 
-pub fresh-promises : Gives fresh-kinds.ps fresh-kinds.r fresh.Learnt (λ κs a r e. r ≡ A.Done → MadeFresh (a .0 .now) (e .0 .now))
-fresh-promises κs a r e fits h done = rw done at h
-
-pub enrol-promises : Gives enrol-kinds.ps enrol-kinds.r enrol.Learnt
+pub enrol-keeps : Keeps 1 enrol-kinds.ps enrol-kinds.r enrol.Asked enrol.Learnt
     (λ κs a r e. Promised (Enrol (a .1 .0) (a .1 .1 .0)) (a .0 .now) (rowAnswerOf r) (e .0 .now))
-enrol-promises κs a r e fits h = enrolled r h
+enrol-keeps = record { asks-nothing = λ κs a. tt; gives = λ κs a r e fits h. enrolled r h }
 
-pub find-promises : Gives find-kinds.ps find-kinds.r find.Learnt (λ κs a r e. Promised (Ask (Find (a .1 .0))) (a .0 .now) (rowAnswerOf r) (a .0 .now))
-find-promises κs a r e fits h = found r h
+pub find-keeps : Keeps 1 find-kinds.ps find-kinds.r find.Asked find.Learnt
+    (λ κs a r e. Promised (Ask (Find (a .1 .0))) (a .0 .now) (rowAnswerOf r) (a .0 .now))
+find-keeps = record { asks-nothing = λ κs a. tt; gives = λ κs a r e fits h. found r h }
 
-pub open-row-promises : Gives open-row-kinds.ps open-row-kinds.r open-row.Learnt
+pub open-row-keeps : Keeps 1 open-row-kinds.ps open-row-kinds.r open-row.Asked open-row.Learnt
     (λ κs a r e. Promised (Open (a .1 .0) (a .1 .1 .0)) (a .0 .now) (answerOf r) (e .0 .now))
-open-row-promises κs a r e fits h = opened r h
+open-row-keeps = record { asks-nothing = λ κs a. tt; gives = λ κs a r e fits h. opened r h }
 
-pub tick-promises : Gives tick-kinds.ps tick-kinds.r tick.Learnt (λ κs a r e. Promised (Tick (a .1 .0) (a .1 .1 .0)) (a .0 .now) (answerOf r) (e .0 .now))
-tick-promises κs a r e fits h = ticked r h
+pub tick-keeps : Keeps 1 tick-kinds.ps tick-kinds.r tick.Asked tick.Learnt
+    (λ κs a r e. Promised (Tick (a .1 .0) (a .1 .1 .0)) (a .0 .now) (answerOf r) (e .0 .now))
+tick-keeps = record { asks-nothing = λ κs a. tt; gives = λ κs a r e fits h. ticked r h }
 
-pub untick-promises : Gives untick-kinds.ps untick-kinds.r untick.Learnt
+pub untick-keeps : Keeps 1 untick-kinds.ps untick-kinds.r untick.Asked untick.Learnt
     (λ κs a r e. Promised (Untick (a .1 .0) (a .1 .1 .0)) (a .0 .now) (answerOf r) (e .0 .now))
-untick-promises κs a r e fits h = unticked r h
+untick-keeps = record { asks-nothing = λ κs a. tt; gives = λ κs a r e fits h. unticked r h }
 
-pub drop-promises : Gives drop-kinds.ps drop-kinds.r drop.Learnt (λ κs a r e. Promised (Drop (a .1 .0)) (a .0 .now) (answerOf r) (e .0 .now))
-drop-promises κs a r e fits h = dropped r h
+pub drop-keeps : Keeps 1 drop-kinds.ps drop-kinds.r drop.Asked drop.Learnt
+    (λ κs a r e. Promised (Drop (a .1 .0)) (a .0 .now) (answerOf r) (e .0 .now))
+drop-keeps = record { asks-nothing = λ κs a. tt; gives = λ κs a r e fits h. dropped r h }
 
-pub save-promises : Gives save-kinds.ps save-kinds.r save.Learnt (λ κs a r e. Promised (Save (a .1 .0)) (a .0 .now) (answerOf r) (e .0 .now))
-save-promises κs a r e fits h = saved r h
+pub save-keeps : Keeps 1 save-kinds.ps save-kinds.r save.Asked save.Learnt
+    (λ κs a r e. Promised (Save (a .1 .0)) (a .0 .now) (answerOf r) (e .0 .now))
+save-keeps = record { asks-nothing = λ κs a. tt; gives = λ κs a r e fits h. saved r h }
 
-pub strike-promises : Gives strike-kinds.ps strike-kinds.r strike.Learnt (λ κs a r e. Promised (Strike (a .1 .0)) (a .0 .now) (answerOf r) (e .0 .now))
-strike-promises κs a r e fits h = struck r h
+pub strike-keeps : Keeps 1 strike-kinds.ps strike-kinds.r strike.Asked strike.Learnt
+    (λ κs a r e. Promised (Strike (a .1 .0)) (a .0 .now) (answerOf r) (e .0 .now))
+strike-keeps = record { asks-nothing = λ κs a. tt; gives = λ κs a r e fits h. struck r h }
 
-pub report-promises : Gives report-kinds.ps report-kinds.r report.Learnt
+pub report-keeps : Keeps 1 report-kinds.ps report-kinds.r report.Asked report.Learnt
     (λ κs a r e. Promised (Ask (RowReport (a .1 .0))) (a .0 .now) (reportAnswerOf r) (a .0 .now))
-report-promises κs a r e fits h = reported r h
+report-keeps = record { asks-nothing = λ κs a. tt; gives = λ κs a r e fits h. reported r h }
 
-pub gap-promises : Gives gap-kinds.ps gap-kinds.r gap.Learnt (λ κs a r e. Promised (Ask FirstGap) (a .0 .now) (gapAnswerOf r) (a .0 .now))
-gap-promises κs a r e fits h = gapped r h
+pub gap-keeps : Keeps 1 gap-kinds.ps gap-kinds.r gap.Asked gap.Learnt
+    (λ κs a r e. Promised (Ask FirstGap) (a .0 .now) (gapAnswerOf r) (a .0 .now))
+gap-keeps = record { asks-nothing = λ κs a. tt; gives = λ κs a r e fits h. gapped r h }
+
+pub stream-keeps : Keeps 1 stream-kinds.ps stream-kinds.r stream.Asked stream.Learnt
+    (λ κs a r e. Promised (Ask (RowStream (a .1 .0))) (a .0 .now) (streamAnswerOf r) (a .0 .now))
+stream-keeps = record { asks-nothing = λ κs a. tt; gives = λ κs a r e fits h. row-told r h }
+
+pub desk-keeps : Keeps 1 desk-kinds.ps desk-kinds.r desk.Asked desk.Learnt
+    (λ κs a r e. Promised (Ask (DeskState (a .1 .0))) (a .0 .now) (deskAnswerOf r) (a .0 .now))
+desk-keeps = record { asks-nothing = λ κs a. tt; gives = λ κs a r e fits h. desk-told r h }
+
+pub unsaved-keeps : Keeps 1 unsaved-kinds.ps unsaved-kinds.r unsaved.Asked unsaved.Learnt
+    (λ κs a r e. Promised (Ask (Unsaved (a .1 .0))) (a .0 .now) (unsavedAnswerOf r) (a .0 .now))
+unsaved-keeps = record { asks-nothing = λ κs a. tt; gives = λ κs a r e fits h. unsaved-told r h }

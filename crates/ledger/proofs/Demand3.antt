@@ -13,9 +13,11 @@ use Rattle.ledger_sheet.specs.Outcome.{Outcome}
 use Rattle.ledger_layout.specs.Bytes.{freshSheet}
 use Rattle.ledger_layout.specs.Layout.{layout, freshOn}
 use Rattle.ledger_layout.specs.inner.Demand3 as Layout
-use Rattle.ledger_layout.proofs.Demand3.{answer-meets, row-answer-meets, report-answer-meets, gap-answer-meets, demand3}
+use Rattle.ledger_layout.proofs.Demand3.{answer-meets, row-answer-meets, report-answer-meets, gap-answer-meets}
+use Rattle.ledger_layout.proofs.Demand3.{stream-answer-meets, desk-answer-meets, unsaved-answer-meets, demand3}
 use Rattle.ledger_layout.proofs.Sheets.{fresh-layout}
-use Rattle.ledger.specs.Demand3.{MadeFresh, Promised, enrolled, found, reported, gapped, opened, ticked, unticked, saved, dropped, struck, Demand3}
+use Rattle.ledger.specs.Demand3.{MadeFresh, Promised, enrolled, found, reported, gapped, row-told, desk-told, unsaved-told}
+use Rattle.ledger.specs.Demand3.{opened, ticked, unticked, saved, dropped, struck, Demand3, EveryDemand3}
 
 -- each contract's equation is the promise that the claim asks for
 pub meets : {c : Call} {s t : List ℕ} {a : Answer} → Promised c s a t → Layout.Meets c s a t
@@ -23,6 +25,9 @@ meets (enrolled r e) = row-answer-meets _ _ r _ e
 meets (found r e) = row-answer-meets _ _ r _ e
 meets (reported r e) = report-answer-meets _ _ r _ e
 meets (gapped r e) = gap-answer-meets _ _ r _ e
+meets (row-told r e) = stream-answer-meets _ _ r _ e
+meets (desk-told r e) = desk-answer-meets _ _ r _ e
+meets (unsaved-told r e) = unsaved-answer-meets _ _ r _ e
 meets (opened r e) = answer-meets _ _ r _ e
 meets (ticked r e) = answer-meets _ _ r _ e
 meets (unticked r e) = answer-meets _ _ r _ e
@@ -71,3 +76,6 @@ demand-3 s {start} {last} {log} made chain =
           let repeated = chain-meets other in
           whole .serial-rows again end (rw (ready, fresh-layout) at repeated) e;
     }
+
+pub every-demand-3 : EveryDemand3
+every-demand-3 s start last log made chain = demand-3 s made chain

@@ -1,21 +1,23 @@
 -- Every list of calls has a chain of calls that keep their contracts. Assumes nothing.
 use Prim.Native.Nat.{ℕ, suc}
-use mathlib.Core.Bool.{true, false, true≢false}
-use mathlib.Core.List.{List, [], _∷_, map}
+use mathlib.Core.Bool.{true, false, not, true≢false}
+use mathlib.Core.List.{List, [], _∷_}
 use mathlib.Core.Option.{Option, none, some}
 use mathlib.Core.Path.{_≡_, refl, sym, ap, subst, _∙_}
 use borrow.Author.Tests.{ne-eqb}
+use Rattle.ledger_model.proofs.Claim.{log-calls}
 use Rattle.refusals.specs.declared.Refusal.{Refusal}
 use Rattle.refusals.specs.declared.Refusal.the-variants as Why
 use Rattle.refusals.specs.Table.{numberOf}
 use Rattle.refusals.proofs.Laws.{number-positive}
 use Rattle.refusals.proofs.Judged as Rules
-use Rattle.ledger_model.specs.Positions.{Positions, size, missing, least, positionNumber}
-use Rattle.ledger_model.specs.Book.{Place, free, row, Book, fresh, place, isFree}
-use Rattle.ledger_model.specs.Counts.{firstGapFrom}
-use Rattle.ledger_model.specs.Step.{Find, RowReport, FirstGap, Question, Call, Enrol, Ask, Open, Mark, Save, Drop, Strike}
+use Rattle.ledger_model.specs.Positions.{Positions, same, size, missing, least, positionNumber}
+use Rattle.ledger_model.specs.Book.{Place, free, row, Desk, closed, working, Book, fresh, place, desk, isFree, ticksOf}
+use Rattle.ledger_model.specs.Counts.{firstGapFrom, placeStream, deskState}
+use Rattle.ledger_model.specs.Step.{Find, RowReport, FirstGap, RowStream, DeskState, Unsaved, Question}
+use Rattle.ledger_model.specs.Step.{Call, Enrol, Ask, Open, Mark, Save, Drop, Strike}
 use Rattle.ledger_model.specs.Step.{Answer, gave, done, atRow, refused, answerWords, reply, refusals, asked, effect, afterRefusal, step}
-use Rattle.ledger_model.specs.Step.{callOf, run}
+use Rattle.ledger_model.specs.Step.{run}
 use Rattle.ledger_model.specs.Chain.{Chain, stop, next}
 use Rattle.ledger_model.specs.WellFormed.{WellFormed}
 use Rattle.ledger_model.proofs.Counts.{least-none}
@@ -26,10 +28,13 @@ use Rattle.ledger_sheet.specs.declared.Answer.the-variants as A
 use Rattle.ledger_sheet.specs.declared.RowAnswer.the-variants as R
 use Rattle.ledger_sheet.specs.declared.ReportAnswer.the-variants as Report
 use Rattle.ledger_sheet.specs.declared.GapAnswer.the-variants as G
+use Rattle.ledger_sheet.specs.declared.StreamAnswer.the-variants as S
+use Rattle.ledger_sheet.specs.declared.DeskAnswer.the-variants as D
+use Rattle.ledger_sheet.specs.declared.UnsavedAnswer.the-variants as U
 use Rattle.ledger_layout.specs.Layout.{layout, call, onSheet}
-use Rattle.ledger_layout.specs.Demand3.{answerOf, rowAnswerOf, reportAnswerOf, gapAnswerOf}
-use Rattle.ledger_layout.proofs.Sheets.{fresh-layout, on-layout}
-use Rattle.ledger.specs.Demand3.{Promised, enrolled, found, reported, gapped, opened, ticked, unticked, saved, dropped, struck}
+use Rattle.ledger_layout.specs.Demand3.{answerOf, rowAnswerOf, reportAnswerOf, gapAnswerOf, streamAnswerOf, deskAnswerOf, unsavedAnswerOf}
+use Rattle.ledger_layout.proofs.Sheets.{fresh-layout, on-layout, asking-stays}
+use Rattle.ledger.specs.Demand3.{Promised, enrolled, found, reported, gapped, row-told, desk-told, unsaved-told, opened, ticked, unticked, saved, dropped, struck}
 use Rattle.ledger.specs.Every.{EveryListOfCalls}
 use Rattle.ledger.proofs.Demand3.{made-fresh}
 
@@ -45,6 +50,9 @@ all-tabled (Enrol key first) b =
 all-tabled (Ask (Find key)) b = ((Why.BadKey, refl), ((Why.NoRow, refl), tt))
 all-tabled (Ask (RowReport r)) b = ((Why.NoRow, refl), tt)
 all-tabled (Ask FirstGap) b = tt
+all-tabled (Ask (RowStream r)) b = ((Why.NoRow, refl), tt)
+all-tabled (Ask (DeskState d)) b = ((Why.NoDesk, refl), tt)
+all-tabled (Ask (Unsaved d)) b = ((Why.NoDesk, refl), ((Why.DeskClosed, refl), tt))
 all-tabled (Open d r) b = ((Why.NoDesk, refl), ((Why.NoRow, refl), ((Why.DeskOpen, refl), tt)))
 all-tabled (Mark true d n) b = ((Why.NoDesk, refl), ((Why.DeskClosed, refl), ((Why.OutsideRow, refl), ((Why.AlreadyTicked, refl), tt))))
 all-tabled (Mark false d n) b = ((Why.NoDesk, refl), ((Why.DeskClosed, refl), ((Why.OutsideRow, refl), ((Why.NotTicked, refl), tt))))
@@ -128,14 +136,37 @@ gap b = by (case (Ask FirstGap) b)
     by (accepts n s) = rw s (gap-told 0 (b .places))
     by (refuses q s) = rw s (record { value = G.Refused q; stands = refl; says = refl })
 
--- a question leaves the book
-kept : (q : Question) (b : Book) → step (Ask q) b .book ≡ b
-unfolding effect afterRefusal
-kept q b = by (case (Ask q) b)
+row-stream : (r : ℕ) (b : Book) → Told streamAnswerOf Words.streamWords (step (Ask (RowStream r)) b .answer)
+unfolding refusals effect asked
+row-stream r b = by (case (Ask (RowStream r)) b)
   where
-    by : Case (Ask q) b → step (Ask q) b .book ≡ b
-    by (accepts n s) = rw s
-    by (refuses w s) = rw s
+    there : (p : Place) → isFree p ≡ false → Told streamAnswerOf Words.streamWords (gave (placeStream p))
+    there free n = absurd (true≢false n)
+    there (row key first ticks) n = record { value = S.Stream key first; stands = refl; says = refl }
+
+    by : Case (Ask (RowStream r)) b → Told streamAnswerOf Words.streamWords (step (Ask (RowStream r)) b .answer)
+    by (accepts n s) = rw s (there (place b r) (n .0))
+    by (refuses q s) = rw s (record { value = S.Refused q; stands = refl; says = refl })
+
+desk-state : (d : ℕ) (b : Book) → Told deskAnswerOf Words.deskWords (step (Ask (DeskState d)) b .answer)
+unfolding effect asked
+desk-state d b = by (case (Ask (DeskState d)) b)
+  where
+    there : (x : Desk) → Told deskAnswerOf Words.deskWords (gave (deskState (b .places) x))
+    there closed = record { value = D.Closed; stands = refl; says = refl }
+    there (working r as-opened worked) = record { value = D.Working r (not (same (ticksOf (place b r)) as-opened)); stands = refl; says = refl }
+
+    by : Case (Ask (DeskState d)) b → Told deskAnswerOf Words.deskWords (step (Ask (DeskState d)) b .answer)
+    by (accepts n s) = rw s (there (desk b d))
+    by (refuses q s) = rw s (record { value = D.Refused q; stands = refl; says = refl })
+
+unsaved : (d : ℕ) (b : Book) → Told unsavedAnswerOf Words.unsavedWords (step (Ask (Unsaved d)) b .answer)
+unfolding effect asked
+unsaved d b = by (case (Ask (Unsaved d)) b)
+  where
+    by : Case (Ask (Unsaved d)) b → Told unsavedAnswerOf Words.unsavedWords (step (Ask (Unsaved d)) b .answer)
+    by (accepts n s) = rw s (record { value = U.Unsaved _ _; stands = refl; says = refl })
+    by (refuses q s) = rw s (record { value = U.Refused q; stands = refl; says = refl })
 
 -- ---- the model's call keeps the contract
 
@@ -148,14 +179,14 @@ module _ (b : Book) (ok : WellFormed b) where
   -- the same of a question, whose sheet stays
   answered : (q : Question) {R : Type 0} {of : R → Answer} {words : R → List ℕ} (t : Told of words (step (Ask q) b .answer))
       → (words (t .value), layout b) ≡ onSheet (call (Ask q)) (layout b)
-  answered q {words = words} t = ap (λ (x : Book). (words (t .value), layout x)) (sym (kept q b)) ∙ equation (Ask q) t
+  answered q {words = words} t = ap (λ (x : Book). (words (t .value), layout x)) (sym (asking-stays q b)) ∙ equation (Ask q) t
 
   Kept : Call → Answer → Type 0
   Kept c a = Promised c (layout b) a (layout (step c b .book))
 
   asked-kept : (q : Question) (a : Answer) → Promised (Ask q) (layout b) a (layout b) → Kept (Ask q) a
   unfolding Kept
-  asked-kept q a p = rw (kept q b) p
+  asked-kept q a p = rw (asking-stays q b) p
 
   promised : (c : Call) → Kept c (step c b .answer)
   unfolding Kept effect asked
@@ -169,6 +200,15 @@ module _ (b : Book) (ok : WellFormed b) where
   promised (Ask FirstGap) =
       let t = gap b in
       subst (Kept (Ask FirstGap)) (t .stands) (asked-kept FirstGap _ (gapped (t .value) (answered FirstGap t)))
+  promised (Ask (RowStream r)) =
+      let t = row-stream r b in
+      subst (Kept (Ask (RowStream r))) (t .stands) (asked-kept (RowStream r) _ (row-told (t .value) (answered (RowStream r) t)))
+  promised (Ask (DeskState d)) =
+      let t = desk-state d b in
+      subst (Kept (Ask (DeskState d))) (t .stands) (asked-kept (DeskState d) _ (desk-told (t .value) (answered (DeskState d) t)))
+  promised (Ask (Unsaved d)) =
+      let t = unsaved d b in
+      subst (Kept (Ask (Unsaved d))) (t .stands) (asked-kept (Unsaved d) _ (unsaved-told (t .value) (answered (Unsaved d) t)))
   promised (Open d r) = let t = plain (Open d r) b refl in subst (Kept (Open d r)) (t .stands) (opened (t .value) (equation _ t))
   promised (Mark true d n) = let t = plain (Mark true d n) b refl in subst (Kept (Mark true d n)) (t .stands) (ticked (t .value) (equation _ t))
   promised (Mark false d n) = let t = plain (Mark false d n) b refl in subst (Kept (Mark false d n)) (t .stands) (unticked (t .value) (equation _ t))
@@ -183,17 +223,12 @@ unfolding run Kept
 chain-from [] b ok = stop
 chain-from (c ∷ calls) b ok = next (promised b ok c) (chain-from calls (step c b .book) (well-formed b ok (outcome c b)))
 
-these : (calls : List Call) (b : Book) → map callOf (run b calls .log) ≡ calls
-unfolding run
-these [] b = refl
-these (c ∷ calls) b = ap (λ (cs : List Call). c ∷ cs) (these calls (step c b .book))
-
 pub every-list-of-calls : EveryListOfCalls
 every-list-of-calls s start made calls =
     let ready = made-fresh s start made ∙ fresh-layout in
     record {
       log = run fresh calls .log;
       last = layout (run fresh calls .book);
-      of-these = these calls fresh;
+      of-these = log-calls calls fresh;
       made = rw ready (chain-from calls fresh fresh-well-formed);
     }

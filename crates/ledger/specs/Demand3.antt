@@ -5,18 +5,22 @@
 use Prim.Native.Nat.{ℕ}
 use mathlib.Core.Path.{_≡_}
 use mathlib.Core.List.{List, map}
-use Rattle.ledger_model.specs.Step.{Find, RowReport, FirstGap, Call, Enrol, Ask, Open, Tick, Untick, Save, Drop, Strike, Answer, Entry, callOf}
+use Rattle.ledger_model.specs.Step.{Find, RowReport, FirstGap, RowStream, DeskState, Unsaved}
+use Rattle.ledger_model.specs.Step.{Call, Enrol, Ask, Open, Tick, Untick, Save, Drop, Strike, Answer, Entry, callOf}
 use Rattle.ledger_model.specs.History.{serial}
 use Rattle.ledger_model.specs.Chain.{Chain}
 use Rattle.ledger_model.specs.Claim.{Claim}
-use Rattle.ledger_sheet.specs.Words.{answerWords, rowWords, reportAnswerWords, gapWords}
+use Rattle.ledger_sheet.specs.Words.{answerWords, rowWords, reportAnswerWords, gapWords, streamWords, deskWords, unsavedWords}
 use Rattle.ledger_sheet.specs.declared.Answer as Sheet
 use Rattle.ledger_sheet.specs.declared.Answer.the-variants as A
 use Rattle.ledger_sheet.specs.declared.RowAnswer.{RowAnswer}
 use Rattle.ledger_sheet.specs.declared.ReportAnswer.{ReportAnswer}
 use Rattle.ledger_sheet.specs.declared.GapAnswer.{GapAnswer}
+use Rattle.ledger_sheet.specs.declared.StreamAnswer.{StreamAnswer}
+use Rattle.ledger_sheet.specs.declared.DeskAnswer.{DeskAnswer}
+use Rattle.ledger_sheet.specs.declared.UnsavedAnswer.{UnsavedAnswer}
 use Rattle.ledger_layout.specs.Layout.{layout, call, onSheet, freshOn}
-use Rattle.ledger_layout.specs.Demand3.{answerOf, rowAnswerOf, reportAnswerOf, gapAnswerOf, headerAndRows}
+use Rattle.ledger_layout.specs.Demand3.{answerOf, rowAnswerOf, reportAnswerOf, gapAnswerOf, streamAnswerOf, deskAnswerOf, unsavedAnswerOf, headerAndRows}
 
 -- What `fresh` promises where it answers done: called on the slice s it left the sheet `start`.
 abbrev pub MadeFresh : (s start : List ℕ) → Type 0
@@ -32,6 +36,12 @@ pub data Promised : Call → List ℕ → Answer → List ℕ → Type 0 where
   reported : {s : List ℕ} {row : ℕ} (r : ReportAnswer) → (reportAnswerWords r, s) ≡ onSheet (call (Ask (RowReport row))) s
       → Promised (Ask (RowReport row)) s (reportAnswerOf r) s
   gapped : {s : List ℕ} (r : GapAnswer) → (gapWords r, s) ≡ onSheet (call (Ask FirstGap)) s → Promised (Ask FirstGap) s (gapAnswerOf r) s
+  row-told : {s : List ℕ} {row : ℕ} (r : StreamAnswer) → (streamWords r, s) ≡ onSheet (call (Ask (RowStream row))) s
+      → Promised (Ask (RowStream row)) s (streamAnswerOf r) s
+  desk-told : {s : List ℕ} {desk : ℕ} (r : DeskAnswer) → (deskWords r, s) ≡ onSheet (call (Ask (DeskState desk))) s
+      → Promised (Ask (DeskState desk)) s (deskAnswerOf r) s
+  unsaved-told : {s : List ℕ} {desk : ℕ} (r : UnsavedAnswer) → (unsavedWords r, s) ≡ onSheet (call (Ask (Unsaved desk))) s
+      → Promised (Ask (Unsaved desk)) s (unsavedAnswerOf r) s
   opened : {s t : List ℕ} {desk row : ℕ} (r : Sheet.Answer) → (answerWords r, t) ≡ onSheet (call (Open desk row)) s
       → Promised (Open desk row) s (answerOf r) t
   ticked : {s t : List ℕ} {desk number : ℕ} (r : Sheet.Answer) → (answerWords r, t) ≡ onSheet (call (Tick desk number)) s
@@ -42,8 +52,8 @@ pub data Promised : Call → List ℕ → Answer → List ℕ → Type 0 where
   dropped : {s t : List ℕ} {desk : ℕ} (r : Sheet.Answer) → (answerWords r, t) ≡ onSheet (call (Drop desk)) s → Promised (Drop desk) s (answerOf r) t
   struck : {s t : List ℕ} {row : ℕ} (r : Sheet.Answer) → (answerWords r, t) ≡ onSheet (call (Strike row)) s → Promised (Strike row) s (answerOf r) t
 
--- `log` is the calls with what they answered, from the sheet `start` that `fresh` made to the sheet `last`. Strikes, reports and first
--- gaps are calls of the list like any other.
+-- `log` is the calls with what they answered, from the sheet `start` that `fresh` made to the sheet `last`. Strikes, reports, first
+-- gaps, and what is asked of a row or a desk, are calls of the list like any other.
 pub record Demand3 (start : List ℕ) (log : List Entry) (last : List ℕ) : Type 0 where
   -- All answers are the model's, and the sheet at the end is the model's book laid out, byte for byte. The serial history is made of
   -- entries of the log, with its accepted enrolments, strikes and saves in their order; its calls, made on a fresh sheet, get the answers
@@ -54,3 +64,7 @@ pub record Demand3 (start : List ℕ) (log : List Entry) (last : List ℕ) : Typ
   -- The rows, and their count, are those of the serial history made on a fresh sheet, byte for byte.
   pub serial-rows : (again : List Entry) (end : List ℕ) → Chain Promised start again end → map callOf again ≡ map callOf (serial log)
       → headerAndRows end ≡ headerAndRows last
+
+-- That holds of every list of calls on a sheet that `fresh` made of any slice.
+abbrev pub EveryDemand3 : Type 0
+EveryDemand3 = (s start last : List ℕ) (log : List Entry) → MadeFresh s start → Chain Promised start log last → Demand3 start log last

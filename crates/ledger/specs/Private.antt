@@ -8,7 +8,7 @@ use mathlib.Core.List.{List, map}
 use Rattle.octets.specs.Octets.{part}
 use Rattle.ledger_model.specs.Step.{Entry, callOf}
 use Rattle.ledger_model.specs.Chain.{Chain}
-use Rattle.ledger_model.specs.Private.{unmarkedLog, SameBut}
+use Rattle.ledger_model.specs.Private.{withoutOwnLog, SameBut}
 use Rattle.ledger_sheet.specs.Sheet.{workedAt, deskSize, deskAt}
 use Rattle.ledger_layout.specs.Demand3.{headerAndRows}
 use Rattle.ledger.specs.Demand3.{MadeFresh, Promised}
@@ -28,8 +28,8 @@ abbrev pub openedPart : List ℕ → ℕ → List ℕ
 openedPart s e = part s (deskAt e) workedAt
 
 pub record Private (d : ℕ) (left right : List Entry) (left-last right-last : List ℕ) : Type 0 where
-  -- Every call but desk d's ticks and unticks has the same answer.
-  pub answers-same : unmarkedLog d left ≡ unmarkedLog d right
+  -- Every call but desk d's own affairs (its ticks and unticks, and how many it has not saved) has the same answer.
+  pub answers-same : withoutOwnLog d left ≡ withoutOwnLog d right
   -- The header and the rows are the same, byte for byte; so are the other desks, and desk d but for its worked copy.
   pub rows-same : headerAndRows left-last ≡ headerAndRows right-last
   pub desks-same : (e : ℕ) → e ≢ d → deskPart left-last e ≡ deskPart right-last e

@@ -6,16 +6,22 @@ use ledger_changes::desks;
 use ledger_judged as judged;
 use ledger_judged::verdicts;
 use ledger_judged::verdicts::Verdict;
+use ledger_layout::lookup;
 use ledger_sheet as sheet;
 use ledger_sheet::Answer;
+use ledger_sheet::DeskAnswer;
 use ledger_sheet::GapAnswer;
 use ledger_sheet::ReportAnswer;
 use ledger_sheet::RowAnswer;
+use ledger_sheet::StreamAnswer;
+use ledger_sheet::UnsavedAnswer;
 use ledger_sheet::right;
 use refusals::Refusal;
 ghost use mathlib.Core.Path.{_≡_};
-ghost use Rattle.ledger_model.specs.Step.{Enrol, Ask, Find, RowReport, FirstGap, Open, Mark, Tick, Untick, Save, Drop, Strike};
-ghost use Rattle.ledger_sheet.specs.Words.{answerWords, rowWords, reportAnswerWords, gapWords};
+ghost use Rattle.ledger_model.specs.Step.{Find, RowReport, FirstGap, RowStream, DeskState, Unsaved};
+ghost use Rattle.ledger_model.specs.Step.{Enrol, Ask, Open, Mark, Tick, Untick, Save, Drop, Strike};
+ghost use Rattle.ledger_sheet.specs.Words.{answerWords, rowWords, reportAnswerWords, gapWords, streamWords, deskWords, unsavedWords};
+ghost use Rattle.ledger_sheet.specs.Sheet.{right};
 ghost use Rattle.ledger_layout.specs.Layout.{call, onSheet, freshOn};
 
 // Makes the slice a fresh sheet. Only its length is judged.
@@ -117,4 +123,61 @@ pub fn first_gap(s: &[u8]) -> GapAnswer
         return GapAnswer::Refused(Refusal::NotSheet);
     }
     ledger_counts::first_gap(s)
+}
+
+// Whether the slice is a right sheet.
+pub fn is_sheet(s: &[u8]) -> bool
+    ensures { λ r. ⌜ r ≡ right (now (s .entry)) ⌝ }
+{
+    right::is_sheet(s)
+}
+
+// Tells a row's stream: its key, and its first number.
+pub fn row(s: &[u8], row: u32) -> StreamAnswer
+    ensures { λ r. ⌜ (streamWords r, now (s .entry)) ≡ onSheet (call (Ask (RowStream row))) (now (s .entry)) ⌝ }
+{
+    let verdict = verdicts::row_verdict(s, right::is_sheet(s), row);
+    if let Verdict::Refused(why) = verdict {
+        return StreamAnswer::Refused(why);
+    }
+    let a = sheet::row_at(row as usize);
+    StreamAnswer::Stream {
+        key: right::key_at(s, a),
+        first: right::first_at(s, a),
+    }
+}
+
+// Tells whether a desk is closed; or its row, and whether a save would be stale now.
+pub fn desk(s: &[u8], desk: u32) -> DeskAnswer
+    ensures { λ r. ⌜ (deskWords r, now (s .entry)) ≡ onSheet (call (Ask (DeskState desk))) (now (s .entry)) ⌝ }
+{
+    let verdict = verdicts::desk_number_verdict(right::is_sheet(s), desk);
+    if let Verdict::Refused(why) = verdict {
+        return DeskAnswer::Refused(why);
+    }
+    let d = desk as usize;
+    if lookup::is_closed(s, d) {
+        return DeskAnswer::Closed;
+    }
+    DeskAnswer::Working {
+        row: lookup::desk_row(s, d) as u32,
+        stale: !desks::is_current(s, d),
+    }
+}
+
+// Tells how many ticks and unticks a desk has not saved.
+pub fn unsaved(s: &[u8], desk: u32) -> UnsavedAnswer
+    ensures { λ r. ⌜ (unsavedWords r, now (s .entry)) ≡ onSheet (call (Ask (Unsaved desk))) (now (s .entry)) ⌝ }
+{
+    let verdict = verdicts::desk_verdict(s, right::is_sheet(s), desk);
+    if let Verdict::Refused(why) = verdict {
+        return UnsavedAnswer::Refused(why);
+    }
+    let a = sheet::desk_at(desk as usize);
+    let opened = a + sheet::OPENED_AT;
+    let worked = a + sheet::WORKED_AT;
+    UnsavedAnswer::Unsaved {
+        ticks: ledger_counts::ticked_beyond(s, worked, opened),
+        unticks: ledger_counts::ticked_beyond(s, opened, worked),
+    }
 }

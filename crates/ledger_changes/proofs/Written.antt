@@ -11,9 +11,9 @@ use Rattle.ledger_sheet.specs.Sheet.{rowsStart, deskRowAt, deskZerosAt, deskZer
 use Rattle.ledger_sheet.specs.Sheet.{lengthAt, usedAt, rowCountAt, rowsStartAt, deskCountAt, desksStartAt, rowAt, deskAt, used}
 use Rattle.ledger_layout.specs.Rows.{rowBytes}
 use Rattle.ledger_layout.specs.Bytes.{headerBytes, freshSheet, openDesk}
-use Rattle.octets.proofs.Puts.{put-next, set-put}
+use Rattle.octets.proofs.Puts.{put-next, set-put, put-whole}
 use Rattle.ledger_layout.proofs.Places.{length-header}
-use Rattle.ledger_layout.proofs.Puts.{put-whole, part-before}
+use Rattle.ledger_layout.proofs.Puts.{part-before}
 
 -- ---- the header, and a fresh sheet
 

@@ -86,7 +86,7 @@ pub fn save_desk(s: &mut [u8], d: usize) -> Answer
 }
 
 // Whether the row that desk d has open equals the opened copy.
-fn is_current(s: &[u8], d: usize) -> bool
+pub fn is_current(s: &[u8], d: usize) -> bool
     requires { ⌜ IsSheet (now s) × (d < deskCount) × (isOpen (desk (bookOf (now s)) d) ≡ true) ⌝ }
     ensures { λ r. ⌜ r ≡ isCurrent d (bookOf (now (s .entry))) ⌝ }
 {

@@ -1,14 +1,14 @@
 -- The clauses of `right`: of a desk whose first byte is known, and what a right sheet tells. Assumes nothing.
 use Prim.Native.Nat.{ℕ, _+_, _*_, _-_, _≤_}
 use native.Mathlib.Omega.{arith}
-use mathlib.Core.Bool.{Bool, true, _&&_}
+use mathlib.Core.Bool.{Bool, true, _&&_, and-true}
 use mathlib.Core.List.{List}
 use mathlib.Core.Path.{_≡_, sym, _∙_}
 use lib.Dec.{eqb, ltb, leb, lit≤}
 use lib.ListN.{length}
 use borrow.Author.Tests.{eqb-true, leb-true}
+use Rattle.laws.proofs.Bools.{and-split}
 use Rattle.octets.specs.Octets.{all, zeroAt}
-use Rattle.octets.proofs.Laws.{and-split, and-true}
 use Rattle.ledger_sheet.specs.Sheet.{rowCount, rowsStart, deskZerosAt, deskZerosSize, openedAt, deskCount, lengthAt}
 use Rattle.ledger_sheet.specs.Sheet.{rowCountAt, rowsStartAt, deskCountAt, desksStartAt, headerNumber, used}
 use Rattle.ledger_convert.specs.Old.{sheetSize, rowSize, deskSize}

@@ -7,8 +7,7 @@ use mathlib.Core.Path.{_≡_, refl, ap, _∙_}
 use lib.Dec.{eqb}
 use lib.ListN.{length}
 use borrow.Author.Tests.{ne-eqb}
-use Rattle.ledger_model.specs.Book.{Book}
-use Rattle.octets.proofs.Laws.{and-split}
+use Rattle.laws.proofs.Bools.{and-split}
 use Rattle.ledger_sheet.specs.Sheet.{sheetSize, right}
 use Rattle.ledger_sheet.specs.Outcome.{Outcome}
 use Rattle.ledger_layout.specs.Layout.{layout, bookOf, call, onSheet}
@@ -16,7 +15,7 @@ use Rattle.ledger_layout.proofs.Right.{reads-back}
 use Rattle.ledger_layout.proofs.Sheets.{on-layout}
 use Rattle.ledger_convert.specs.Old as Old
 use Rattle.ledger_convert.specs.Convert.{oldBookOf, convertOn}
-use Rattle.ledger_convert.specs.Laws.{AnswersAsBefore}
+use Rattle.ledger_convert.specs.Laws.{ConvertedAnswers, OldRefused}
 use Rattle.ledger_convert.proofs.Read.{book-fine, long}
 
 -- where the converter answers 0, the old sheet was right, and the new one is its book laid out
@@ -31,7 +30,7 @@ accepted old new t e = by (eqb (length new) sheetSize && Old.right old) refl
         let f : _≡_ {A = List ℕ} (0 ∷ []) (20 ∷ []) = ap (λ (o : Outcome). o .0) d in
         absurd (false≢true cc)
 
-pub converted-answers : (old new t : List ℕ) → (0 ∷ [], t) ≡ convertOn old new → AnswersAsBefore old t
+pub converted-answers : ConvertedAnswers
 converted-answers old new t e =
     let a = accepted old new t e in
     let fine = book-fine old (a .0) in
@@ -41,6 +40,6 @@ converted-answers old new t e =
     }
 
 -- A new call refuses an old sheet with 20.
-pub old-refused : (old : List ℕ) → Old.right old ≡ true → (f : Book → List ℕ × Book) → onSheet f old ≡ (20 ∷ [], old)
+pub old-refused : OldRefused
 unfolding onSheet right
 old-refused old r f = rw (ne-eqb (length old) sheetSize (λ e. omega (arith, long old r)))

@@ -3,3 +3,4 @@ pub mod Clauses
 pub mod Read
 pub mod Laying
 pub mod Laws
+pub mod Contracts

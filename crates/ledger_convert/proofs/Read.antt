@@ -10,11 +10,12 @@ use mathlib.Core.Path.{_≡_, refl, sym, ap, _∙_}
 use lib.Dec.{ltb}
 use lib.ListN.{length, List·getD-eq-default}
 use borrow.Author.Tests.{ltb-true, ltb-false, lt-ltb, le-ltb, eqb-false, not-true}
+use Rattle.laws.proofs.Bools.{and-split}
 use Rattle.ledger_model.specs.Positions.{rowLength}
 use Rattle.ledger_model.specs.Book.{Place, free, row, closed, Book, place, desk, isFree, withTicks}
 use Rattle.ledger_model.specs.WellFormed.{IsSet, PlaceOk, DeskOk, keyOf, WellFormed}
 use Rattle.octets.specs.Octets.{numberAt, part}
-use Rattle.octets.proofs.Laws.{Bytes, and-split, all-at, length-part}
+use Rattle.octets.proofs.Laws.{Bytes, all-at, length-part}
 use Rattle.octets.proofs.Parts.{same-part}
 use Rattle.ledger_sheet.specs.Sheet.{keyStart, rowSize, ticksAt, ticksSize}
 use Rattle.ledger_sheet.specs.Sheet as New

@@ -4,3 +4,4 @@ pub mod WordBits
 pub mod WordCounts
 pub mod Reports
 pub mod Starts
+pub mod Beyond

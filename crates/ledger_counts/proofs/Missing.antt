@@ -4,7 +4,7 @@ use Prim.Native.Nat.{ℕ, zero, suc, _+_, _≤_, _<_}
 use native.Mathlib.Nat.{not-suc-le-zero, le-of-suc-le-suc, zero-lt-suc, add-comm, eq-or-lt-of-le}
 use native.Mathlib.Numerals.{add-one}
 use native.Mathlib.Omega.{arith}
-use mathlib.Core.Bool.{Bool, true, false, not, cond, _&&_, _||_, true≢false}
+use mathlib.Core.Bool.{Bool, true, false, not, cond, _&&_, true≢false, or-true}
 use mathlib.Core.List.{List, [], _∷_}
 use mathlib.Core.Logic.{_⊎_, inl, inr}
 use mathlib.Core.Option.{none, some, Option·map}
@@ -49,10 +49,6 @@ unfolding table anyTicked
 any-some zero k p l e = absurd (not-suc-le-zero l)
 any-some (suc n) zero p l e = rw e
 any-some (suc n) (suc k) p l e = rw (any-some n k (λ i. p (suc i)) (le-of-suc-le-suc l) e) (or-true (p 0))
-  where
-    or-true : (b : Bool) → b || true ≡ true
-    or-true true = refl
-    or-true false = refl
 
 record Nothing (s : List Bool) : Type 0 where
   ticked : size s ≡ 0

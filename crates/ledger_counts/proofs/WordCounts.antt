@@ -151,15 +151,21 @@ table-alike (suc k) p q h =
 
 -- ---- a word of ticks
 
+-- As many of the positions of word k have the property as the word has ones, whose bits say which.
+pub count-more : (p : ℕ → Bool) (k w : ℕ) → ((i : ℕ) → i < wordBits → bitOf w i ≡ p (wordBits * k + i)) → w < 2 ^ wordBits
+    → size (table (wordBits * (k + 1)) p) ≡ size (table (wordBits * k) p) + ones w
+count-more p k w word fits =
+    let next : wordBits * (k + 1) ≡ wordBits * k + wordBits = omega arith in
+    let bits = table-alike wordBits (λ i. p (wordBits * k + i)) (bitOf w) (λ i l. sym (word i l)) in
+    rw next (size-split (wordBits * k) wordBits p ∙ rw (bits, bits-ones wordBits w fits))
+
 module _ (s : List ℕ) (a k w : ℕ) (word : IsWord s a k w) (fits : w < 2 ^ wordBits) where
   next : wordBits * (k + 1) ≡ wordBits * k + wordBits
   next = omega arith
 
   -- as many positions are ticked as the word has ones
   pub word-count : size (table (wordBits * (k + 1)) (tickedAt s a)) ≡ size (table (wordBits * k) (tickedAt s a)) + ones w
-  word-count =
-      let bits = table-alike wordBits (λ i. tickedAt s a (wordBits * k + i)) (bitOf w) (λ i l. sym (word i l)) in
-      rw next (size-split (wordBits * k) wordBits (tickedAt s a) ∙ rw (bits, bits-ones wordBits w fits))
+  word-count = count-more (tickedAt s a) k w word fits
 
   -- the end of the ticks, where it lies in the word, or below it
   abbrev end : ℕ

@@ -1,4 +1,4 @@
-// Row report and first gap, on the bytes of a sheet.
+// Row report and first gap, and what one row has ticked beyond another, on the bytes of a sheet.
 use ledger_sheet as sheet;
 use ledger_sheet::GapAnswer;
 use ledger_sheet::ReportAnswer;
@@ -12,7 +12,7 @@ ghost use Rattle.ledger_layout.specs.Layout.{bookOf};
 ghost use Prim.Native.Nat.{_+_, _≤_, _<_};
 ghost use lib.Count.{ones};
 ghost use lib.ListN.{length};
-ghost use Rattle.ledger_model.specs.Positions.{rowLength, size};
+ghost use Rattle.ledger_model.specs.Positions.{rowLength, minus, size};
 ghost use Rattle.ledger_sheet.specs.Sheet.{sheetSize, rowSize, rowCount, rowAt, isUsed};
 ghost use Rattle.ledger_layout.specs.Ticks.{tickedAt, ticksIn};
 ghost use Rattle.ledger_layout.specs.inner.Scans.{lowest};
@@ -72,6 +72,18 @@ pub fn ticked_count(s: &[u8], a: usize) -> u32
         let third = tick_word(s, a, k + 2);
         let fourth = tick_word(s, a, k + 3);
         count += block_ones(first, second, third, fourth);
+    }
+    count
+}
+
+// How many positions are ticked in the row at offset a and not in the one at offset b.
+pub fn ticked_beyond(s: &[u8], a: usize, b: usize) -> u32
+    requires { ⌜ (a + rowSize ≤ length (now s)) × (b + rowSize ≤ length (now s)) ⌝ }
+    ensures { λ r. ⌜ r ≡ size (minus (ticksIn (now (s .entry)) a) (ticksIn (now (s .entry)) b)) ⌝ }
+{
+    let mut count: u32 = 0;
+    for k in 0..WORDS {
+        count += u64::count_ones(tick_word(s, a, k) & !tick_word(s, b, k));
     }
     count
 }

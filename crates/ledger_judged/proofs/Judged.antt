@@ -14,7 +14,8 @@ use Rattle.refusals.proofs.Laws.{number-positive}
 use Rattle.refusals.proofs.Judged.{NoneHolds, Numbered, verdict-none}
 use Rattle.octets.proofs.Laws.{Bytes}
 use Rattle.ledger_model.specs.Book.{Book}
-use Rattle.ledger_model.specs.Step.{Question, asked, Find, RowReport, FirstGap, Call, Enrol, Ask, Open, Mark, Save, Drop, Strike, answerWords, refusals, effect, afterRefusal}
+use Rattle.ledger_model.specs.Step.{Question, asked, Find, RowReport, FirstGap, RowStream, DeskState, Unsaved}
+use Rattle.ledger_model.specs.Step.{Call, Enrol, Ask, Open, Mark, Save, Drop, Strike, answerWords, refusals, effect, afterRefusal}
 use Rattle.ledger_sheet.specs.Sheet.{right}
 use Rattle.ledger_sheet.proofs.Clauses.{right-parts}
 use Rattle.ledger_layout.specs.Layout.{layout, bookOf, call, onSheet}
@@ -94,6 +95,9 @@ numbered (Enrol key first) b = (lit< tt, (lit< tt, (lit< tt, (lit< tt, tt))))
 numbered (Ask (Find key)) b = (lit< tt, (lit< tt, tt))
 numbered (Ask (RowReport r)) b = (lit< tt, tt)
 numbered (Ask FirstGap) b = tt
+numbered (Ask (RowStream r)) b = (lit< tt, tt)
+numbered (Ask (DeskState d)) b = (lit< tt, tt)
+numbered (Ask (Unsaved d)) b = (lit< tt, (lit< tt, tt))
 numbered (Open d r) b = (lit< tt, (lit< tt, (lit< tt, tt)))
 numbered (Mark true d n) b = (lit< tt, (lit< tt, (lit< tt, (lit< tt, tt))))
 numbered (Mark false d n) b = (lit< tt, (lit< tt, (lit< tt, (lit< tt, tt))))

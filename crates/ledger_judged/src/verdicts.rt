@@ -63,8 +63,8 @@ pub fn find_verdict(s: &[u8], fine: bool, key: u64) -> Verdict
     Verdict::Fine
 }
 
-// Of a call by a desk: 20, 21.
-fn desk_number_verdict(fine: bool, desk: u32) -> Verdict
+// Of a call by a desk: 20, 21. The question about a desk has no other.
+pub fn desk_number_verdict(fine: bool, desk: u32) -> Verdict
     ensures { λ r. ⌜ verdictNumber r ≡ verdict (deskNumberRules fine desk) ⌝ }
 {
     if !fine {

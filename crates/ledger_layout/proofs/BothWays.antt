@@ -6,21 +6,18 @@ use mathlib.Core.Path.{_≡_}
 use borrow.Author.Tests.{eq-eqb, ne-eqb}
 use lib.ListN.{length}
 use Rattle.ledger_model.specs.Book.{fresh}
-use Rattle.octets.proofs.Laws.{Bytes}
+use Rattle.octets.proofs.Laws.{are-bytes}
 use Rattle.ledger_sheet.specs.Sheet.{sheetSize}
 use Rattle.ledger_layout.specs.Layout.{layout, freshOn}
-use Rattle.ledger_layout.specs.BothWays.{AreBytes, BothWays, FreshByLength}
+use Rattle.ledger_layout.specs.BothWays.{BothWays, FreshByLength}
 use Rattle.ledger_layout.proofs.Read.{read-law, book-fine}
 use Rattle.ledger_layout.proofs.Right.{reads-back, layout-right}
-
-fitting : (s : List ℕ) → AreBytes s → Bytes s
-fitting s h k = record { fits = h k }
 
 pub both-ways : BothWays
 both-ways =
     record {
-      holds-a-book = λ s bytes. book-fine s (fitting s bytes);
-      is-its-layout = λ s bytes. read-law s (fitting s bytes);
+      holds-a-book = λ s bytes. book-fine s (are-bytes s bytes);
+      is-its-layout = λ s bytes. read-law s (are-bytes s bytes);
       is-right = layout-right;
       holds-it = reads-back;
     }

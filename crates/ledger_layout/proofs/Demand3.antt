@@ -23,15 +23,21 @@ use Rattle.ledger_sheet.specs.declared.ReportAnswer.{ReportAnswer}
 use Rattle.ledger_sheet.specs.declared.ReportAnswer.the-variants as Report
 use Rattle.ledger_sheet.specs.declared.GapAnswer.{GapAnswer}
 use Rattle.ledger_sheet.specs.declared.GapAnswer.the-variants as G
+use Rattle.ledger_sheet.specs.declared.StreamAnswer.{StreamAnswer}
+use Rattle.ledger_sheet.specs.declared.StreamAnswer.the-variants as S
+use Rattle.ledger_sheet.specs.declared.DeskAnswer.{DeskAnswer}
+use Rattle.ledger_sheet.specs.declared.DeskAnswer.the-variants as D
+use Rattle.ledger_sheet.specs.declared.UnsavedAnswer.{UnsavedAnswer}
+use Rattle.ledger_sheet.specs.declared.UnsavedAnswer.the-variants as U
 use Rattle.ledger_layout.specs.Layout.{layout, call, onSheet}
-use Rattle.ledger_layout.specs.Demand3.{answerOf, rowAnswerOf, reportAnswerOf, gapAnswerOf, headerAndRows}
+use Rattle.ledger_layout.specs.Demand3.{answerOf, rowAnswerOf, reportAnswerOf, gapAnswerOf, streamAnswerOf, deskAnswerOf, unsavedAnswerOf, headerAndRows}
 use Rattle.ledger_layout.specs.inner.Demand3.{Meets, MetCalls}
 use Rattle.ledger_layout.proofs.Places.{shape, front-part}
 use Rattle.ledger_layout.proofs.Sheets.{fresh-layout, on-layout}
 
 -- ---- one call
 
-proper : (a : Answer) → a ≢ refused 0 → Proper a
+pub proper : (a : Answer) → a ≢ refused 0 → Proper a
 proper (gave words) h = tt
 proper (refused number) h = λ e. h (ap refused e)
 
@@ -66,6 +72,21 @@ pub gap-answer-meets : (c : Call) (s : List ℕ) (r : GapAnswer) (t : List ℕ) 
 gap-answer-meets c s G.Nothing t e = (improper (gave _) tt, e)
 gap-answer-meets c s (G.Gap number row) t e = (improper (gave _) tt, e)
 gap-answer-meets c s (G.Refused q) t e = (improper (refused (numberOf q)) (number-positive q), e)
+
+pub stream-answer-meets : (c : Call) (s : List ℕ) (r : StreamAnswer) (t : List ℕ) → (Words.streamWords r, t) ≡ onSheet (call c) s
+    → Meets c s (streamAnswerOf r) t
+stream-answer-meets c s (S.Stream key first) t e = (improper (gave _) tt, e)
+stream-answer-meets c s (S.Refused q) t e = (improper (refused (numberOf q)) (number-positive q), e)
+
+pub desk-answer-meets : (c : Call) (s : List ℕ) (r : DeskAnswer) (t : List ℕ) → (Words.deskWords r, t) ≡ onSheet (call c) s → Meets c s (deskAnswerOf r) t
+desk-answer-meets c s D.Closed t e = (improper (gave _) tt, e)
+desk-answer-meets c s (D.Working row stale) t e = (improper (gave _) tt, e)
+desk-answer-meets c s (D.Refused q) t e = (improper (refused (numberOf q)) (number-positive q), e)
+
+pub unsaved-answer-meets : (c : Call) (s : List ℕ) (r : UnsavedAnswer) (t : List ℕ) → (Words.unsavedWords r, t) ≡ onSheet (call c) s
+    → Meets c s (unsavedAnswerOf r) t
+unsaved-answer-meets c s (U.Unsaved ticks unticks) t e = (improper (gave _) tt, e)
+unsaved-answer-meets c s (U.Refused q) t e = (improper (refused (numberOf q)) (number-positive q), e)
 
 -- ---- the theorem
 

@@ -16,3 +16,4 @@ pub mod Readers
 pub mod Writers
 pub mod Scans
 pub mod Bits
+pub mod Calls

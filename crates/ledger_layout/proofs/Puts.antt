@@ -1,19 +1,13 @@
 -- What stands where after a part is put in, and parts lent and come back. Assumes nothing.
 use Prim.Native.Nat.{ℕ, _+_, _≤_, _<_}
-use native.Mathlib.Nat.{zero-add}
 use native.Mathlib.Omega.{arith}
-use mathlib.Core.List.{List, _++_, append-assoc, append-nil}
+use mathlib.Core.List.{List, _++_, append-assoc}
 use mathlib.Core.Path.{_≡_, sym, ap, _∙_}
 use lib.ListN.{length, take, drop, getD, take-append-drop, List·getD-append}
 use mathlib.Core.Logic.{_⊎_, inl, inr, ⊎-elim}
-use lib.Seq.{length-take-le, drop-drop, drop-length, take-add, ext-getD, getD-append-add}
+use lib.Seq.{length-take-le, drop-drop, take-add, ext-getD, getD-append-add}
 use Rattle.octets.specs.Octets.{part, put}
 use Rattle.octets.proofs.Laws.{length-part, part-at, length-put, put-all, putting, putting-outside}
-
--- all of a list replaced
-pub put-whole : (s v : List ℕ) → length v ≡ length s → put s 0 v ≡ v
-unfolding put
-put-whole s v e = rw (zero-add, e, drop-length) (append-nil v)
 
 -- what stands outside of the part put in, and inside
 pub put-outside : (s : List ℕ) (a : ℕ) (v : List ℕ) (k : ℕ) → a + length v ≤ length s → (k < a) ⊎ (a + length v ≤ k) → getD (put s a v) k 0 ≡ getD s k 0

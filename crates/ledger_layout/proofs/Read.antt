@@ -10,13 +10,14 @@ use lib.Dec.{ltb, eqb, leb}
 use lib.ListN.{length, getD, List·getD-eq-default}
 use lib.Seq.{drop-cons}
 use borrow.Author.Tests.{ltb-true, ltb-false, leb-true, eqb-true, eqb-false, not-true}
+use Rattle.laws.proofs.Bools.{and-split}
 use Rattle.keys.specs.Key.{validKey}
 use Rattle.keys.specs.Numbers.{isNumber}
 use Rattle.ledger_model.specs.Positions.{rowLength}
 use Rattle.ledger_model.specs.Book.{Place, free, row, closed, Book, place, desk, isFree, withTicks}
 use Rattle.ledger_model.specs.WellFormed.{IsSet, PlaceOk, DeskOk, keyOf, WellFormed}
 use Rattle.octets.specs.Octets.{numberAt, bytesOf, part, all, zeroAt}
-use Rattle.octets.proofs.Laws.{Bytes, and-split, all-at}
+use Rattle.octets.proofs.Laws.{Bytes, all-at}
 use Rattle.octets.proofs.Parts.{bytes-number, part-join, part-whole, zero-part, same-part}
 use Rattle.ledger_sheet.specs.Sheet.{sheetSize, usedWordSize, keyStart, keySize, firstAt, firstSize, ticksAt, rowSize, rowCount, rowsStart}
 use Rattle.ledger_sheet.specs.Sheet.{deskRowAt, deskZerosAt, deskZerosSize, openedAt, workedAt, deskSize, deskCount, desksStart, headerNumberSize, lengthAt}

@@ -1,16 +1,17 @@
 -- What is read of a sheet's bytes is what its book has. Assumes nothing.
 use Prim.Native.Nat.{ℕ, zero, suc, _+_, _<_}
 use native.Mathlib.Omega.{arith}
-use mathlib.Core.Bool.{Bool, true, false, cond, not, _&&_, _||_}
+use mathlib.Core.Bool.{Bool, true, false, cond, not, _&&_, _||_, and-true, and-assoc}
 use mathlib.Core.List.{List, [], _∷_}
 use mathlib.Core.Path.{_≡_, refl, sym, ap, _∙_}
 use lib.Dec.{eqb, ltb}
 use lib.ListN.{length, getD, List·getD-eq-default}
 use borrow.Author.Tests.{ltb-true, ltb-false, eqb-true}
+use Rattle.laws.proofs.Bools.{and-split}
 use Rattle.ledger_model.specs.Book.{free, row, Desk, closed, working, place, desk, isFree, isOpen, placeOf, anyHasOpen}
 use Rattle.octets.specs.Octets.{all, zeroAt}
 use Rattle.octets.specs.Lists.{table}
-use Rattle.octets.proofs.Laws.{and-true, and-assoc, and-split, all-at}
+use Rattle.octets.proofs.Laws.{all-at}
 use Rattle.octets.proofs.Lists.{length-table, getD-table}
 use Rattle.ledger_sheet.specs.Sheet.{rowCount, deskCount, deskSize, deskRowAt, openedAt, workedAt, rowAt, deskAt, used, isUsed, isRow, keyAt, firstNumberAt}
 use Rattle.ledger_sheet.specs.Sheet.{deskRow, isClosed, closedZero, deskMarked, openNames, deskRight, right}
@@ -23,7 +24,7 @@ use Rattle.ledger_layout.specs.Layout.{placeIn, deskIn, bookOf}
 all-front : (n : ℕ) (p : ℕ → Bool) → all (suc n) p ≡ (p 0 && all n (λ i. p (suc i)))
 unfolding all
 all-front zero p = sym (and-true (p 0))
-all-front (suc n) p = rw (all-front n p) (sym (and-assoc (p 0) _ _))
+all-front (suc n) p = rw (all-front n p) (and-assoc (p 0) _ _)
 
 -- desk x does not have row r open
 abbrev pub isElsewhere : ℕ → Desk → Bool
@@ -86,6 +87,14 @@ module _ (s : List ℕ) where
             → t ≡ not (isOpen (cond t closed (working (deskRow s d) (ticksIn s (deskAt d + openedAt)) (ticksIn s (deskAt d + workedAt)))))
         by true = refl
         by false = refl
+
+    -- an open one as it is read
+    pub desk-read-on : isOpen (desk (bookOf s) d) ≡ true
+        → desk (bookOf s) d ≡ working (deskRow s d) (ticksIn s (deskAt d + openedAt)) (ticksIn s (deskAt d + workedAt))
+    unfolding bookOf deskIn
+    desk-read-on o =
+        let open-there : isClosed s d ≡ false = closed-on ∙ ap not o in
+        getD-table deskCount (deskIn s) d closed l ∙ rw open-there
 
     -- the row that it names; where it is closed, 0
     pub named-on : right s ≡ true → deskRow s d ≡ placeOf (desk (bookOf s) d)

@@ -21,7 +21,7 @@ use Rattle.ledger_layout.proofs.Right.{reads-back, layout-right}
 use Rattle.ledger_layout.proofs.Read.{read-law, book-fine}
 
 -- a question leaves the book, and so the sheet, as it was
-asking-stays : (q : Question) (b : Book) → step (Ask q) b .book ≡ b
+pub asking-stays : (q : Question) (b : Book) → step (Ask q) b .book ≡ b
 asking-stays q b = at (outcome (Ask q) b)
   where
     at : {t : Reply} → Model.Outcome b (Ask q) t → t .book ≡ b

@@ -1,13 +1,14 @@
 -- A book's desk or place is put where it stands in a right sheet, and the sheet is the layout of the book with it. Assumes nothing.
 use Prim.Native.Nat.{ℕ, _+_, _-_, _<_}
 use native.Mathlib.Omega.{arith}
-use mathlib.Core.Bool.{Bool, true, false, false≢true}
+use mathlib.Core.Bool.{true, false, false≢true}
 use mathlib.Core.Logic.{_≢_}
 use mathlib.Core.List.{List}
 use mathlib.Core.Path.{_≡_, refl, sym, ap, _∙_}
 use lib.ListN.{getD, set, replicate}
 use lib.Seq.{getD-set-other}
 use native.Mathlib.Numerals.{add-one}
+use Rattle.laws.proofs.Bools.{same-bool}
 use Rattle.ledger_model.specs.Positions.{Positions, noTicks, same}
 use Rattle.ledger_model.specs.Book.{Place, free, row, Desk, closed, working, Book, place, desk, putPlace, putDesk}
 use Rattle.ledger_model.specs.Book.{isFree, ticksOf, withTicks, isOpen, placeOf, openedOf, workedOf, openPlace, allUsed, lowestFree, anyHasOpen}
@@ -30,11 +31,11 @@ use Rattle.ledger_layout.proofs.Right.{n, used-is, OpenDesk, open-read,
 use Rattle.ledger_layout.proofs.Read.{read-law, book-fine}
 
 -- a set given twice is the last one; a row with its own set is itself
-set-twice : (t u : Positions) (p : Place) → withTicks t (withTicks u p) ≡ withTicks t p
+pub set-twice : (t u : Positions) (p : Place) → withTicks t (withTicks u p) ≡ withTicks t p
 set-twice t u free = refl
 set-twice t u (row key first ticks) = refl
 
-own-ticks : (p : Place) → withTicks (ticksOf p) p ≡ p
+pub own-ticks : (p : Place) → withTicks (ticksOf p) p ≡ p
 own-ticks free = refl
 own-ticks (row key first ticks) = refl
 
@@ -51,18 +52,9 @@ pub blank : (key first : ℕ) → rowBytes key first (replicate ticksSize 0) ≡
 unfolding placeBytes tickBytes bitsValue noTicks
 blank key first = refl
 
-both : (x y : Bool) → (x ≡ true → y ≡ true) → (y ≡ true → x ≡ true) → x ≡ y
-both true y f g = sym (f refl)
-both false true f g = absurd (false≢true (g refl))
-both false false f g = refl
-
 -- ---- the layout of a well-formed book
 
 module _ (b : Book) (ok : WellFormed b) where
-  -- a desk
-  desk-law : (d : ℕ) (x : Desk) → d < deskCount → put (layout b) (deskAt d) (deskBytes (b .places) x) ≡ layout (putDesk d x b)
-  desk-law d x l = desk-put b (shape ok) d x l
-
   -- a place filled, or freed, that no desk has open; the header counts m rows
   pub place-law : (r m : ℕ) (p : Place) → r < rowCount → ((d q : ℕ) (opened worked : Positions) → desk b d ≡ working q opened worked → q ≢ r)
       → m ≡ countUsed (set (b .places) r p) → put (put (layout b) (rowAt r) (placeBytes p)) usedAt (bytesOf headerNumberSize m) ≡ layout (putPlace r p b)
@@ -128,7 +120,7 @@ module _ (b : Book) (ok : WellFormed b) where
         let l = o .row-there in
         let row-ok : PlaceOk (row (o .key) (o .first) (o .ticks)) = rw (o .place-is) at (ok .place-ok r) in
         rw (o .place-is)
-        (both (sameAt s (rowAt r) s (deskAt d + openedAt) rowSize) (same (o .ticks) opened)
+        (same-bool (sameAt s (rowAt r) s (deskAt d + openedAt) rowSize) (same (o .ticks) opened)
         (λ e.
         let same-bytes = same-part s (rowAt r) s (deskAt d + openedAt) rowSize (omega (arith, long, l)) (omega (arith, long, o .there)) e in
         let sets = row-same (o .key) (o .first) (o .ticks) opened row-ok (o .row-ok opened (o .opened-set)) (sym row-bytes ∙ same-bytes ∙ o .opened-part) in
@@ -177,7 +169,7 @@ module _ (s : List ℕ) (bytes : Bytes s) (r : right s ≡ true) where
 
   pub clear-on : (d : ℕ) → d < deskCount → put s (deskAt d) (replicate deskSize 0) ≡ layout (putDesk d closed (bookOf s))
   unfolding deskBytes
-  clear-on d l = rw (read-law s bytes r) at (desk-law b ok d closed l)
+  clear-on d l = rw (read-law s bytes r) at (desk-put b (shape ok) d closed l)
 
   pub open-on : (d q : ℕ) → d < deskCount → q < rowCount
       → put s (deskAt d) (openDesk q (part s (rowAt q) rowSize) (part s (rowAt q) rowSize))

@@ -1,19 +1,16 @@
 -- Right sheets are the layouts of well-formed books, both ways; and what `fresh` makes of a slice. Assumes nothing.
 -- The manual, docs/INTERFACE.md: "The sheet".
-use Prim.Native.Nat.{ℕ, _<_}
+use Prim.Native.Nat.{ℕ}
 use mathlib.Core.Bool.{true}
 use mathlib.Core.List.{List, [], _∷_}
 use mathlib.Core.Logic.{_≢_}
 use mathlib.Core.Path.{_≡_}
-use lib.ListN.{length, getD}
+use lib.ListN.{length}
+use Rattle.octets.specs.Octets.{AreBytes}
 use Rattle.ledger_model.specs.Book.{Book, fresh}
 use Rattle.ledger_model.specs.WellFormed.{WellFormed}
 use Rattle.ledger_sheet.specs.Sheet.{sheetSize, right}
 use Rattle.ledger_layout.specs.Layout.{layout, bookOf, freshOn}
-
--- A list of bytes, as every slice of them is.
-abbrev pub AreBytes : List ℕ → Type 0
-AreBytes s = (k : ℕ) → getD s k 0 < 256
 
 pub record BothWays : Type 0 where
   -- A right sheet holds a well-formed book, and is that book laid out.

@@ -3,6 +3,7 @@ use Prim.Native.Nat.{ℕ}
 use mathlib.Core.List.{List, [], _∷_}
 use Rattle.octets.specs.Octets.{part}
 use Rattle.refusals.specs.Table.{numberOf}
+use Rattle.ledger_model.specs.Counts.{flagNumber}
 use Rattle.ledger_model.specs.Step.{Answer, gave, done, atRow, refused}
 use Rattle.ledger_sheet.specs.Sheet.{desksStart}
 use Rattle.ledger_sheet.specs.declared.Answer as sheet
@@ -13,6 +14,12 @@ use Rattle.ledger_sheet.specs.declared.ReportAnswer.{ReportAnswer}
 use Rattle.ledger_sheet.specs.declared.ReportAnswer.the-variants as Report
 use Rattle.ledger_sheet.specs.declared.GapAnswer.{GapAnswer}
 use Rattle.ledger_sheet.specs.declared.GapAnswer.the-variants as G
+use Rattle.ledger_sheet.specs.declared.StreamAnswer.{StreamAnswer}
+use Rattle.ledger_sheet.specs.declared.StreamAnswer.the-variants as S
+use Rattle.ledger_sheet.specs.declared.DeskAnswer.{DeskAnswer}
+use Rattle.ledger_sheet.specs.declared.DeskAnswer.the-variants as D
+use Rattle.ledger_sheet.specs.declared.UnsavedAnswer.{UnsavedAnswer}
+use Rattle.ledger_sheet.specs.declared.UnsavedAnswer.the-variants as U
 
 -- The cases of a call's answer, as the model's.
 abbrev pub answerOf : sheet.Answer → Answer
@@ -32,6 +39,19 @@ abbrev pub gapAnswerOf : GapAnswer → Answer
 gapAnswerOf G.Nothing = gave []
 gapAnswerOf (G.Gap number row) = gave (number ∷ row ∷ [])
 gapAnswerOf (G.Refused r) = refused (numberOf r)
+
+abbrev pub streamAnswerOf : StreamAnswer → Answer
+streamAnswerOf (S.Stream key first) = gave (key ∷ first ∷ [])
+streamAnswerOf (S.Refused r) = refused (numberOf r)
+
+abbrev pub deskAnswerOf : DeskAnswer → Answer
+deskAnswerOf D.Closed = gave []
+deskAnswerOf (D.Working row stale) = gave (row ∷ flagNumber stale ∷ [])
+deskAnswerOf (D.Refused r) = refused (numberOf r)
+
+abbrev pub unsavedAnswerOf : UnsavedAnswer → Answer
+unsavedAnswerOf (U.Unsaved ticks unticks) = gave (ticks ∷ unticks ∷ [])
+unsavedAnswerOf (U.Refused r) = refused (numberOf r)
 
 -- The bytes before the desks: the header, with the count of rows, and the rows.
 abbrev pub headerAndRows : List ℕ → List ℕ

@@ -4,6 +4,7 @@ pub mod Rows
 pub mod Bytes
 pub mod Layout
 pub mod BothWays
+pub mod Calls
 pub mod Sizes
 pub mod Demand3
 pub mod inner

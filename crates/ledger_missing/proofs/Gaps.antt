@@ -1,16 +1,17 @@
 -- The unticked positions that a scan of words finds, and the list that they make. Assumes nothing.
-use Prim.Native.Nat.{ℕ, zero, suc, _+_, _-_, _*_, _/_, _%_, _^_, _≤_, _<_}
-use native.Mathlib.Nat.{mod-lt, zero-lt-suc, lt-of-lt-of-le}
+use Prim.Native.Nat.{ℕ, zero, suc, _+_, _-_, _*_, _/_, _%_, _^_, _≤_, _<_, min}
+use native.Mathlib.Nat.{add-zero, div-one, pow-succ', div-div-eq-div-mul, min-zero, zero-min}
 use native.Mathlib.Numerals.{add-one}
 use native.Mathlib.Omega.{arith}
-use mathlib.Core.Bool.{Bool, true, false, not, cond, _&&_, true≢false}
-use mathlib.Core.List.{List, [], _∷_, map, map-map}
+use mathlib.Core.Bool.{Bool, true, false, not, cond, _&&_}
+use mathlib.Core.List.{List, [], _∷_, _++_, map, map-map, append-nil}
 use mathlib.Core.Path.{_≡_, refl, sym, ap, _∙_}
-use borrow.Author.Tests.{not-true, not-false, ltb-true, ltb-false}
-use lib.Count.{trailingZeros}
-use lib.Dec.{ltb}
-use lib.ListN.{length}
-use lib.Pow.{pow-pos, pow-mono}
+use borrow.Author.Tests.{ltb-true, ltb-false}
+use lib.Bits.{bitAnd, and-step, and-self}
+use lib.Count.{trailingZeros, under}
+use lib.Dec.{eqb, ltb}
+use lib.ListN.{length, set}
+use lib.Pow.{mod-pow-add}
 use lib.Seq.{sets, sets-eq}
 use Rattle.ledger_model.specs.Positions.{rowLength, size, anyTicked, missing}
 use Rattle.ledger_model.specs.Missing.{positionsOf}
@@ -22,74 +23,109 @@ use Rattle.ledger_sheet.specs.Sheet.{rowAt}
 use Rattle.ledger_layout.specs.Layout.{bookOf}
 use Rattle.ledger_layout.proofs.Readers.{row-read-on}
 use Rattle.ledger_layout.specs.Ticks.{tickedAt, ticksIn}
-use Rattle.ledger_layout.proofs.Scans.{lowest-fails, lowest-holds}
 use Rattle.ledger_counts.specs.inner.Counts.{pastHighest, numberAtPosition}
-use Rattle.ledger_counts.specs.inner.Words.{wordBits, bitOf, IsWord, TickedFrom}
+use Rattle.ledger_counts.specs.inner.Words.{wordBits, bitOf, IsWord}
 use Rattle.ledger_counts.proofs.Highest.{Top, top-of}
 use Rattle.ledger_counts.proofs.Missing.{missing-count, after-first, ticked-after}
 use Rattle.ledger_counts.proofs.Reports.{row-count}
-use Rattle.ledger_counts.proofs.Starts.{shifted, some-one}
-use Rattle.ledger_counts.proofs.WordCounts.{bit-above, not-bit, trailing-lowest}
+use Rattle.ledger_counts.proofs.WordCounts.{not-bit}
 use Rattle.ledger_missing.specs.Missing.{fills, missingOf}
-use Rattle.ledger_missing.specs.inner.Gaps.{NextGap, except, gapsIn}
+use Rattle.ledger_missing.specs.inner.Gaps.{except, gapsIn, numbersAt}
 
--- ---- a word of ticks, from the position `at` in it on
+-- ---- the ones of a word
 
-module _ (s : List ℕ) (a at w : ℕ) (word : IsWord s a (at / wordBits) w) (fits : w < 2 ^ wordBits) where
-  abbrev down : ℕ
-  down = at % wordBits
+module _ (f : ℕ → ℕ) (n x : ℕ) where
+  abbrev next : ℕ → ℕ
+  next i = f (suc i)
 
-  abbrev unticked : ℕ
-  unticked = (2 ^ wordBits - 1 - w) / 2 ^ down
+  ones-odd : x % 2 ≡ 1 → numbersAt f (suc n) x ≡ f 0 ∷ numbersAt next n (x / 2)
+  unfolding numbersAt
+  ones-odd e = rw e
 
-  pub within : down < wordBits
-  within = mod-lt at (zero-lt-suc 63)
+  ones-even : x % 2 ≡ 0 → numbersAt f (suc n) x ≡ numbersAt next n (x / 2)
+  unfolding numbersAt
+  ones-even e = rw e
 
-  -- bit i of the word shifted down is position at + i, up to the word's end
-  bit : (i : ℕ) → down + i < wordBits → bitOf unticked i ≡ not (tickedAt s a (at + i))
-  bit i l =
-      let here : wordBits * (at / wordBits) + (down + i) ≡ at + i = omega arith in
-      rw (← shifted (2 ^ wordBits - 1 - w) down i) (not-bit wordBits w (down + i) fits l ∙ ap not (rw here at (word (down + i) l)))
+ones-double : (f : ℕ → ℕ) (n z : ℕ) → numbersAt f (suc n) (z * 2) ≡ numbersAt (λ i. f (suc i)) n z
+ones-double f n z = let half : z * 2 / 2 ≡ z = omega arith in ones-even f n (z * 2) (omega arith) ∙ rw half refl
 
-  -- past it there is none
-  bit-past : (i : ℕ) → wordBits ≤ down + i → bitOf unticked i ≡ false
-  bit-past i l =
-      let small : 2 ^ wordBits - 1 - w < 2 ^ wordBits = omega arith in
-      rw (← shifted (2 ^ wordBits - 1 - w) down i) (bit-above (2 ^ wordBits - 1 - w) (down + i) (lt-of-lt-of-le small (pow-mono l)))
+pub ones-none : (f : ℕ → ℕ) (n : ℕ) → numbersAt f n 0 ≡ []
+unfolding numbersAt
+ones-none f zero = refl
+ones-none f (suc n) = ones-none (λ i. f (suc i)) n
 
-  -- with no bit left, every position up to the word's end is ticked
-  pub none-left : unticked ≡ 0 → TickedFrom s a at (wordBits * (at / wordBits + 1))
-  none-left e k h l =
-      let here : at + (k - at) ≡ k = omega arith in
-      let none : bitOf unticked (k - at) ≡ false = rw e (bit-above 0 (k - at) (pow-pos (k - at))) in
-      rw here at (not-false (tickedAt s a (at + (k - at))) (sym (bit (k - at) (omega arith)) ∙ none))
+-- x & (x - 1): of an odd number, and of an even one
+and-odd : (x : ℕ) → x % 2 ≡ 1 → bitAnd x (x - 1) ≡ x / 2 * 2
+and-odd x e =
+    let half : (x - 1) / 2 ≡ x / 2 = omega arith in
+    let low : (x - 1) % 2 ≡ 0 = omega arith in
+    and-step x (x - 1) ∙ rw (half, low, and-self, min-zero, add-zero) refl
 
-  -- and else the lowest bit is the next unticked position
-  abbrev low : ℕ
-  low = trailingZeros wordBits unticked
+and-even : (x : ℕ) → x % 2 ≡ 0 → bitAnd x (x - 1) ≡ bitAnd (x / 2) (x / 2 - 1) * 2
+and-even x e =
+    let half : (x - 1) / 2 ≡ x / 2 - 1 = omega arith in
+    and-step x (x - 1) ∙ rw (half, e, zero-min, add-zero) refl
 
-  low-holds : (unticked ≡ 0 → ⊥) → unticked < 2 ^ wordBits → bitOf unticked low ≡ true
-  low-holds n l =
-      let low-is = trailing-lowest wordBits unticked in
-      let some = some-one wordBits unticked l n in
-      rw low-is (lowest-holds wordBits (bitOf unticked) (omega arith))
+-- the lowest one comes first, and x & (x - 1) has the others
+pub lowest-first : (f : ℕ → ℕ) (n x : ℕ) → (x ≡ 0 → ⊥) → x < 2 ^ n → numbersAt f n x ≡ f (trailingZeros n x) ∷ numbersAt f n (bitAnd x (x - 1))
+unfolding trailingZeros
+lowest-first f zero x some l = absurd (some (omega arith))
+lowest-first f (suc n) x some l =
+    by (x % 2) refl (λ e. lowest-first (λ i. f (suc i)) n (x / 2) (λ z. some (omega arith)) (omega (arith, pow-succ' 2 n)))
+  where
+    by : (d : ℕ) → x % 2 ≡ d
+        → (x % 2 ≡ 0 → numbersAt (λ i. f (suc i)) n (x / 2) ≡ f (suc (trailingZeros n (x / 2))) ∷ numbersAt (λ i. f (suc i)) n (bitAnd (x / 2) (x / 2 - 1)))
+        → numbersAt f (suc n) x ≡ f (under (x % 2) (trailingZeros n (x / 2))) ∷ numbersAt f (suc n) (bitAnd x (x - 1))
+    by zero e rest =
+        let others = ap (numbersAt f (suc n)) (and-even x e) ∙ ones-double f n (bitAnd (x / 2) (x / 2 - 1)) in
+        ones-even f n x e ∙ rest e ∙ rw (e, others) refl
+    by (suc zero) e rest =
+        let others = ap (numbersAt f (suc n)) (and-odd x e) ∙ ones-double f n (x / 2) in
+        ones-odd f n x e ∙ rw (e, others) refl
+    by (suc (suc d)) e rest = absurd (omega arith)
 
-  low-within : (unticked ≡ 0 → ⊥) → unticked < 2 ^ wordBits → down + low < wordBits
-  low-within n l = by (ltb (down + low) wordBits) refl
-    where
-      by : (f : Bool) → ltb (down + low) wordBits ≡ f → down + low < wordBits
-      by true q = ltb-true (down + low) wordBits q
-      by false q = absurd (true≢false (sym (low-holds n l) ∙ bit-past low (ltb-false (down + low) wordBits q)))
+-- the bits of a number's lower part, and of its half
+bit-half : (x j : ℕ) → bitOf x (suc j) ≡ bitOf (x / 2) j
+bit-half x j = rw (pow-succ', ← div-div-eq-div-mul)
 
-  pub low-unticked : (unticked ≡ 0 → ⊥) → unticked < 2 ^ wordBits → tickedAt s a (at + low) ≡ false
-  low-unticked n l = not-true _ (sym (bit low (low-within n l)) ∙ low-holds n l)
+pub bit-below : (x m j : ℕ) → j < m → bitOf (x % 2 ^ m) j ≡ bitOf x j
+bit-below x zero j l = absurd (omega arith)
+bit-below x (suc m) zero l =
+    let parts = rw add-one at (mod-pow-add x m 1) in
+    let low : x % 2 ^ suc m % 2 ≡ x % 2 = omega (arith, parts) in
+    rw (div-one, div-one, low) refl
+bit-below x (suc m) (suc j) l =
+    let parts = rw add-one at (mod-pow-add x m 1) in
+    let half : x % 2 ^ suc m / 2 ≡ x / 2 % 2 ^ m = omega (arith, parts) in
+    bit-half (x % 2 ^ suc m) j ∙ rw half (bit-below (x / 2) m j (omega arith)) ∙ sym (bit-half x j)
 
-  pub low-ticked : (unticked ≡ 0 → ⊥) → unticked < 2 ^ wordBits → TickedFrom s a at (at + low)
-  low-ticked n l k h q =
-      let here : at + (k - at) ≡ k = omega arith in
-      let low-is = trailing-lowest wordBits unticked in
-      let inside = low-within n l in
-      rw here at (not-false (tickedAt s a (at + (k - at))) (sym (bit (k - at) (omega arith)) ∙ lowest-fails wordBits (bitOf unticked) (k - at) (omega arith)))
+-- where bit j is set just where p does not hold of i + j, they are the numbers that p leaves out
+pub ones-except : (p : ℕ → Bool) (g f : ℕ → ℕ) (n m i x : ℕ) → m ≤ n → x < 2 ^ m → ((j : ℕ) → j < m → bitOf x j ≡ not (p (i + j)))
+    → ((j : ℕ) → f j ≡ g (i + j)) → numbersAt f n x ≡ except p g i m
+unfolding except numbersAt
+ones-except p g f n zero i x few l bits same = let none : x ≡ 0 = omega arith in rw none (ones-none f n)
+ones-except p g f zero (suc m) i x few l bits same = absurd (omega arith)
+ones-except p g f (suc n) (suc m) i x few l bits same =
+    by (p i) refl
+    (ones-except p g (λ j. f (suc j)) n m (suc i) (x / 2) (omega arith) (omega (arith, pow-succ' 2 m))
+    (λ j q. sym (bit-half x j) ∙ bits (suc j) (omega arith) ∙ rw (up j) refl) (λ j. same (suc j) ∙ rw (up j) refl))
+  where
+    up : (j : ℕ) → i + suc j ≡ suc i + j
+    up j = omega arith
+
+    here : i + 0 ≡ i
+    here = omega arith
+
+    low : eqb (x % 2) 1 ≡ not (p i)
+    low = rw (div-one, here) at (bits 0 (omega arith))
+
+    first : f 0 ≡ g i
+    first = rw here at (same 0)
+
+    by : (b : Bool) → p i ≡ b → numbersAt (λ j. f (suc j)) n (x / 2) ≡ except p g (suc i) m
+        → numbersAt f (suc n) x ≡ cond (p i) (except p g (suc i) m) (g i ∷ except p g (suc i) m)
+    by true e rest = rw (low, e) rest
+    by false e rest = rw (low, e, first) (ap (λ (l : List ℕ). g i ∷ l) rest)
 
 -- ---- lists of the numbers of which a test does not hold
 
@@ -97,22 +133,6 @@ module _ (p : ℕ → Bool) (f : ℕ → ℕ) where
   pub except-none : (i : ℕ) → except p f i 0 ≡ []
   unfolding except
   except-none i = refl
-
-  -- one that it does not hold of
-  pub except-here : (i n : ℕ) → 0 < n → p i ≡ false → except p f i n ≡ f i ∷ except p f (i + 1) (n - 1)
-  unfolding except
-  except-here i zero l e = absurd (omega arith)
-  except-here i (suc n) l e = let k : suc n - 1 ≡ n = omega arith in rw (e, k, add-one)
-
-  -- k that it holds of
-  pub except-skip : (k i n : ℕ) → k ≤ n → ((j : ℕ) → i ≤ j → j < i + k → p j ≡ true) → except p f i n ≡ except p f (i + k) (n - k)
-  unfolding except
-  except-skip zero i n l h = let e : n - 0 ≡ n = omega arith in let d : i + 0 ≡ i = omega arith in rw (e, d)
-  except-skip (suc k) i zero l h = absurd (omega arith)
-  except-skip (suc k) i (suc n) l h =
-      let e : suc n - suc k ≡ n - k = omega arith in
-      let d : i + suc k ≡ suc i + k = omega arith in
-      rw (h i (omega arith) (omega arith), e, d) (except-skip k (suc i) n (omega arith) (λ j g q. h j (omega arith) (omega arith)))
 
 -- the same of the numbers one up
 except-up : (p : ℕ → Bool) (f : ℕ → ℕ) (i n : ℕ) → except (λ j. p (suc j)) (λ j. f (suc j)) i n ≡ except p f (suc i) n
@@ -167,24 +187,60 @@ module _ (s : List ℕ) (a : ℕ) where
 pub missing-is : (s : List ℕ) (i : ℕ) → isFree (place (bookOf s) i) ≡ false → missingOf s i ≡ missingAt s (rowAt i)
 missing-is s i f = ap missingNumbers (row-read-on s i f)
 
--- ---- the gaps from a position on
+-- ---- the gaps, word by word
 
-module _ (s : List ℕ) (a end : ℕ) where
-  pub gaps-next : (from r : ℕ) → NextGap s a from end r → gapsIn s a from (end - from) ≡ gapsIn s a r (end - r)
-  gaps-next from r n =
-      let past = n .past in
-      let within = n .within in
-      let up : from + (r - from) ≡ r = omega arith in
-      let left : end - from - (r - from) ≡ end - r = omega arith in
-      rw (up, left) at (except-skip (tickedAt s a) (numberAtPosition s a) (r - from) from (end - from) (omega arith) (λ j h l. n .ticked j h (omega arith)))
+except-split : (p : ℕ → Bool) (f : ℕ → ℕ) (m n i : ℕ) → except p f i (m + n) ≡ except p f i m ++ except p f (i + m) n
+unfolding except
+except-split p f zero n i = let none : 0 + n ≡ n = omega arith in let here : i + 0 ≡ i = omega arith in rw (none, here) refl
+except-split p f (suc m) n i = by (p i) refl (rw up (except-split p f m n (suc i)))
+  where
+    up : i + suc m ≡ suc i + m
+    up = omega arith
 
-  pub gaps-here : (at : ℕ) → at < end → tickedAt s a at ≡ false
-      → gapsIn s a at (end - at) ≡ numberAtPosition s a at ∷ gapsIn s a (at + 1) (end - (at + 1))
-  gaps-here at l e =
-      let left : end - at - 1 ≡ end - (at + 1) = omega arith in
-      rw left at (except-here (tickedAt s a) (numberAtPosition s a) at (end - at) (omega arith) e)
+    by : (b : Bool) → p i ≡ b → except p f (suc i) (m + n) ≡ except p f (suc i) m ++ except p f (i + suc m) n
+        → except p f i (suc m + n) ≡ cond (p i) (except p f (suc i) m) (f i ∷ except p f (suc i) m) ++ except p f (i + suc m) n
+    by true e rest = let more : suc m + n ≡ suc (m + n) = omega arith in rw (more, e) rest
+    by false e rest = let more : suc m + n ≡ suc (m + n) = omega arith in rw (more, e) (ap (λ (l : List ℕ). f i ∷ l) rest)
+
+-- those of a word's positions and those behind
+pub gaps-word : (s : List ℕ) (a end k : ℕ) → wordBits * k < end
+    → gapsIn s a (wordBits * k) (end - wordBits * k)
+    ≡ gapsIn s a (wordBits * k) (min wordBits (end - wordBits * k)) ++ gapsIn s a (wordBits * (k + 1)) (end - wordBits * (k + 1))
+gaps-word s a end k l = by (ltb (end - wordBits * k) wordBits) refl
+  where
+    left : ℕ
+    left = end - wordBits * k
+
+    by : (b : Bool) → ltb (end - wordBits * k) wordBits ≡ b
+        → gapsIn s a (wordBits * k) (end - wordBits * k)
+        ≡ gapsIn s a (wordBits * k) (min wordBits (end - wordBits * k)) ++ gapsIn s a (wordBits * (k + 1)) (end - wordBits * (k + 1))
+    by true e =
+        let few = ltb-true (end - wordBits * k) wordBits e in
+        let least : min wordBits (end - wordBits * k) ≡ end - wordBits * k = omega arith in
+        let none : end - wordBits * (k + 1) ≡ 0 = omega arith in
+        rw (least, none, except-none (tickedAt s a) (numberAtPosition s a) (wordBits * (k + 1))) (sym (append-nil (gapsIn s a (wordBits * k) (end - wordBits * k))))
+    by false e =
+        let many = ltb-false (end - wordBits * k) wordBits e in
+        let least : min wordBits (end - wordBits * k) ≡ wordBits = omega arith in
+        let whole : end - wordBits * k ≡ wordBits + (end - wordBits * (k + 1)) = omega arith in
+        let up : wordBits * k + wordBits ≡ wordBits * (k + 1) = omega arith in
+        rw least (ap (gapsIn s a (wordBits * k)) whole ∙ rw up at (except-split (tickedAt s a) (numberAtPosition s a) wordBits (end - wordBits * (k + 1)) (wordBits * k)))
+
+-- the word of unticked positions has the numbers at the gaps
+pub word-gaps : (s : List ℕ) (a k m w x : ℕ) → IsWord s a k w → w < 2 ^ wordBits → m ≤ wordBits → x < 2 ^ m
+    → ((j : ℕ) → j < m → bitOf x j ≡ bitOf (2 ^ wordBits - 1 - w) j)
+    → numbersAt (λ i. numberAtPosition s a (wordBits * k + i)) wordBits x ≡ gapsIn s a (wordBits * k) m
+word-gaps s a k m w x word fits few l bits =
+    ones-except (tickedAt s a) (numberAtPosition s a) (λ i. numberAtPosition s a (wordBits * k + i)) wordBits m (wordBits * k) x few l
+    (λ j q. bits j q ∙ not-bit wordBits w j fits (omega arith) ∙ ap not (word j (omega arith))) (λ j. refl)
 
 -- ---- stored one after the other
+
+pub sets-append : (xs ys l : List ℕ) (c : ℕ) → sets l c (xs ++ ys) ≡ sets (sets l c xs) (c + length xs) ys
+sets-append [] ys l c = let here : c + 0 ≡ c = omega arith in rw here refl
+sets-append (x ∷ xs) ys l c =
+    let up : c + length (x ∷ xs) ≡ suc c + length xs = omega arith in
+    rw up (sets-append xs ys (set l c x) (suc c))
 
 pub sets-fill : (xs old : List ℕ) → length xs ≤ length old → sets old 0 xs ≡ fills xs old
 sets-fill xs old l = let up : 0 + length xs ≡ length xs = omega arith in sets-eq xs old 0 (omega arith) ∙ rw up refl

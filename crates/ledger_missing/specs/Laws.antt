@@ -12,7 +12,7 @@ use Rattle.ledger_model.specs.Step.{Ask, RowReport}
 use Rattle.ledger_model.specs.Missing.{mostMissing}
 use Rattle.ledger_sheet.specs.Sheet.{right}
 use Rattle.ledger_layout.specs.Layout.{bookOf, call, onSheet}
-use Rattle.ledger_layout.specs.BothWays.{AreBytes}
+use Rattle.octets.specs.Octets.{AreBytes}
 use Rattle.ledger_missing.specs.Missing.{missingOf, missingOn}
 
 -- Of a row of a right sheet.

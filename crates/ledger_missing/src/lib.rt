@@ -7,16 +7,18 @@ use ledger_sheet::right;
 use refusals::Refusal;
 ghost use mathlib.Core.Path.{_≡_};
 ghost use mathlib.Core.Bool.{false};
-ghost use Prim.Native.Nat.{_+_, _≤_};
+ghost use Prim.Native.Nat.{_+_, _-_, _*_, _≤_, _<_, min};
 ghost use lib.ListN.{length};
 ghost use lib.Seq.{sets};
-ghost use Rattle.ledger_model.specs.Positions.{rowLength};
+ghost use Rattle.ledger_model.specs.Positions.{rowLength, positionNumber};
 ghost use Rattle.ledger_model.specs.Book.{place, isFree};
 ghost use Rattle.ledger_sheet.specs.Sheet.{rowSize};
 ghost use Rattle.ledger_layout.specs.Layout.{bookOf};
 ghost use Rattle.ledger_layout.specs.inner.Rules.{IsSheet};
 ghost use Rattle.ledger_missing.specs.Missing.{missingWords, missingOf, missingOn};
-ghost use Rattle.ledger_missing.specs.inner.Gaps.{NextGap, gapsIn, listed};
+ghost use Rattle.ledger_counts.specs.inner.Words.{wordBits};
+ghost use Rattle.ledger_counts.specs.inner.Counts.{numberAtPosition};
+ghost use Rattle.ledger_missing.specs.inner.Gaps.{gapsIn, numbersAt, Stored, listed};
 
 // How many numbers are missing, or a refusal.
 pub enum MissingAnswer {
@@ -24,38 +26,50 @@ pub enum MissingAnswer {
     Refused(Refusal),
 }
 
-// The lowest unticked position from `from` on, below `end`, of the row at offset a; or end. It goes by words of 64 positions.
-fn next_unticked(s: &[u8], a: usize, from: usize, end: usize) -> usize
-    requires { ⌜ (a + rowSize ≤ length (now s)) × (from ≤ end) × (end ≤ rowLength) ⌝ }
-    ensures { λ r. ⌜ NextGap (now (s .entry)) a from end r ⌝ }
+// The unticked positions below `end` of word k of the row at offset a: bit i of it is position 64 k + i.
+fn unticked_word(s: &[u8], a: usize, k: usize, end: usize) -> u64
+    requires { ⌜ (a + rowSize ≤ length (now s)) × (wordBits * k < end) × (end ≤ rowLength) ⌝ }
+    ensures { λ r. ⌜ numbersAt (λ i. numberAtPosition (now (s .entry)) a (wordBits * k + i)) wordBits r
+        ≡ gapsIn (now (s .entry)) a (wordBits * k) (min wordBits (end - wordBits * k)) ⌝ }
 {
-    let mut at = from;
-    while at < end {
-        let k = at / counts::WORD_BITS;
-        let unticked = !counts::tick_word(s, a, k) >> (at % counts::WORD_BITS);
-        if unticked != 0 {
-            let gap = at + u64::trailing_zeros(unticked) as usize;
-            if gap < end {
-                return gap;
-            }
-            return end;
-        }
-        at = counts::WORD_BITS * (k + 1);
+    let unticked = !counts::tick_word(s, a, k);
+    let left = end - counts::WORD_BITS * k;
+    if left < counts::WORD_BITS {
+        return unticked % (1u64 << left);
     }
-    end
+    unticked
 }
 
-// The numbers at the unticked positions below `end` of the row at offset a go to the start of the list.
+// The numbers at the positions `base` + i, for each bit i of a word, go to the list from index `from` on. Answers the index past them.
+fn put_word(list: &mut [u32], from: usize, key: u64, first: u32, base: usize, word: u64) -> usize
+    requires { ⌜ (base + wordBits ≤ rowLength)
+        × (from + length (numbersAt (λ i. positionNumber key first (base + i)) wordBits word) ≤ length (now list)) ⌝ }
+    ensures { λ r. ⌜ Stored (now (list .entry)) from (numbersAt (λ i. positionNumber key first (base + i)) wordBits word) (now (list .exit)) r ⌝ }
+{
+    let mut left = word;
+    let mut at = from;
+    while left != 0 {
+        let i = base + u64::trailing_zeros(left) as usize;
+        list[at] = ledger_model::number_at(key, first, i as u32);
+        at += 1;
+        left &= left - 1;
+    }
+    at
+}
+
+// The numbers at the unticked positions below `end` of the row at offset a go to the start of the list, word by word.
 fn put_gaps(s: &[u8], a: usize, end: usize, list: &mut [u32])
     requires { ⌜ (a + rowSize ≤ length (now s)) × (end ≤ rowLength) × (length (gapsIn (now s) a 0 end) ≤ length (now list)) ⌝ }
     ensures { λ _. ⌜ now (list .exit) ≡ sets (now (list .entry)) 0 (gapsIn (now (s .entry)) a 0 end) ⌝ }
 {
-    let mut count = 0;
-    let mut at = next_unticked(s, a, 0, end);
-    while at < end {
-        list[count] = counts::number_in(s, a, at);
-        count += 1;
-        at = next_unticked(s, a, at + 1, end);
+    let key = right::key_at(s, a);
+    let first = right::first_at(s, a);
+    let mut at = 0;
+    let mut k = 0;
+    while counts::WORD_BITS * k < end {
+        let word = unticked_word(s, a, k, end);
+        at = put_word(list, at, key, first, counts::WORD_BITS * k, word);
+        k += 1;
     }
 }
 

@@ -4,40 +4,17 @@ use native.Mathlib.Nat.{zero-lt-suc}
 use native.Mathlib.Decide.{ℕ-discrete}
 use mathlib.Core.Path.{_≡_, refl, sym, ap, _∙_}
 use mathlib.Core.Logic.{_≢_}
-use mathlib.Core.Bool.{Bool, true, false, cond, Bool·beq, _&&_, _||_, true≢false, false≢true}
+use mathlib.Core.Bool.{true, false, true≢false, false≢true, or-true}
 use mathlib.Core.List.{List, [], _∷_}
 use lib.Dec.{eqb}
 use lib.ListN.{getD, set, length, replicate}
 use lib.Seq.{getD-set-same, getD-set-other, set-getD}
 use borrow.Author.Tests.{ltb-true, eqb-false, eq-eqb}
+use Rattle.laws.proofs.Bools.{and-split, or-neither, beq-true}
 use Rattle.ledger_model.specs.Positions.{Positions, same}
 use Rattle.ledger_model.specs.Book.{Place, free, row, Desk, closed, working, isFree, isDesk, allUsed, lowestFree, anyHasOpen}
 
 -- ---- tests
-
--- A property of both outcomes of a test, each with the test's value at hand.
-pub by-test {ℓ κ} : {A : Type ℓ} (P : A → Type κ) (t : Bool) {x y : A} → (t ≡ true → P x) → (t ≡ false → P y) → P (cond t x y)
-by-test P true f g = f refl
-by-test P false f g = g refl
-
--- What holds in both cases of a test holds.
-pub by-bool {κ} : {P : Type κ} (t : Bool) → (t ≡ true → P) → (t ≡ false → P) → P
-by-bool true f g = f refl
-by-bool false f g = g refl
-
-pub beq-true : (x y : Bool) → Bool·beq x y ≡ true → x ≡ y
-beq-true true true e = refl
-beq-true true false e = sym e
-beq-true false true e = e
-beq-true false false e = refl
-
-pub or-false : (x y : Bool) → (x || y) ≡ false → (x ≡ false) × (y ≡ false)
-or-false true y e = (e, cc)
-or-false false y e = (refl, e)
-
-pub and-true : (x y : Bool) → (x && y) ≡ true → (x ≡ true) × (y ≡ true)
-and-true true y e = (refl, e)
-and-true false y e = (e, cc)
 
 -- ---- sets are the same exactly when the test says so
 
@@ -46,7 +23,7 @@ unfolding same
 same-true [] [] e = refl
 same-true [] (y ∷ t) e = cc
 same-true (x ∷ s) [] e = cc
-same-true (x ∷ s) (y ∷ t) e = let h = and-true _ _ e in cc (beq-true x y (h .0), same-true s t (h .1))
+same-true (x ∷ s) (y ∷ t) e = let h = and-split _ _ e in cc (beq-true x y (h .0), same-true s t (h .1))
 
 pub same-refl : (s : Positions) → same s s ≡ true
 unfolding same
@@ -102,8 +79,8 @@ unfolding anyHasOpen
 not-open [] r d q opened worked n e p = false≢true cc
 not-open (closed ∷ xs) r zero q opened worked n e p = false≢true cc
 not-open (closed ∷ xs) r (suc d) q opened worked n e p = not-open xs r d q opened worked n e p
-not-open (working q′ o′ w′ ∷ xs) r zero q opened worked n e p = let s : q′ ≡ r = cc in eqb-false q′ r (or-false _ _ n .0) s
-not-open (working q′ o′ w′ ∷ xs) r (suc d) q opened worked n e p = not-open xs r d q opened worked (or-false (eqb q′ r) _ n .1) e p
+not-open (working q′ o′ w′ ∷ xs) r zero q opened worked n e p = let s : q′ ≡ r = cc in eqb-false q′ r (or-neither _ _ n .0) s
+not-open (working q′ o′ w′ ∷ xs) r (suc d) q opened worked n e p = not-open xs r d q opened worked (or-neither (eqb q′ r) _ n .1) e p
 
 pub has-open : (xs : List Desk) (d r : ℕ) (opened worked : Positions) → getD xs d closed ≡ working r opened worked → anyHasOpen r xs ≡ true
 unfolding anyHasOpen
@@ -112,10 +89,6 @@ has-open (closed ∷ xs) zero r opened worked e = cc
 has-open (closed ∷ xs) (suc d) r opened worked e = has-open xs d r opened worked e
 has-open (working q o w ∷ xs) zero r opened worked e = let p : q ≡ r = cc in rw (eq-eqb q r p)
 has-open (working q o w ∷ xs) (suc d) r opened worked e = rw (has-open xs d r opened worked e) (or-true (eqb q r))
-  where
-    or-true : (x : Bool) → (x || true) ≡ true
-    or-true true = refl
-    or-true false = refl
 
 -- ---- lists with one element put
 

@@ -8,10 +8,10 @@ use mathlib.Core.Bool.{Bool, true, false, not, _&&_, false≢true}
 use mathlib.Core.Option.{Option, none, some, Option·map, Option·none-ne-some}
 use mathlib.Core.List.{List, [], _∷_}
 use lib.ListN.{length, getD, set}
+use Rattle.laws.proofs.Bools.{and-split}
 use Rattle.ledger_model.specs.Positions.{Positions, has, size, anyTicked, missing, least, positionNumber}
 use Rattle.ledger_model.specs.Book.{Place, free, row}
 use Rattle.ledger_model.specs.Counts.{gapOr, firstGapFrom}
-use Rattle.ledger_model.proofs.Basics.{and-true}
 
 -- ---- bounds
 
@@ -71,14 +71,14 @@ not-ticked false e = refl
 pub missing-unticked : (s : Positions) (i : ℕ) → has (missing s) i ≡ true → has s i ≡ false
 unfolding missing
 missing-unticked [] i e = cc
-missing-unticked (x ∷ s) zero e = not-ticked x (and-true (not x) (anyTicked s) e .0)
+missing-unticked (x ∷ s) zero e = not-ticked x (and-split (not x) (anyTicked s) e .0)
 missing-unticked (x ∷ s) (suc i) e = missing-unticked s i e
 
 pub missing-below : (s : Positions) (i : ℕ) → has (missing s) i ≡ true → TickedAbove s i
 unfolding missing
 missing-below [] i e = absurd (false≢true e)
 missing-below (x ∷ s) zero e =
-    let k = ticked-any s (and-true (not x) (anyTicked s) e .1) in
+    let k = ticked-any s (and-split (not x) (anyTicked s) e .1) in
     record { higher = suc (k .where-at); above = zero-lt-suc _; ticked = k .is-ticked }
 missing-below (x ∷ s) (suc i) e =
     let k = missing-below s i e in record { higher = suc (k .higher); above = suc-le-suc (k .above); ticked = k .ticked }

@@ -9,11 +9,11 @@ use mathlib.Core.List.{List, [], _∷_, _++_, append-assoc, append-nil, List·Me
 use lib.Dec.{eqb}
 use lib.Seq.{append-snoc}
 use borrow.Author.Tests.{eq-eqb}
+use Rattle.laws.proofs.Bools.{by-test}
 use Rattle.ledger_model.specs.Lists.{only}
 use Rattle.ledger_model.specs.Step.{Enrol, Ask, Open, Mark, Save, Drop, Strike, Answer, gave, refused, accepted, Entry, _⇒_, callOf}
 use Rattle.ledger_model.specs.History.{noted, transactionFrom, transaction, marks, marksOf, kept, serialFrom, serial, isResult, results}
 use Rattle.ledger_model.specs.Stale.{openedBy, later, lastOpened, LastOpen}
-use Rattle.ledger_model.proofs.Basics.{by-test}
 
 -- ---- the entries
 

@@ -10,6 +10,7 @@ use lib.Dec.{eqb}
 use lib.ListN.{getD, set}
 use lib.Seq.{getD-set-same, getD-set-other, append-snoc}
 use borrow.Author.Tests.{eq-eqb, ne-eqb, eqb-false}
+use Rattle.laws.proofs.Bools.{by-test, or-neither}
 use Rattle.ledger_model.specs.Positions.{rowLength, position, Positions, has, same}
 use Rattle.ledger_model.specs.Book.{Place, free, Desk, closed, working, Book, fresh, place, desk}
 use Rattle.ledger_model.specs.Book.{isFree, ticksOf, withTicks, positionAt}
@@ -21,7 +22,7 @@ use Rattle.ledger_model.specs.WellFormed.{WellFormed}
 use Rattle.ledger_model.specs.Tally.{strikes}
 use Rattle.ledger_model.specs.Missing.{missingNumbers}
 use Rattle.ledger_model.specs.Kept.{TickedIn, unticks, untickedIn, takesOut, takenOut, TickStays, TickedNotMissing}
-use Rattle.ledger_model.proofs.Basics.{by-test, or-false, same-true, row-in, row-not-free, has-row, not-open, put-all, idle-desk}
+use Rattle.ledger_model.proofs.Basics.{same-true, row-in, row-not-free, has-row, not-open, put-all, idle-desk}
 use Rattle.ledger_model.proofs.Outcome.{Outcome, refusal, enrolment, asking, opening, unopened, unmarked}
 use Rattle.ledger_model.proofs.Outcome.{marking, saving, stale, dropping, striking, outcome}
 use Rattle.ledger_model.proofs.WellFormed.{well-formed, fresh-well-formed, run-well-formed}
@@ -142,7 +143,7 @@ module _ (past : List Entry) (b : Book) (w : WellFormed b) (k : AllKept past b) 
       split : (n : ℕ) → untickedIn n (transaction d (past ++ (Mark flag d m ⇒ done) ∷ [])) ≡ false
           → (untickedIn n (transaction d past) ≡ false) × (unticks n (Mark flag d m ⇒ done) ≡ false)
       split n u =
-          or-false _ _
+          or-neither _ _
           (sym (unticked-snoc n (transaction d past) (Mark flag d m ⇒ done))
           ∙ (rw (transaction-snoc d [] past (Mark flag d m ⇒ done), eq-eqb d d refl) at u))
 
@@ -243,7 +244,7 @@ unfolding run takenOut
 stays-run [] past b w k r key first n t z = t
 stays-run (c ∷ calls) past b w k r key first n t z =
     let o = outcome c b in
-    let q = or-false _ _ z in
+    let q = or-neither _ _ z in
     stays-run calls _ _ (well-formed b w o) (all-kept past b w k o) r key first n (stays past b w k r key first n t o (q .0)) (q .1)
 
 pub tick-stays : TickStays

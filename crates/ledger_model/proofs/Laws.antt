@@ -12,6 +12,7 @@ use lib.Dec.{eqb}
 use lib.ListN.{length, getD, set}
 use lib.Seq.{getD-set-same, getD-set-other}
 use borrow.Author.Tests.{eqb-true, eqb-false, ltb-true, not-false}
+use Rattle.laws.proofs.Bools.{by-test}
 use Rattle.refusals.specs.Judge.{verdict, judge}
 use Rattle.keys.specs.Key.{validKey}
 use Rattle.keys.specs.Numbers.{isNumber}
@@ -22,7 +23,7 @@ use Rattle.ledger_model.specs.Step.{Find, RowReport, FirstGap, Call, Enr
 use Rattle.ledger_model.specs.Step.{gave, done, atRow, refused, answerWords, Reply, alreadySo, refusals, asked, effect, step, run}
 use Rattle.ledger_model.specs.Counts.{placeReport}
 use Rattle.ledger_model.specs.WellFormed.{WellFormed, PlaceOk, IsSet, keyOf}
-use Rattle.ledger_model.proofs.Basics.{by-test, row-in, has-open, HasRow, has-row, put-back}
+use Rattle.ledger_model.proofs.Basics.{row-in, has-open, HasRow, has-row, put-back}
 use Rattle.ledger_model.proofs.Steps.{markVerdict, save-step}
 use Rattle.ledger_model.proofs.Outcome.{Has, Outcome, refusal, unopened, unmarked, marking, striking, outcome}
 use Rattle.ledger_model.proofs.Counts.{size-missing, size-tick, size-untick, Gap, first-gap}

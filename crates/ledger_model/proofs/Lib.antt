@@ -13,3 +13,4 @@ pub mod Laws
 pub mod Tally
 pub mod Missing
 pub mod Kept
+pub mod Desks

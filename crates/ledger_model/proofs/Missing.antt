@@ -11,6 +11,7 @@ use mathlib.Core.List.{List·Memᴰ·cases-cons, Memᴰ·cast, Memᴰ·map, Mem�
 use lib.ListN.{length, take}
 use borrow.Author.Tests.{ltb-true, ltb-false}
 use lib.Dec.{ltb}
+use Rattle.laws.proofs.Bools.{by-bool}
 use Rattle.keys.specs.Key.{rsrStart}
 use Rattle.keys.specs.Numbers.{modulus, isNumber}
 use Rattle.keys.proofs.Numbers.{telemetry-modulus, rsr-modulus}
@@ -18,7 +19,6 @@ use Rattle.ledger_model.specs.Positions.{rowLength, position, positionNu
 use Rattle.ledger_model.specs.Book.{free, row}
 use Rattle.ledger_model.specs.Counts.{lowestNumber}
 use Rattle.ledger_model.specs.Missing.{positionsOf, missingNumbers, AsReported, ExactlyMissing, mostMissing, LongEnough}
-use Rattle.ledger_model.proofs.Basics.{by-bool}
 use Rattle.ledger_model.proofs.Numbers.{position-number, number-position, outside}
 use Rattle.ledger_model.proofs.Counts.{length-missing, size-missing}
 

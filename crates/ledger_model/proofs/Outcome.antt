@@ -6,6 +6,7 @@ use mathlib.Core.List.{List}
 use lib.Dec.{eqb}
 use lib.ListN.{set}
 use borrow.Author.Tests.{eqb-true, not-false}
+use Rattle.laws.proofs.Bools.{by-test, by-bool}
 use Rattle.refusals.specs.Judge.{judge, verdict}
 use Rattle.keys.specs.Key.{validKey}
 use Rattle.keys.specs.Numbers.{isNumber}
@@ -14,7 +15,7 @@ use Rattle.ledger_model.specs.Book.{free, row, Desk, closed, working, Bo
 use Rattle.ledger_model.specs.Book.{isFree, ticksOf, withTicks, isDesk, isOpen, hasKey, allUsed, lowestFree, anyHasOpen, positionAt}
 use Rattle.ledger_model.specs.Step.{Question, Call, Enrol, Ask, Open, Mark, Save, Drop, Strike, gave}
 use Rattle.ledger_model.specs.Step.{done, atRow, refused, Reply, reply, refusals, effect, afterRefusal, judged, step}
-use Rattle.ledger_model.proofs.Basics.{by-test, by-bool, Lowest, lowest, HasRow, has-row}
+use Rattle.ledger_model.proofs.Basics.{Lowest, lowest, HasRow, has-row}
 use Rattle.ledger_model.proofs.Steps.{markVerdict, mark-step, save-step, mark-closed, save-closed, mark-no-desk, save-no-desk}
 
 abbrev pub isMark : Call → Bool
@@ -69,9 +70,9 @@ by-desk {κ} : {P : Type κ} (x : Desk) → (x ≡ closed → P) → ((r : ℕ) 
 by-desk closed f g = f refl
 by-desk (working r opened worked) f g = g r opened worked refl
 
-is-closed : (x : Desk) → isOpen x ≡ false → x ≡ closed
-is-closed closed e = refl
-is-closed (working r opened worked) e = cc
+pub desk-closed : (x : Desk) → isOpen x ≡ false → x ≡ closed
+desk-closed closed e = refl
+desk-closed (working r opened worked) e = cc
 
 pub outcome : (c : Call) (b : Book) → Outcome b c (step c b)
 unfolding step refusals judge effect afterRefusal
@@ -89,7 +90,7 @@ outcome (Open d r) b =
     by-test P (not (isDesk d)) (λ _. refusal 21 refl) λ t.
     by-test P (isFree (place b r)) (λ _. refusal 25 refl) λ f.
     by-test P (isOpen (desk b d)) (λ _. refusal 26 refl) λ x.
-    at (not-false _ t) (has-row (place b r) f) (is-closed (desk b d) x)
+    at (not-false _ t) (has-row (place b r) f) (desk-closed (desk b d) x)
   where
     P : ℕ → Type 0
     P number = Outcome b (Open d r) (judged number (Open d r) b)

@@ -4,7 +4,7 @@ use native.Mathlib.Decide.{ℕ-discrete}
 use mathlib.Core.Path.{_≡_, refl, sym, ap, _∙_}
 use mathlib.Core.Logic.{_≢_}
 use mathlib.Core.Bool.{Bool, true, false, cond, _||_}
-use mathlib.Core.List.{List, [], _∷_, _++_}
+use mathlib.Core.List.{List, [], _∷_}
 use lib.Dec.{eqb}
 use lib.ListN.{getD, set}
 use lib.Seq.{getD-set-other, set-set, set-comm}
@@ -16,11 +16,12 @@ use Rattle.keys.specs.Numbers.{modulus}
 use Rattle.ledger_model.specs.Positions.{position, Positions, noTicks, same, size, missing, anyTicked, least}
 use Rattle.ledger_model.specs.Book.{Desk, closed, working, Book, fresh, desk, putPlace, putDesk}
 use Rattle.ledger_model.specs.Book.{isOpen, withWorked, openedOf, hasKey, allUsed, lowestFree, anyHasOpen}
-use Rattle.ledger_model.specs.Step.{Find, RowReport, FirstGap, Call, Enrol, Ask, Open, Mark, Save, Drop, Strike, gave}
-use Rattle.ledger_model.specs.Step.{done, atRow, Reply, reply, refusals, asked, effect, afterRefusal, step, Entry, _⇒_, run}
-use Rattle.ledger_model.specs.History.{marks}
-use Rattle.ledger_model.specs.Private.{saves, NoSave, unmarked, unmarkedLog, Alike, Privacy}
-use Rattle.ledger_model.proofs.Outcome.{Outcome, refusal, unopened, unmarked as not-marked, marking, outcome}
+use Rattle.ledger_model.specs.Counts.{deskState}
+use Rattle.ledger_model.specs.Step.{Question, Find, RowReport, FirstGap, RowStream, DeskState, Unsaved}
+use Rattle.ledger_model.specs.Step.{Call, Enrol, Ask, Open, Mark, Save, Drop, Strike}
+use Rattle.ledger_model.specs.Step.{Reply, reply, refusals, asked, effect, afterRefusal, step, run}
+use Rattle.ledger_model.specs.Private.{saves, NoSave, isOwn, withoutOwn, withoutOwnLog, Alike, Privacy, SaveShows}
+use Rattle.ledger_model.proofs.Outcome.{Outcome, refusal, asking, unopened, unmarked as not-marked, marking, outcome}
 
 -- ---- the book in which desk d has ticked and unticked nothing since its open
 
@@ -73,6 +74,18 @@ module _ (d : ℕ) (b : Book) where
       at (yes q) = rw (q, read-clean (b .desks) d) (clean-open (desk b d))
       at (no n) = rw (desk-other e n)
 
+  -- Of any desk, its row and whether a save would be stale.
+  state-any : (e : ℕ) → deskState (b .places) (desk (untouched d b) e) ≡ deskState (b .places) (desk b e)
+  state-any e = at (ℕ-discrete e d)
+    where
+      clean-state : (x : Desk) → deskState (b .places) (clean x) ≡ deskState (b .places) x
+      clean-state closed = refl
+      clean-state (working r opened worked) = refl
+
+      at : Dec (e ≡ d) → deskState (b .places) (desk (untouched d b) e) ≡ deskState (b .places) (desk b e)
+      at (yes q) = rw (q, read-clean (b .desks) d) (clean-state (desk b d))
+      at (no n) = rw (desk-other e n)
+
   put-any : (e : ℕ) (x : Desk) → clean x ≡ x → putDesk e x (untouched d b) ≡ untouched d (putDesk e x b)
   put-any e x c = at (ℕ-discrete e d)
     where
@@ -80,26 +93,32 @@ module _ (d : ℕ) (b : Book) where
       at (yes q) = rw (q, set-set (b .desks) d _ x, clean-put (b .desks) d x x c)
       at (no n) = put-other e x n
 
--- A call that is no tick, untick or save of desk d is refused alike, has the same effect, and leaves the same where it is refused.
+-- A call that is not desk d's own affair, nor its save, is refused alike, has the same effect, and leaves the same where it is refused.
 module _ (d : ℕ) (b : Book) where
-  refusals-alike : (c : Call) → marks d c ≡ false → saves d c ≡ false → refusals c (untouched d b) ≡ refusals c b
-  unfolding refusals marks saves
+  refusals-alike : (c : Call) → isOwn d c ≡ false → saves d c ≡ false → refusals c (untouched d b) ≡ refusals c b
+  unfolding refusals isOwn saves
   refusals-alike (Enrol key first) m s = refl
   refusals-alike (Ask (Find key)) m s = refl
   refusals-alike (Ask (RowReport r)) m s = refl
   refusals-alike (Ask FirstGap) m s = refl
+  refusals-alike (Ask (RowStream r)) m s = refl
+  refusals-alike (Ask (DeskState e)) m s = refl
+  refusals-alike (Ask (Unsaved e)) m s = rw (open-any d b e)
   refusals-alike (Open e r) m s = rw (open-any d b e)
   refusals-alike (Mark flag e n) m s = rw (desk-other d b e (eqb-false e d m))
   refusals-alike (Save e) m s = rw (desk-other d b e (eqb-false e d s))
   refusals-alike (Drop e) m s = rw (open-any d b e)
   refusals-alike (Strike r) m s = rw (clean-any (b .desks) d r)
 
-  effect-alike : (c : Call) → marks d c ≡ false → saves d c ≡ false → effect c (untouched d b) ≡ cleaned d (effect c b)
-  unfolding effect asked marks saves
+  effect-alike : (c : Call) → isOwn d c ≡ false → saves d c ≡ false → effect c (untouched d b) ≡ cleaned d (effect c b)
+  unfolding effect asked isOwn saves
   effect-alike (Enrol key first) m s = refl
   effect-alike (Ask (Find key)) m s = refl
   effect-alike (Ask (RowReport r)) m s = refl
   effect-alike (Ask FirstGap) m s = refl
+  effect-alike (Ask (RowStream r)) m s = refl
+  effect-alike (Ask (DeskState e)) m s = rw (state-any d b e)
+  effect-alike (Ask (Unsaved e)) m s = rw (desk-other d b e (eqb-false e d m))
   effect-alike (Open e r) m s = rw (put-any d b e _ refl)
   effect-alike (Mark flag e n) m s = let k = eqb-false e d m in rw (desk-other d b e k, put-other d b e _ k)
   effect-alike (Save e) m s = let k = eqb-false e d s in rw (desk-other d b e k, put-other d (putPlace _ _ b) e closed k)
@@ -120,7 +139,7 @@ module _ (d : ℕ) (b : Book) where
   after-alike number (Drop e) s = refl
   after-alike number (Strike r) s = refl
 
-  alike : (c : Call) → marks d c ≡ false → saves d c ≡ false → step c (untouched d b) ≡ cleaned d (step c b)
+  alike : (c : Call) → isOwn d c ≡ false → saves d c ≡ false → step c (untouched d b) ≡ cleaned d (step c b)
   unfolding step
   alike c m s = rw (refusals-alike c m s, effect-alike c m s, after-alike (verdict (refusals c b)) c s) (at (eqb (verdict (refusals c b)) 0) _ _)
     where
@@ -128,7 +147,14 @@ module _ (d : ℕ) (b : Book) where
       at true x y = refl
       at false x y = refl
 
-  -- A tick or an untick of desk d itself.
+  -- A question leaves the book; a tick or an untick of desk d itself leaves all but its worked set.
+  asking-stays : (q : Question) (c : Book) → step (Ask q) c .book ≡ c
+  asking-stays q c = at (outcome (Ask q) c)
+    where
+      at : {s : Reply} → Outcome c (Ask q) s → s .book ≡ c
+      at (refusal number m) = refl
+      at (asking words) = refl
+
   own-mark : {flag : Bool} {e n : ℕ} {s : Reply} → Outcome b (Mark flag e n) s → e ≡ d → untouched d (s .book) ≡ untouched d b
   own-mark (refusal number m) q = cc
   own-mark (unopened number f) q = refl
@@ -137,10 +163,15 @@ module _ (d : ℕ) (b : Book) where
       let marked = working r opened (set worked i flag) in
       rw q (ap (λ ds. record { places = b .places; desks = ds }) (clean-put (b .desks) d marked (clean (desk b d)) (sym (ap clean (rw q at (h .1))))))
 
-  own : (c : Call) → marks d c ≡ true → untouched d (step c b .book) ≡ untouched d b
-  unfolding marks
+  own : (c : Call) → isOwn d c ≡ true → untouched d (step c b .book) ≡ untouched d b
+  unfolding isOwn
   own (Enrol key first) m = cc
-  own (Ask q) m = cc
+  own (Ask (Find key)) m = cc
+  own (Ask (RowReport r)) m = cc
+  own (Ask FirstGap) m = cc
+  own (Ask (RowStream r)) m = cc
+  own (Ask (DeskState e)) m = cc
+  own (Ask (Unsaved e)) m = rw (asking-stays (Unsaved e) b)
   own (Open e r) m = cc
   own (Mark flag e n) m = own-mark (outcome (Mark flag e n) b) (eqb-true e d m)
   own (Save e) m = cc
@@ -160,17 +191,17 @@ no-save d c calls n = at (saves d c) n
 
 -- The run without desk d's ticks and unticks, from a book in which desk d made none.
 without : (d : ℕ) (calls : List Call) (b : Book) → NoSave d calls
-    → run (untouched d b) (unmarked d calls) ≡ record { log = unmarkedLog d (run b calls .log); book = untouched d (run b calls .book) }
+    → run (untouched d b) (withoutOwn d calls) ≡ record { log = withoutOwnLog d (run b calls .log); book = untouched d (run b calls .book) }
 unfolding run only
 without d [] b n = refl
-without d (c ∷ calls) b n = at (marks d c) refl (no-save d c calls n) (without d calls (step c b .book))
+without d (c ∷ calls) b n = at (isOwn d c) refl (no-save d c calls n) (without d calls (step c b .book))
   where
-    at : (t : Bool) → marks d c ≡ t → (saves d c ≡ false) × NoSave d calls
+    at : (t : Bool) → isOwn d c ≡ t → (saves d c ≡ false) × NoSave d calls
         → (NoSave d calls
-        → run (untouched d (step c b .book)) (unmarked d calls)
-        ≡ record { log = unmarkedLog d (run (step c b .book) calls .log); book = untouched d (run (step c b .book) calls .book) })
-        → run (untouched d b) (unmarked d (c ∷ calls))
-        ≡ record { log = unmarkedLog d (run b (c ∷ calls) .log); book = untouched d (run b (c ∷ calls) .book) }
+        → run (untouched d (step c b .book)) (withoutOwn d calls)
+        ≡ record { log = withoutOwnLog d (run (step c b .book) calls .log); book = untouched d (run (step c b .book) calls .book) })
+        → run (untouched d b) (withoutOwn d (c ∷ calls))
+        ≡ record { log = withoutOwnLog d (run b (c ∷ calls) .log); book = untouched d (run b (c ∷ calls) .book) }
     at true m k rest = rw (m, ← own d b c m) (rest (k .1))
     at false m k rest = rw (m, alike d b c m (k .0), rest (k .1))
 
@@ -196,15 +227,7 @@ model-private d xs ys k =
     record { answers-same = ap (λ r. r .log) both; books-alike = books-alike d _ _ (ap (λ r. r .book) both) }
 
 -- Where desk 0 saves, the tick is seen: that it makes no save is needed.
-abbrev shown : List Call → List Call
-shown ticks = Enrol 7 1 ∷ Open 0 0 ∷ (ticks ++ Save 0 ∷ Ask (RowReport 0) ∷ [])
-
-abbrev seen : (ticked : ℕ) → List Entry
-seen ticked = (Enrol 7 1 ⇒ atRow 0) ∷ (Open 0 0 ⇒ done) ∷ (Save 0 ⇒ done) ∷ (Ask (RowReport 0) ⇒ gave (ticked ∷ 0 ∷ [])) ∷ []
-
-pub save-shows : (unmarked 0 (shown (Mark true 0 1 ∷ [])) ≡ unmarked 0 (shown []))
-    × (unmarkedLog 0 (run fresh (shown (Mark true 0 1 ∷ [])) .log) ≡ seen 1)
-    × (unmarkedLog 0 (run fresh (shown []) .log) ≡ seen 0)
-unfolding only marks run step refusals judge effect asked afterRefusal validKey modulus position noTicks hasKey allUsed lowestFree same size missing
+pub save-shows : SaveShows
+unfolding only isOwn run step refusals judge effect asked afterRefusal validKey modulus position noTicks hasKey allUsed lowestFree same size missing
     anyTicked least
 save-shows = (refl, refl, refl)

@@ -9,13 +9,14 @@ use mathlib.Core.List.{List, [], _∷_, _++_, append-assoc, append-nil, map}
 use lib.ListN.{getD, set}
 use lib.Seq.{getD-set-other, append-snoc}
 use borrow.Author.Tests.{ne-eqb, eq-eqb}
+use Rattle.laws.proofs.Bools.{by-test}
 use Rattle.ledger_model.specs.Positions.{Positions, same}
 use Rattle.ledger_model.specs.Book.{Place, free, row, Desk, closed, working, Book, fresh, place, desk, ticksOf, withTicks, isDesk}
 use Rattle.ledger_model.specs.Step.{Call, Enrol, Ask, Open, Mark, Save, Drop, Strike, Answer, done}
 use Rattle.ledger_model.specs.Step.{refused, accepted, Reply, step, Entry, _⇒_, callOf, run, bookAfter}
 use Rattle.ledger_model.specs.Stale.{openedBy, later, lastOpened, LastOpen, Overtaken}
 use Rattle.ledger_model.specs.Claim.{AsOpened}
-use Rattle.ledger_model.proofs.Basics.{by-test, same-true, same-refl, not-open, put-all, idle-desk}
+use Rattle.ledger_model.proofs.Basics.{same-true, same-refl, not-open, put-all, idle-desk}
 use Rattle.ledger_model.proofs.Steps.{save-step}
 use Rattle.ledger_model.proofs.Outcome.{Outcome, refusal, enrolment, asking, opening, unopened, unmarked}
 use Rattle.ledger_model.proofs.Outcome.{marking, saving, stale, dropping, striking, outcome}

@@ -9,6 +9,7 @@ use mathlib.Core.List.{List, [], _∷_, _++_, map}
 use lib.Dec.{eqb}
 use lib.ListN.{length, getD, set, replicate, length-append, length-set}
 use borrow.Author.Tests.{eq-eqb, ne-eqb}
+use Rattle.laws.proofs.Bools.{by-test}
 use Rattle.refusals.specs.Judge.{judge}
 use Rattle.keys.specs.Key.{validKey}
 use Rattle.keys.specs.Numbers.{modulus}
@@ -23,7 +24,7 @@ use Rattle.ledger_model.specs.Stale.{openedBy, lastOpened}
 use Rattle.ledger_model.specs.WellFormed.{WellFormed}
 use Rattle.ledger_model.specs.Chain.{Chain}
 use Rattle.ledger_model.specs.Tally.{marked, markCount, strikes, struckIn, counted, savedFrom, savedTicks, savedUnticks, ticked, Tallies}
-use Rattle.ledger_model.proofs.Basics.{by-test, same-true, row-in, HasRow, has-row, put-all, idle-desk}
+use Rattle.ledger_model.proofs.Basics.{same-true, row-in, HasRow, has-row, put-all, idle-desk}
 use Rattle.ledger_model.proofs.Outcome.{Outcome, refusal, enrolment, asking, opening, unopened, unmarked}
 use Rattle.ledger_model.proofs.Outcome.{marking, saving, stale, dropping, striking, outcome}
 use Rattle.ledger_model.proofs.WellFormed.{well-formed, fresh-well-formed}

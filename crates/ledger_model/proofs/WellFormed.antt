@@ -10,13 +10,14 @@ use lib.Dec.{eqb}
 use lib.ListN.{getD, set, length-set, length-replicate}
 use lib.Seq.{getD-set-same, getD-set-other}
 use borrow.Author.Tests.{eqb-false, ltb-true}
+use Rattle.laws.proofs.Bools.{or-neither}
 use Rattle.keys.specs.Numbers.{modulus}
 use Rattle.ledger_model.specs.Positions.{rowLength, Positions, noTicks}
 use Rattle.ledger_model.specs.Book.{Place, free, row, Desk, closed, working, Book, fresh, place}
 use Rattle.ledger_model.specs.Book.{desk, putPlace, putDesk, isFree, withTicks, hasKey, lowestFree, anyHasOpen}
 use Rattle.ledger_model.specs.Step.{Call, Reply, step, run}
 use Rattle.ledger_model.specs.WellFormed.{IsSet, PlaceOk, DeskOk, keyOf, WellFormed}
-use Rattle.ledger_model.proofs.Basics.{or-false, not-open, put-all, put-same, read-replicate}
+use Rattle.ledger_model.proofs.Basics.{not-open, put-all, put-same, read-replicate}
 use Rattle.ledger_model.proofs.Outcome.{Admitted, Outcome, refusal, enrolment, asking, opening, unopened}
 use Rattle.ledger_model.proofs.Outcome.{unmarked, marking, saving, stale, dropping, striking, outcome}
 
@@ -26,8 +27,8 @@ unfolding hasKey
 absent [] key r n e = false≢true cc
 absent (free ∷ ps) key zero n e = false≢true cc
 absent (free ∷ ps) key (suc r) n e = absent ps key r n e
-absent (row k first s ∷ ps) key zero n e = let q : k ≡ key = cc in eqb-false k key (or-false (eqb k key) _ n .0) q
-absent (row k first s ∷ ps) key (suc r) n e = absent ps key r (or-false (eqb k key) _ n .1) e
+absent (row k first s ∷ ps) key zero n e = let q : k ≡ key = cc in eqb-false k key (or-neither (eqb k key) _ n .0) q
+absent (row k first s ∷ ps) key (suc r) n e = absent ps key r (or-neither (eqb k key) _ n .1) e
 
 row-stays : (ps : List Place) (r q : ℕ) (p : Place) → isFree p ≡ false → isFree (getD ps q free) ≡ false
     → isFree (getD (set ps r p) q free) ≡ false

@@ -12,4 +12,5 @@ pub mod Claim
 pub mod Tally
 pub mod Missing
 pub mod Kept
+pub mod Desks
 pub mod inner

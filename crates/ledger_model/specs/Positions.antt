@@ -46,6 +46,12 @@ same [] (y ∷ t) = false
 same (x ∷ s) [] = false
 same (x ∷ s) (y ∷ t) = Bool·beq x y && same s t
 
+-- The positions of the first set that the second has not.
+unfoldable pub minus : Positions → Positions → Positions
+minus [] t = []
+minus (x ∷ s) [] = x ∷ s
+minus (x ∷ s) (y ∷ t) = (x && not y) ∷ minus s t
+
 -- How many positions are in the set.
 unfoldable pub size : Positions → ℕ
 size [] = 0

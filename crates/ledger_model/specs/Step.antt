@@ -13,7 +13,7 @@ use Rattle.ledger_model.specs.Positions.{noTicks, has, same, inRow}
 use Rattle.ledger_model.specs.Book.{free, row, closed, working, Book, fresh, place, desk, putPlace}
 use Rattle.ledger_model.specs.Book.{putDesk, isFree, ticksOf, withTicks, isDesk, isOpen, placeOf, openedOf, workedOf}
 use Rattle.ledger_model.specs.Book.{withWorked, openPlace, hasKey, placeWith, allUsed, lowestFree, anyHasOpen, positionAt}
-use Rattle.ledger_model.specs.Counts.{placeReport, firstGapFrom}
+use Rattle.ledger_model.specs.Counts.{placeReport, firstGapFrom, placeStream, deskState, deskUnsaved}
 
 -- ---- calls and answers
 
@@ -22,6 +22,8 @@ pub data Question : Type 0 where
   Find : (key : ℕ) → Question
   RowReport : (r : ℕ) → Question
   FirstGap : Question
+  RowStream : (r : ℕ) → Question
+  DeskState Unsaved : (d : ℕ) → Question
 
 -- A mark is a tick (flag true) or an untick (flag false).
 pub data Call : Type 0 where
@@ -84,6 +86,9 @@ refusals (Enrol key first) b =
 refusals (Ask (Find key)) b = (22 when not (validKey key)) ∷ (25 when not (hasKey key (b .places))) ∷ []
 refusals (Ask (RowReport r)) b = (25 when isFree (place b r)) ∷ []
 refusals (Ask FirstGap) b = []
+refusals (Ask (RowStream r)) b = (25 when isFree (place b r)) ∷ []
+refusals (Ask (DeskState d)) b = (21 when not (isDesk d)) ∷ []
+refusals (Ask (Unsaved d)) b = (21 when not (isDesk d)) ∷ (27 when not (isOpen (desk b d))) ∷ []
 refusals (Open d r) b = (21 when not (isDesk d)) ∷ (25 when isFree (place b r)) ∷ (26 when isOpen (desk b d)) ∷ []
 refusals (Mark flag d n) b =
     (21 when not (isDesk d))
@@ -104,6 +109,9 @@ unfoldable pub asked : Question → Book → List ℕ
 asked (Find key) b = placeWith key (b .places) ∷ []
 asked (RowReport r) b = placeReport (place b r)
 asked FirstGap b = firstGapFrom 0 (b .places)
+asked (RowStream r) b = placeStream (place b r)
+asked (DeskState d) b = deskState (b .places) (desk b d)
+asked (Unsaved d) b = deskUnsaved (desk b d)
 
 -- What each call answers and changes where it is accepted.
 unfoldable pub effect : Call → Book → Reply

@@ -2,18 +2,20 @@
 use Prim.Native.Nat.{ℕ, zero, suc}
 use native.Mathlib.Decide.{ℕ-discrete}
 use mathlib.Core.Path.{_≡_, refl, sym, ap, _∙_}
-use mathlib.Core.Bool.{Bool, true, false, cond, not, _||_, Bool·beq, false≢true}
+use mathlib.Core.Bool.{Bool, true, false, cond, not, Bool·beq, false≢true, or-true}
 use mathlib.Core.Option.{some}
 use mathlib.Core.List.{List, [], _∷_, map}
 use lib.Dec.{eqb}
 use lib.ListN.{getD, set}
 use lib.Seq.{getD-set-same, getD-set-other}
 use borrow.Author.Tests.{eq-eqb}
+use Rattle.ledger_layout.proofs.Writers.{set-twice, own-ticks}
+use Rattle.laws.proofs.Bools.{by-test}
 use Rattle.ledger_model.specs.Positions.{position, Positions, has, inRow}
 use Rattle.ledger_model.specs.Book.{Place, free, row, closed, Book, fresh, place, desk, putPlace, ticksOf, withTicks, isDesk, hasKey, placeWith}
 use Rattle.ledger_model.specs.Step.{run}
 use Rattle.ledger_model.specs.WellFormed.{keyOf, WellFormed}
-use Rattle.ledger_model.proofs.Basics.{by-test, row-in}
+use Rattle.ledger_model.proofs.Basics.{row-in}
 use Rattle.ledger_model.proofs.Steps.{markVerdict}
 use Rattle.ledger_model.proofs.WellFormed.{well-formed-from, run-well-formed}
 use Rattle.ledger_model.proofs.Laws.{changes}
@@ -24,25 +26,17 @@ use Rattle.ledger_receive.proofs.Visits.{visits-none, visits-before, st
 
 -- ---- a book that grew: no row but has the ticks that it had
 
-with-own : (p : Place) → p ≡ withTicks (ticksOf p) p
-with-own free = refl
-with-own (row key first ticks) = refl
-
-with-with : (s t : Positions) (p : Place) → withTicks s (withTicks t p) ≡ withTicks s p
-with-with s t free = refl
-with-with s t (row key first ticks) = refl
-
 record Grown (b c : Book) : Type 0 where
   alike : (r : ℕ) → place c r ≡ withTicks (ticksOf (place c r)) (place b r)
   more : (r i : ℕ) → has (ticksOf (place b r)) i ≡ true → has (ticksOf (place c r)) i ≡ true
 
 grown-none : (b : Book) → Grown b b
-grown-none b = record { alike = λ r. with-own (place b r); more = λ r i h. h }
+grown-none b = record { alike = λ r. sym (own-ticks (place b r)); more = λ r i h. h }
 
 grown-more : {b c e : Book} → Grown b c → Grown c e → Grown b e
 grown-more {b} {c} {e} g h =
     record {
-      alike = λ r. h .alike r ∙ ap (withTicks (ticksOf (place e r))) (g .alike r) ∙ with-with _ _ (place b r);
+      alike = λ r. h .alike r ∙ ap (withTicks (ticksOf (place e r))) (g .alike r) ∙ set-twice _ _ (place b r);
       more = λ r i t. h .more r i (g .more r i t);
     }
 
@@ -59,10 +53,6 @@ has-key key (free ∷ ps) zero e = cc
 has-key key (free ∷ ps) (suc r) e = has-key key ps r e
 has-key key (row k f t ∷ ps) zero e = let q : k ≡ key = cc in rw (eq-eqb k key q)
 has-key key (row k f t ∷ ps) (suc r) e = rw (has-key key ps r e) (or-true (eqb k key))
-  where
-    or-true : (x : Bool) → (x || true) ≡ true
-    or-true true = refl
-    or-true false = refl
 
 place-back : (s : Positions) (p : Place) {key first : ℕ} {ticks : Positions} → row key first ticks ≡ withTicks s p → keyOf p ≡ some key
 place-back s free e = cc
@@ -95,7 +85,7 @@ put-grown b q key first ticks i e = record { alike = λ r. alike r (ℕ-discrete
         → getD (set (b .places) q (row key first (set ticks i true))) r free
         ≡ withTicks (ticksOf (getD (set (b .places) q (row key first (set ticks i true))) r free)) (place b r)
     alike r (yes m) = rw (m, here, e) refl
-    alike r (no m) = rw (getD-set-other (b .places) q r (row key first (set ticks i true)) free m) (with-own (place b r))
+    alike r (no m) = rw (getD-set-other (b .places) q r (row key first (set ticks i true)) free m) (sym (own-ticks (place b r)))
 
     more : (r j : ℕ) → has (ticksOf (place b r)) j ≡ true → Dec (r ≡ q)
         → has (ticksOf (getD (set (b .places) q (row key first (set ticks i true))) r free)) j ≡ true

@@ -1,21 +1,21 @@
 -- The laws of receive, on sheets. Assumes nothing.
 use Prim.Native.Nat.{ℕ, _<_}
 use mathlib.Core.Path.{_≡_, refl, sym, ap, _∙_}
-use mathlib.Core.Logic.{_≢_}
 use mathlib.Core.Bool.{Bool, true, false}
 use mathlib.Core.Option.{some}
 use mathlib.Core.List.{List, _∷_, _++_, map}
 use borrow.Author.Tests.{ltb-true, ltb-false}
 use lib.Dec.{ltb}
 use lib.ListN.{length, getD, List·getD-append, List·getD-eq-default}
+use Rattle.ledger_layout.proofs.Demand3.{proper}
 use Rattle.sfdu_stream.specs.Listing.{fills, listNumbers}
 use Rattle.ledger_model.specs.Book.{Book, fresh, place, desk, closed}
-use Rattle.ledger_model.specs.Step.{Call, Answer, gave, refused, step, Entry, _⇒_, callOf, Run, run}
+use Rattle.ledger_model.specs.Step.{Call, Answer, step, Entry, _⇒_, callOf, Run, run}
 use Rattle.ledger_model.specs.WellFormed.{WellFormed, keyOf}
 use Rattle.ledger_model.specs.Chain.{Chain, stop, next}
 use Rattle.ledger_model.specs.Kept.{TickedIn, takenOut}
 use Rattle.ledger_model.proofs.Claim.{log-calls}
-use Rattle.ledger_model.proofs.Laws.{Proper, words-injective, step-proper, run-append}
+use Rattle.ledger_model.proofs.Laws.{words-injective, step-proper, run-append}
 use Rattle.ledger_model.proofs.WellFormed.{fresh-well-formed, well-formed-from}
 use Rattle.ledger_layout.specs.Layout.{layout, bookOf}
 use Rattle.ledger_layout.proofs.Sheets.{fresh-layout}
@@ -53,10 +53,6 @@ unfolding listNumbers
 walks-as-listed d stream list s a columns e = ap (λ o. o .0) (made-is d s a stream list) ∙ rw e refl
 
 -- ---- a chain of calls from a book laid out
-
-proper : (a : Answer) → a ≢ refused 0 → Proper a
-proper (gave words) n = tt
-proper (refused number) n = λ e. n (ap refused e)
 
 pub record Ran (b : Book) (log : List Entry) (t : List ℕ) : Type 0 where
   pub answers : run b (map callOf log) .log ≡ log

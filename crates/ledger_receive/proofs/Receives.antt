@@ -5,6 +5,7 @@ use mathlib.Core.Path.{_≡_, refl, sym, ap, _∙_}
 use mathlib.Core.List.{List, [], _∷_, _++_}
 use lib.ListN.{getD, take, drop}
 use borrow.Author.Tests.{not-false}
+use Rattle.ledger_model.proofs.Outcome.{desk-closed}
 use Rattle.refusals.specs.declared.Refusal.{Refusal}
 use Rattle.refusals.specs.Table.{numberOf}
 use Rattle.refusals.specs.Judge.{verdict}
@@ -24,7 +25,7 @@ use Rattle.ledger_receive.specs.declared.Received.the-variants.{Records,
 use Rattle.ledger_receive.specs.Receive.{DifferentReceived, receiveRules, receiving, receiveOn}
 use Rattle.ledger_receive.specs.Laws.{Accepted}
 use Rattle.ledger_receive.specs.inner.Calls.{Ready}
-use Rattle.ledger_receive.proofs.Sheets.{desk-closed}
+use Rattle.ledger_receive.proofs.Sheets.{}
 
 module _ (d : ℕ) (s : List ℕ) {v : Verdict} (e : verdictNumber v ≡ verdict (receiveRules d s)) where
   pub receive-refused : (stream list : List ℕ) (q : Refusal) → v ≡ Case.Refused q → (numberOf q ∷ [], list, s) ≡ receiveOn d stream list s

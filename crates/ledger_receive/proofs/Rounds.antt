@@ -7,8 +7,8 @@ use borrow.Author.Tests.{ltb-true, ltb-false}
 use mathlib.Core.List.{List, [], _∷_, _++_, map}
 use lib.Dec.{eqb, ltb}
 use lib.ListN.{length, set, take, drop, length-append}
+use Rattle.laws.proofs.Bools.{and-split}
 use Rattle.refusals.specs.Judge.{noneApplies}
-use Rattle.octets.proofs.Laws.{and-split}
 use Rattle.sfdu.specs.Nesting.{kindNumber}
 use Rattle.sfdu.specs.Read.{kindOf, readRules}
 use Rattle.sfdu_headers.specs.Fields.{recordNumber}

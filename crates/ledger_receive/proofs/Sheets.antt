@@ -1,10 +1,10 @@
 -- A call on a sheet that is a well-formed book laid out. Assumes nothing.
 use Prim.Native.Nat.{ℕ}
-use mathlib.Core.Path.{_≡_, refl, sym, ap, _∙_}
-use mathlib.Core.Bool.{true, false, true≢false}
+use mathlib.Core.Path.{_≡_, sym, ap, _∙_}
+use mathlib.Core.Bool.{true}
 use mathlib.Core.List.{List}
 use Rattle.refusals.proofs.Laws.{number-positive}
-use Rattle.ledger_model.specs.Book.{Desk, closed, working, Book, isOpen}
+use Rattle.ledger_model.specs.Book.{Book}
 use Rattle.ledger_model.specs.Step.{Call, answerWords, step}
 use Rattle.ledger_model.specs.WellFormed.{WellFormed}
 use Rattle.ledger_model.proofs.Outcome.{outcome}
@@ -53,7 +53,3 @@ after c {b = b} {s = s} {words = words} {t = t} h e =
 pub answer-is : (a : Sheet.Answer) (c : Call) (b : Book) → Words.answerWords a ≡ answerWords (step c b .answer) → answerOf a ≡ step c b .answer
 answer-is A.Done c b e = words-injective (answerOf A.Done) (step c b .answer) tt (step-proper c b) e
 answer-is (A.Refused q) c b e = words-injective (answerOf (A.Refused q)) (step c b .answer) (number-positive q) (step-proper c b) e
-
-pub desk-closed : (x : Desk) → isOpen x ≡ false → x ≡ closed
-desk-closed closed e = refl
-desk-closed (working r opened worked) e = absurd (true≢false e)

@@ -10,6 +10,7 @@ use lib.Dec.{eqb}
 use lib.ListN.{getD, set, length}
 use lib.Seq.{getD-set-same, getD-set-other, set-set, set-getD}
 use borrow.Author.Tests.{eqb-true, ltb-true}
+use Rattle.laws.proofs.Bools.{by-test}
 use Rattle.refusals.specs.Judge.{judge, verdict}
 use Rattle.keys.specs.Key.{validKey}
 use Rattle.ledger_model.specs.Positions.{position, Positions, has, same, inRow}
@@ -23,7 +24,7 @@ use Rattle.ledger_receive.specs.Visits.{Arrival, unread, arrived, tickAn
 use Rattle.ledger_layout.specs.Layout.{layout}
 use Rattle.ledger_receive.specs.inner.Calls.{atRow, visiting}
 use Rattle.ledger_receive.specs.Visits.{visitRules, filed, Visited, EveryVisit, WasReceived, ReceivedNotOrdered}
-use Rattle.ledger_model.proofs.Basics.{by-test, same-refl, row-in}
+use Rattle.ledger_model.proofs.Basics.{same-refl, row-in}
 use Rattle.ledger_model.proofs.Steps.{markVerdict, open-step, mark-step, save-step}
 use Rattle.ledger_model.proofs.Outcome.{Outcome, refusal, asking}
 use Rattle.ledger_model.proofs.Outcome as Step

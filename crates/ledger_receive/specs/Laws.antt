@@ -15,7 +15,7 @@ use Rattle.ledger_model.specs.WellFormed.{keyOf}
 use Rattle.ledger_model.specs.Chain.{Chain}
 use Rattle.ledger_model.specs.Kept.{takenOut}
 use Rattle.ledger_layout.specs.Layout.{bookOf}
-use Rattle.ledger_layout.specs.BothWays.{AreBytes}
+use Rattle.octets.specs.Octets.{AreBytes}
 use Rattle.ledger.specs.Demand3.{Promised}
 use Rattle.ledger.specs.Private.{Night}
 use Rattle.ledger_missing.specs.Missing.{missingOf}

@@ -6,7 +6,7 @@ use mathlib.Core.Path.{_≡_}
 use lib.Dec.{eqb, leb}
 use lib.ListN.{length}
 use borrow.Author.Tests.{eqb-true, leb-true}
-use Rattle.octets.proofs.Laws.{and-split}
+use Rattle.laws.proofs.Bools.{and-split}
 use Rattle.ledger_replay.specs.Trace.{lengthAt, startAt, headerSize, mostEntries, headerNumber, count, entryAt, headerRight, linesRight, isTrace}
 
 pub record HeaderParts (t : List ℕ) : Type 0 where

@@ -5,3 +5,6 @@ pub mod Turns
 pub mod Kept
 pub mod Nights
 pub mod Words
+pub mod Contracts
+pub mod Pieces
+pub mod Joined

@@ -2,14 +2,15 @@
 use Prim.Native.Nat.{ℕ, _+_, _^_, _<_}
 use native.Mathlib.Nat.{add-zero}
 use native.Mathlib.Omega.{arith}
-use mathlib.Core.Bool.{Bool, true, false, cond, _||_, false≢true}
+use mathlib.Core.Bool.{Bool, true, false, cond, _||_, false≢true, or-true}
 use mathlib.Core.List.{List, [], _∷_, _++_}
 use mathlib.Core.Path.{_≡_, refl, ap, _∙_}
 use lib.Dec.{eqb, lit<}
 use lib.ListN.{length, length-append}
 use borrow.Author.Tests.{ltb-true, not-true}
+use Rattle.laws.proofs.Bools.{and-split}
 use Rattle.octets.specs.Octets.{numberAt, bytesOf, part}
-use Rattle.octets.proofs.Laws.{and-split, length-bytesOf, part-at}
+use Rattle.octets.proofs.Laws.{length-bytesOf, part-at}
 use Rattle.octets.proofs.Parts.{number-first, number-second, number-bytes}
 use Rattle.ledger_model.specs.Step.{Enrol, Ask, Open, Mark, Save, Drop, Strike, Answer, gave, done, atRow, refused, Entry, _⇒_}
 use Rattle.ledger_layout.proofs.Parts.{number-within}
@@ -65,10 +66,6 @@ line-within t a =
     )
 
 -- ---- an entry that fits
-
-or-true : (b : Bool) → b || true ≡ true
-or-true true = refl
-or-true false = refl
 
 -- What an entry's line is good for.
 pub record Good (e : Entry) : Type 0 where

@@ -7,8 +7,8 @@ use mathlib.Core.Path.{_≡_, refl, sym, ap, _∙_}
 use lib.Dec.{eqb}
 use lib.ListN.{length, getD}
 use borrow.Author.Tests.{eqb-true, eq-eqb, not-true}
+use Rattle.laws.proofs.Bools.{and-split}
 use Rattle.refusals.specs.Judge.{judge}
-use Rattle.octets.proofs.Laws.{and-split}
 use Rattle.ledger_model.specs.Lists.{only}
 use Rattle.ledger_model.specs.Book.{Book, fresh}
 use Rattle.ledger_model.specs.Step.{Call, Enrol, Open, Tick, Untick, Save, Drop, Strike, Answer, gave}
@@ -40,7 +40,7 @@ told-same : (x : Told) → sameTold x x ≡ true
 unfolding sameTold
 told-same x = rw (eq-eqb (x .number) (x .number) refl, eq-eqb (x .row) (x .row) refl)
 
-plays : (es : List Entry) (b : Book) (k : ℕ) → WellFormed b → run b (map callOf es) .log ≡ es
+pub plays : (es : List Entry) (b : Book) (k : ℕ) → WellFormed b → run b (map callOf es) .log ≡ es
     → replayFrom k es (layout b) ≡ (0 ∷ [], layout (run b (map callOf es) .book))
 unfolding replayFrom run
 plays [] b k ok e = refl
@@ -125,7 +125,7 @@ module _ (x : Line) where
 
 -- ---- what 'same' says
 
-truth : (t : List ℕ) (n j k : ℕ) (b : Book) → WellFormed b → replayFrom k (entriesFrom t j n) (layout b) .0 ≡ 0 ∷ []
+pub truth : (t : List ℕ) (n j k : ℕ) (b : Book) → WellFormed b → replayFrom k (entriesFrom t j n) (layout b) .0 ≡ 0 ∷ []
     → run b (map callOf (entriesFrom t j n)) .log ≡ entriesFrom t j n
 unfolding entriesFrom replayFrom run written
 truth t zero j k b ok e = refl
@@ -180,14 +180,14 @@ same-answers : (t : List ℕ) → replayFrom 0 (entriesOf t) (layout fresh) .0 �
 unfolding entriesOf
 same-answers t e = truth t (count t) 0 0 fresh fresh-well-formed e
 
-replay-fresh : (t s : List ℕ) → length s ≡ sheetSize → isTrace t ≡ true → replayOn t s ≡ replayFrom 0 (entriesOf t) (layout fresh)
+pub replay-fresh : (t s : List ℕ) → length s ≡ sheetSize → isTrace t ≡ true → replayOn t s ≡ replayFrom 0 (entriesOf t) (layout fresh)
 unfolding replayOn judged judge freshOn
 replay-fresh t s l h = rw (eq-eqb (length s) sheetSize l, h)
 
 pub model-is-same : ModelIsSame
 model-is-same t s l h e = replay-fresh t s l h ∙ plays (entriesOf t) fresh 0 fresh-well-formed e
 
-refused-words : {A : Type 0} (n : ℕ) → _≡_ {A = List ℕ} (n ∷ []) (0 ∷ []) → 0 < n → A
+pub refused-words : {A : Type 0} (n : ℕ) → _≡_ {A = List ℕ} (n ∷ []) (0 ∷ []) → 0 < n → A
 refused-words n e l = let z : n ≡ 0 = cc in absurd (omega arith)
 
 pub same-is-model : SameIsModel

@@ -14,7 +14,9 @@ use Rattle.ledger_model.proofs.Outcome.{outcome}
 use Rattle.ledger_model.proofs.WellFormed.{well-formed, fresh-well-formed}
 use Rattle.ledger_sheet.specs.Sheet.{sheetSize, right}
 use Rattle.ledger_sheet.specs.Outcome.{Outcome}
-use Rattle.ledger_layout.specs.Layout.{layout, call, onSheet, freshOn}
+use Rattle.octets.proofs.Laws.{Bytes}
+use Rattle.ledger_layout.specs.Layout.{layout, bookOf, call, onSheet, freshOn}
+use Rattle.ledger_layout.proofs.Read.{read-law, book-fine}
 use Rattle.ledger_layout.proofs.Right.{layout-right}
 use Rattle.ledger_layout.proofs.Sheets.{on-layout}
 use Rattle.ledger_replay.specs.declared.Line.{Line}
@@ -79,6 +81,9 @@ unfolding freshOn
 fresh-laid s t a l e =
     let made : _≡_ {A = Outcome} (a, t) (0 ∷ [], layout fresh) = rw (eq-eqb (length s) sheetSize l) at e in
     record { book = fresh; fine = fresh-well-formed; laid-out = ap (λ o. o .1) made }
+
+pub right-laid : (s : List ℕ) → Bytes s → right s ≡ true → IsLaid s
+right-laid s bytes r = record { book = bookOf s; fine = book-fine s bytes r; laid-out = sym (read-law s bytes r) }
 
 pub laid-right : (s : List ℕ) → IsLaid s → right s ≡ true
 laid-right s k = rw (k .laid-out) (layout-right (k .book) (k .fine))

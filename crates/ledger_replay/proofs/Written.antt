@@ -8,8 +8,9 @@ use mathlib.Core.Path.{_≡_, refl, sym, ap, _∙_}
 use lib.Dec.{lit<}
 use lib.ListN.{length, getD, length-append}
 use borrow.Author.Tests.{eq-eqb, le-leb}
+use Rattle.laws.proofs.Bools.{and-split}
 use Rattle.octets.specs.Octets.{numberAt, bytesOf, part}
-use Rattle.octets.proofs.Laws.{and-split, length-bytesOf, all-each}
+use Rattle.octets.proofs.Laws.{length-bytesOf, all-each}
 use Rattle.octets.proofs.Parts.{number-first, number-bytes}
 use Rattle.ledger_model.specs.Step.{FirstGap, Ask, done, Entry, _⇒_}
 use Rattle.octets.specs.Lists.{laid}
@@ -70,7 +71,7 @@ header-bytes n =
 abbrev entryBytes : Entry → List ℕ
 entryBytes e = lineBytes (lineOf e)
 
-length-header : (n : ℕ) → length (traceHeader n) ≡ headerSize
+pub length-header : (n : ℕ) → length (traceHeader n) ≡ headerSize
 unfolding traceHeader
 length-header n = simp (length-append, length-bytesOf)
 
@@ -79,14 +80,14 @@ unfolding traceOf
 length-trace log =
     rw (length-append, length-header (length log), length-laid entrySize entryBytes (λ e. length-line (lineOf e)) log)
 
-abbrev numbers : ℕ → List ℕ
+abbrev pub numbers : ℕ → List ℕ
 numbers n = entryAt n ∷ n ∷ headerSize ∷ []
 
 header-laid : (n : ℕ) → traceHeader n ≡ [] ++ laid (bytesOf numberSize) (numbers n) ++ []
 unfolding traceHeader laid
 header-laid n = simp (append-assoc, append-nil)
 
-header-number : (n k v : ℕ) (rest : List ℕ) → k < length (numbers n) → getD (numbers n) k 0 ≡ v → v < 256 ^ numberSize
+pub header-number : (n k v : ℕ) (rest : List ℕ) → k < length (numbers n) → getD (numbers n) k 0 ≡ v → v < 256 ^ numberSize
     → headerNumber (traceHeader n ++ rest) (numberSize * k) ≡ v
 header-number n k v rest l e h =
     let a = numberSize * k in

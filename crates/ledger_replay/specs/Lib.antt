@@ -4,4 +4,5 @@ pub mod Record
 pub mod Replay
 pub mod Laws
 pub mod Nights
+pub mod Pieces
 pub mod inner

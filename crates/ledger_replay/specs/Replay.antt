@@ -1,4 +1,4 @@
--- Document 02, request 11: a trace played again. Every call is `onSheet (call c)`, which the ledger's contracts cite. Assumes nothing.
+-- Document 02, request 11: a trace played again, over a fresh sheet or over one as it stands. Every call is `onSheet (call c)`, which the ledger's contracts cite. Assumes nothing.
 -- The manual, docs/INTERFACE.md: "A night in a trace, played again".
 use Prim.Native.Nat.{ℕ, suc}
 use mathlib.Core.Path.{_≡_}
@@ -9,7 +9,7 @@ use lib.ListN.{length, getD}
 use Rattle.refusals.specs.Table.{numberOf}
 use Rattle.refusals.specs.Judge.{_when_}
 use Rattle.ledger_model.specs.Step.{answerWords, Entry, _⇒_}
-use Rattle.ledger_sheet.specs.Sheet.{sheetSize}
+use Rattle.ledger_sheet.specs.Sheet.{sheetSize, right}
 use Rattle.ledger_sheet.specs.Outcome.{Outcome, judged}
 use Rattle.ledger_layout.specs.Layout.{call, onSheet, freshOn}
 use Rattle.ledger_replay.specs.declared.Told.{Told}
@@ -46,7 +46,17 @@ replayFrom k ((c ⇒ a) ∷ entries) s =
     let made = onSheet (call c) s in
     cond (sameTold (told (made .0)) (told (answerWords a))) (replayFrom (suc k) entries (made .1)) (differs k (told (made .0)), made .1)
 
--- 20 for a slice of another length than a sheet's, then 40 for what is no trace; both leave the slice as it is. Else it is made fresh.
+-- A trace played over a sheet.
+abbrev pub played : (t s : List ℕ) → Outcome
+played t s = replayFrom 0 (entriesOf t) s
+
+-- `replay`: 20 for a slice of another length than a sheet's, then 40 for what is no trace; both leave the slice as it is. Else it is made
+-- fresh, and the trace is played over it.
 unfoldable pub replayOn : (t s : List ℕ) → Outcome
 replayOn t s =
-    judged ((20 when not (eqb (length s) sheetSize)) ∷ (40 when not (isTrace t)) ∷ []) (replayFrom 0 (entriesOf t) (freshOn s .1)) s
+    judged ((20 when not (eqb (length s) sheetSize)) ∷ (40 when not (isTrace t)) ∷ []) (played t (freshOn s .1)) s
+
+-- `replay_on`: 20 for what is no right sheet, then 40 for what is no trace; both leave the slice as it is. Else the trace is played over the
+-- sheet as it stands.
+unfoldable pub replayOnSheet : (t s : List ℕ) → Outcome
+replayOnSheet t s = judged ((20 when not (right s)) ∷ (40 when not (isTrace t)) ∷ []) (played t s) s

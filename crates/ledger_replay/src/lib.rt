@@ -1,15 +1,16 @@
-// A night's calls kept in a trace, and played again over a fresh sheet (document 02, request 11).
+// A night's calls kept in a trace, and played again over a fresh sheet (document 02, request 11), or over one as it stands.
 mod calls;
 mod trace;
 
 use ledger_sheet as sheet;
+use ledger_sheet::right;
 use refusals::Refusal;
 ghost use mathlib.Core.Path.{_≡_};
 ghost use Prim.Native.Nat.{_≤_};
 ghost use lib.ListN.{length};
-ghost use Rattle.ledger_replay.specs.Trace.{headerSize, mostEntries, count, entryAt, entriesOf};
+ghost use Rattle.ledger_replay.specs.Trace.{headerSize, mostEntries, count, entryAt};
 ghost use Rattle.ledger_replay.specs.inner.Making.{IsLaid};
-ghost use Rattle.ledger_replay.specs.Replay.{replayedWords, replayFrom, replayOn};
+ghost use Rattle.ledger_replay.specs.Replay.{replayedWords, played, replayOn, replayOnSheet};
 
 // The header: three numbers of 4 bytes.
 pub const LENGTH_AT: usize = 0;
@@ -89,10 +90,24 @@ pub fn replay(t: &[u8], s: &mut [u8]) -> Replayed
     play(t, s)
 }
 
+// Plays a trace over the sheet as it stands: so the pieces of a long log are played one after the other.
+pub fn replay_on(t: &[u8], s: &mut [u8]) -> Replayed
+    ensures { λ r. ⌜ (replayedWords r, now (s .exit)) ≡ replayOnSheet (now (t .entry)) (now (s .entry)) ⌝ }
+{
+    if !right::is_sheet(s) {
+        return Replayed::Refused(Refusal::NotSheet);
+    }
+    if !trace::is_trace(t) {
+        return Replayed::Refused(Refusal::NotTrace);
+    }
+    play(t, s)
+}
+
+// Makes the calls of a trace on a sheet, up to the first that answers otherwise than is written.
 fn play(t: &[u8], s: &mut [u8]) -> Replayed
     requires { ⌜ (headerSize ≤ length (now t)) × (entryAt (count (now t)) ≤ length (now t)) × (count (now t) ≤ mostEntries) ⌝ }
     requires { ⌜ IsLaid (now s) ⌝ }
-    ensures { λ r. ⌜ (replayedWords r, now (s .exit)) ≡ replayFrom 0 (entriesOf (now (t .entry))) (now (s .entry)) ⌝ }
+    ensures { λ r. ⌜ (replayedWords r, now (s .exit)) ≡ played (now (t .entry)) (now (s .entry)) ⌝ }
 {
     let entries = trace::entry_count(t);
     for i in 0..entries {

@@ -27,7 +27,7 @@ use Rattle.ledger.specs.Demand3.{MadeFresh, Promised}
 use Rattle.ledger.proofs.Demand3.{demand-3}
 use Rattle.ledger_season.specs.Report.{mostSheets, tickedIn, inAll, keyInTwo}
 use Rattle.ledger_season.specs.Season.{sheetAt, sheetCount, booksTo, books, rightTo, season, Answers}
-use Rattle.ledger_season.specs.Identity.{Grown, no-sheet, and-sheet, laidInOne, overLogs, Identity}
+use Rattle.ledger_season.specs.Identity.{Grown, no-sheet, and-sheet, laidInOne, overLogs, EveryGrown}
 use Rattle.ledger_season.specs.declared.SeasonReport.{SeasonReport}
 use Rattle.ledger_season.proofs.Judged.{wrongLength}
 use Rattle.ledger_season.proofs.Read.{Given, taken, refused, accepts, given}
@@ -122,10 +122,9 @@ module _ (logs : List (List Entry)) (sheets : List (List ℕ)) (h : Sheets logs 
   taken-if : (r : SeasonReport) → Answers (season s) r → length sheets ≤ mostSheets → keyInTwo (map bookAfter logs) ≡ false → r .answer ≡ A.Done
   taken-if r answers few once = accepts s r (not-long few) are-right (rw books-are once) answers
 
-pub season-identity : {logs : List (List Entry)} {sheets : List (List ℕ)} → Grown logs sheets → (r : SeasonReport)
-    → Answers (season (laidInOne sheets)) r → Identity logs sheets r
+pub season-identity : EveryGrown
 unfolding s
-season-identity {logs} {sheets} grown r answers =
+season-identity logs sheets grown r answers =
     let h = sheets-of grown in
     record { accepted = taken-if logs sheets h r answers; balanced = balance h (given (laidInOne sheets) r answers) }
   where

@@ -3,7 +3,7 @@ use Prim.Native.Nat.{ℕ, zero, suc, _+_, _*_, _%_, _≤_, _<_, suc-le-suc}
 use native.Mathlib.Nat.{mod-lt, zero-lt-suc, le-of-suc-le-suc, eq-or-lt-of-le}
 use native.Mathlib.Numerals.{add-one}
 use native.Mathlib.Omega.{arith}
-use mathlib.Core.Bool.{Bool, true, false, not, _&&_, _||_, true≢false, false≢true}
+use mathlib.Core.Bool.{Bool, true, false, not, _&&_, _||_, true≢false, false≢true, or-assoc}
 use mathlib.Core.Logic.{⊎-elim}
 use mathlib.Core.List.{List, [], _∷_, _++_, append-assoc}
 use mathlib.Core.Option.{some}
@@ -12,7 +12,8 @@ use lib.Dec.{eqb, lit<}
 use lib.ListN.{length, getD, take, drop, set, length-set}
 use lib.Seq.{take-suc-set, getD-take, getD-set-same, getD-set-other, length-take-le}
 use borrow.Author.Tests.{eqb-true, eqb-false, eq-eqb, ne-eqb, not-true}
-use Rattle.octets.proofs.Laws.{and-split, all-each, all-at}
+use Rattle.laws.proofs.Bools.{same-bool, and-split}
+use Rattle.octets.proofs.Laws.{all-each, all-at}
 use Rattle.ledger_model.specs.Book.{Place, free, row, Book, fresh, hasKey, placeWith}
 use Rattle.ledger_model.specs.WellFormed.{WellFormed, keyOf}
 use Rattle.ledger_model.proofs.Laws.{found}
@@ -135,11 +136,6 @@ module _ (keys : List ℕ) (taken : List Bool) (i : ℕ) (h : Covers keys taken 
 
 -- ---- keys that are all new are different
 
-same-bool : (a b : Bool) → (a ≡ true → b ≡ true) → (b ≡ true → a ≡ true) → a ≡ b
-same-bool true b f g = sym (f refl)
-same-bool false true f g = g refl
-same-bool false false f g = refl
-
 -- No two places of a list have the same number.
 abbrev Different : List ℕ → Type 0
 Different xs = (i j : ℕ) → i < j → j < length xs → getD xs i 0 ≡ getD xs j 0 → ⊥
@@ -209,11 +205,7 @@ new-distinct keys n l = same-bool _ _ to from
 isIn-append : (x : ℕ) (xs ys : List ℕ) → isIn x (xs ++ ys) ≡ (isIn x xs || isIn x ys)
 unfolding isIn
 isIn-append x [] ys = refl
-isIn-append x (y ∷ xs) ys = rw (isIn-append x xs ys) (or-assoc (eqb y x) (isIn x xs) (isIn x ys))
-  where
-    or-assoc : (a b c : Bool) → (a || (b || c)) ≡ (a || b || c)
-    or-assoc true b c = refl
-    or-assoc false b c = refl
+isIn-append x (y ∷ xs) ys = rw (isIn-append x xs ys) (sym (or-assoc (eqb y x) (isIn x xs) (isIn x ys)))
 
 has-key : (k : ℕ) (ps : List Place) → hasKey k ps ≡ isIn k (keysOf ps)
 unfolding hasKey isIn keysOf

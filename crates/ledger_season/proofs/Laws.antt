@@ -2,7 +2,7 @@
 use Prim.Native.Nat.{ℕ, zero, suc, _+_, _≤_}
 use native.Mathlib.Nat.{le-of-suc-le-suc}
 use native.Mathlib.Omega.{arith}
-use mathlib.Core.Bool.{true, false, false≢true}
+use mathlib.Core.Bool.{true, false≢true}
 use mathlib.Core.List.{List, [], _∷_, _++_}
 use mathlib.Core.Logic.{_↔_}
 use mathlib.Core.Option.{Option, none, some}
@@ -11,20 +11,20 @@ use lib.ListN.{length, getD, take}
 use lib.Seq.{take-suc, take-length}
 use Rattle.octets.specs.Octets.{all}
 use Rattle.octets.proofs.Parts.{part-whole}
-use Rattle.ledger_model.specs.Positions.{Positions, size, missing, least, positionNumber}
+use Rattle.ledger_model.specs.Positions.{size, missing, least, positionNumber}
 use Rattle.ledger_model.specs.Book.{Place, free, row, Book, place, isFree, ticksOf}
 use Rattle.ledger_model.specs.Counts.{firstGapFrom}
 use Rattle.ledger_model.specs.Step.{Ask, RowReport, answerWords, step}
 use Rattle.ledger_model.specs.Tally.{ticked}
-use Rattle.ledger_model.proofs.Counts.{least-none}
+use Rattle.ledger_model.proofs.Counts.{least-none, none-least}
 use Rattle.ledger_model.proofs.Laws.{report-free, report-row}
 use Rattle.ledger_sheet.specs.Sheet.{sheetSize, rowCount, right}
 use Rattle.ledger_layout.specs.Layout.{bookOf, placeIn, call, onSheet}
 use Rattle.octets.proofs.Lists.{length-table}
 use Rattle.octets.specs.Lists.{table}
 use Rattle.ledger_season.specs.Report.{mostSheets, missed, three, tickedIn, missingIn, eachSheet, inAll, gapIn, seasonGapFrom}
-use Rattle.ledger_season.specs.Season.{sheetAt, sheetCount, booksTo, books, rightTo, season, sheetsWords, orFurther, Answers}
-use Rattle.ledger_season.specs.Laws.{overSheets, overRows, Laws}
+use Rattle.ledger_season.specs.Season.{sheetAt, sheetCount, booksTo, books, rightTo, sheetsWords, orFurther}
+use Rattle.ledger_season.specs.Laws.{overSheets, overRows, Laws, EverySeason}
 use Rattle.ledger_season.specs.declared.SheetCounts.{SheetCounts}
 use Rattle.ledger_season.specs.declared.SeasonGap.{SeasonGap}
 use Rattle.ledger_season.specs.declared.SeasonGap.the-variants as G
@@ -64,12 +64,6 @@ over (c ∷ cs) (suc n) (b ∷ bs) l m e =
 
 -- ---- a gap exactly where something is missing
 
-size-none : (s : Positions) → size s ≡ 0 → least s ≡ none
-unfolding size least
-size-none [] e = refl
-size-none (true ∷ s) e = absurd (omega arith)
-size-none (false ∷ s) e = rw (size-none s e)
-
 -- The first gap of places, and whether something is missing in them.
 data First (r : ℕ) (ps : List Place) : Type 0 where
   no-gap : firstGapFrom r ps ≡ [] → missed ps ≡ 0 → First r ps
@@ -91,7 +85,7 @@ first r (row key start ticks ∷ ps) = by (least (missing ticks)) refl (first (s
     by (some i) e rest =
         a-gap (positionNumber key start i) r (rw e) (λ z.
         let gone : size (missing ticks) ≡ 0 = omega arith in
-        let o : _≡_ {A = Option ℕ} none (some i) = sym (size-none (missing ticks) gone) ∙ e in
+        let o : _≡_ {A = Option ℕ} none (some i) = sym (none-least (missing ticks) gone) ∙ e in
         false≢true cc)
 
 gap-where : (k : ℕ) (bs : List Book) → (seasonGapFrom k bs ≡ []) ↔ (inAll missingIn bs ≡ 0)
@@ -200,7 +194,7 @@ module _ (s : List ℕ) (long : length s ≡ sheetSize) where
 
 -- ---- the laws
 
-pub laws : (s : List ℕ) (r : SeasonReport) → Answers (season s) r → Laws s r
+pub laws : EverySeason
 laws s r answers = by (given s r answers)
   where
     added : (bs : List Book) → length bs ≤ mostSheets → Says r bs

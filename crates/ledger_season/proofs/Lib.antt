@@ -7,3 +7,4 @@ pub mod Laws
 pub mod Identity
 pub mod Words
 pub mod Alone
+pub mod Contracts

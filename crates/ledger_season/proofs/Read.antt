@@ -28,10 +28,10 @@ append-parts (x ∷ a) b (y ∷ c) d l e =
     let k = append-parts a b c d (omega arith) rest in
     (cc (k .0), k .1)
 
-pub length-words : (cs : List SheetCounts) → length (sheetsWords cs) ≡ 3 * length cs
+pub length-sheets : (cs : List SheetCounts) → length (sheetsWords cs) ≡ 3 * length cs
 unfolding sheetsWords
-length-words [] = refl
-length-words (c ∷ cs) = omega (arith, length-words cs)
+length-sheets [] = refl
+length-sheets (c ∷ cs) = omega (arith, length-sheets cs)
 
 length-each : (n : ℕ) (bs : List Book) → length (eachSheet n bs) ≡ 3 * n
 unfolding eachSheet three
@@ -53,7 +53,7 @@ says r bs l e =
     let body : sheetsWords (r .sheets) ++ countsWords (r .total) ++ orFurther (r .gap) []
     ≡ eachSheet mostSheets bs ++ three (inAll tickedIn bs) (inAll missingIn bs) ++ seasonGapFrom 0 bs = cc in
     let first = sheetsWords (r .sheets) in
-    let same-length : length first ≡ length (eachSheet mostSheets bs) = omega (arith, length-words (r .sheets), length-each mostSheets bs) in
+    let same-length : length first ≡ length (eachSheet mostSheets bs) = omega (arith, length-sheets (r .sheets), length-each mostSheets bs) in
     let same-length-more : length (first ++ countsWords (r .total)) ≡ length (eachSheet mostSheets bs ++ three (inAll tickedIn bs) (inAll missingIn bs)) =
     rw (length-append, length-append, same-length) in
     let parts = append-parts _ _ _ _ same-length-more body in

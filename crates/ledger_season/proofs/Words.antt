@@ -12,7 +12,7 @@ use Rattle.ledger_season.specs.declared.SheetCounts.{SheetCounts}
 use Rattle.ledger_season.specs.declared.SeasonGap.{SeasonGap}
 use Rattle.ledger_season.specs.declared.SeasonGap.the-variants as G
 use Rattle.ledger_season.specs.declared.SeasonReport.{SeasonReport}
-use Rattle.ledger_season.proofs.Read.{append-parts, length-words}
+use Rattle.ledger_season.proofs.Read.{append-parts, length-sheets}
 
 answers-same : (a b : Answer) → answerNumber a ≡ answerNumber b → a ≡ b
 answers-same A.Done A.Done e = refl
@@ -64,7 +64,7 @@ one-answer words r t x y =
     let counts : r .count ≡ t .count = cc in
     let body : sheetsWords (r .sheets) ++ countsWords (r .total) ++ orFurther (r .gap) []
     ≡ sheetsWords (t .sheets) ++ countsWords (t .total) ++ orFurther (t .gap) [] = cc in
-    let words-long : length (sheetsWords (r .sheets)) ≡ length (sheetsWords (t .sheets)) = omega (arith, length-words (r .sheets), length-words (t .sheets)) in
+    let words-long : length (sheetsWords (r .sheets)) ≡ length (sheetsWords (t .sheets)) = omega (arith, length-sheets (r .sheets), length-sheets (t .sheets)) in
     let front-long : length (sheetsWords (r .sheets) ++ countsWords (r .total)) ≡ length (sheetsWords (t .sheets) ++ countsWords (t .total)) =
     rw (length-append, length-append, words-long) in
     let parts = append-parts _ _ _ _ front-long body in

@@ -11,6 +11,7 @@ use Rattle.ledger_model.specs.Tally.{savedTicks, savedUnticks}
 use Rattle.ledger_sheet.specs.declared.Answer.the-variants as A
 use Rattle.ledger.specs.Demand3.{MadeFresh, Promised}
 use Rattle.ledger_season.specs.Report.{mostSheets, keyInTwo}
+use Rattle.ledger_season.specs.Season.{season, Answers}
 use Rattle.ledger_season.specs.declared.SeasonReport.{SeasonReport}
 
 -- Sheets and how each came to be: a list of calls with its log, made one after the other on the sheet that `fresh` made.
@@ -35,3 +36,9 @@ pub record Identity (logs : List (List Entry)) (sheets : List (List ℕ)) (r : S
   pub accepted : length sheets ≤ mostSheets → keyInTwo (map bookAfter logs) ≡ false → r .answer ≡ A.Done
   -- What is ticked in all is the ticks less the unticks, of accepted calls in saved transactions on rows not struck later.
   pub balanced : r .answer ≡ A.Done → r .total .ticked + overLogs savedUnticks logs ≡ overLogs savedTicks logs
+
+-- That holds of every answer that `season` may give to the sheets in one slice.
+abbrev pub EveryGrown : Type 0
+EveryGrown =
+    (logs : List (List Entry)) (sheets : List (List ℕ)) → Grown logs sheets → (r : SeasonReport) → Answers (season (laidInOne sheets)) r
+    → Identity logs sheets r

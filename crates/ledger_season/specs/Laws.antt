@@ -34,6 +34,10 @@ pub record Laws (s : List ℕ) (r : SeasonReport) : Type 0 where
   pub one-ticked : length s ≡ sheetSize → r .answer ≡ A.Done → r .total .ticked ≡ overRows s 1 rowCount
   pub one-missing : length s ≡ sheetSize → r .answer ≡ A.Done → r .total .missing ≡ overRows s 2 rowCount
 
+-- Of every slice, and every answer that `season` may give to it.
+abbrev pub EverySeason : Type 0
+EverySeason = (s : List ℕ) (r : SeasonReport) → Answers (season s) r → Laws s r
+
 -- The season of sheet k alone is accepted, and its numbers in all are those at place k of the answer r, whatever is read outside its list.
 pub record Alone (r : SeasonReport) (k : ℕ) (alone : SeasonReport) : Type 0 where
   pub accepted : alone .answer ≡ A.Done

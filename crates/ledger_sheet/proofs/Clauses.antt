@@ -3,15 +3,16 @@ use Prim.Native.Nat.{ℕ, zero, suc, _+_, _-_, _≤_, _<_}
 use native.Mathlib.Nat.{eq-or-lt-of-le}
 use native.Mathlib.Numerals.{add-one}
 use native.Mathlib.Omega.{arith}
-use mathlib.Core.Bool.{Bool, true, false, cond, _&&_}
+use mathlib.Core.Bool.{Bool, true, false, cond, _&&_, and-true}
 use mathlib.Core.List.{List}
 use mathlib.Core.Logic.{⊎-elim}
 use mathlib.Core.Path.{_≡_, refl, sym, ap, _∙_}
 use lib.Dec.{eqb, ltb, lit≤}
 use lib.ListN.{length}
 use borrow.Author.Tests.{eqb-true, ltb-true}
+use Rattle.laws.proofs.Bools.{and-split}
 use Rattle.octets.specs.Octets.{all, zeroAt}
-use Rattle.octets.proofs.Laws.{and-split, and-true, all-at}
+use Rattle.octets.proofs.Laws.{all-at}
 use Rattle.ledger_sheet.specs.Sheet.{sheetSize, rowCount, deskSize, deskCount, deskZerosAt, deskZerosSize}
 use Rattle.ledger_sheet.specs.Sheet.{openedAt, workedAt, desksStart, deskAt, used, isUsed, isRow}
 use Rattle.ledger_sheet.specs.Sheet.{deskByte, deskRow, isClosed, carries, count, headerRight, countRight, validKeys}

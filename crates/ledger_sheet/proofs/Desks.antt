@@ -3,14 +3,14 @@
 use Prim.Native.Nat.{ℕ, _+_, _*_, _-_, _≤_}
 use native.Mathlib.Nat.{mul-add, mul-one}
 use native.Mathlib.Omega.{arith}
-use mathlib.Core.Bool.{Bool, true, false, not, _&&_, _||_}
+use mathlib.Core.Bool.{Bool, true, false, not, _&&_, _||_, and-true, and-assoc}
 use mathlib.Core.List.{List}
 use mathlib.Core.Path.{_≡_, refl}
 use lib.Dec.{eqb, leb}
 use lib.ListN.{getD}
 use borrow.Author.Tests.{eq-eqb, ne-eqb, lt-leb, le-leb, eqb-true, eqb-false}
 use Rattle.octets.specs.Octets.{all, zeroAt}
-use Rattle.octets.proofs.Laws.{and-true, and-assoc, all-next, zero-join}
+use Rattle.octets.proofs.Laws.{all-next, zero-join}
 use Rattle.ledger_sheet.specs.Sheet.{deskZerosAt, deskZerosSize}
 use Rattle.ledger_sheet.proofs.Ranges.{zero-within}
 
@@ -57,11 +57,11 @@ module _ (s : List ℕ) (start w : ℕ) (rows : Bool) (desk : ℕ → Bool) wher
         let here = start + w * d in
         let n : start + w * (d + 1) - z ≡ here - z + w = omega (arith, next d) in
         let m : z + (here - z) ≡ here = omega arith in
-        rw (n, zero-join s z (here - z) w, m, e, all-next, and-assoc, h, and-assoc)
+        rw (n, zero-join s z (here - z) w, m, e, all-next, ← and-assoc, h, ← and-assoc)
 
     -- the range ends at any other
     pub ended : UpTo (before && zeroAt s z (start + w * d - z) && desk d) (start + w * d + w) (d + 1)
     unfolding zeroAt all
     ended =
         let n : start + w * (d + 1) - (start + w * d + w) ≡ 0 = omega (arith, next d) in
-        rw (n, and-true, h, all-next, and-assoc)
+        rw (n, and-true, h, all-next, ← and-assoc)

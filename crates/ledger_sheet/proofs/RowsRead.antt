@@ -2,7 +2,7 @@
 use Prim.Native.Nat.{ℕ, zero, suc, _+_, _*_, _-_, _≤_, _<_, _%_}
 use native.Mathlib.Nat.{add-zero, mod-lt, eq-or-lt-of-le}
 use native.Mathlib.Omega.{arith}
-use mathlib.Core.Bool.{Bool, true, false, cond, not, _&&_, _||_}
+use mathlib.Core.Bool.{Bool, true, false, cond, not, _&&_, _||_, and-true, and-false, and-assoc}
 use mathlib.Core.List.{List}
 use mathlib.Core.Logic.{⊎-elim}
 use mathlib.Core.Path.{_≡_, refl, sym, _∙_}
@@ -11,7 +11,7 @@ use lib.ListN.{length, getD, set, length-set}
 use lib.Seq.{getD-set-same, getD-set-other}
 use borrow.Author.Tests.{eq-eqb, ne-eqb, eqb-true, eqb-false}
 use Rattle.octets.specs.Octets.{all, numberAt, zeroAt}
-use Rattle.octets.proofs.Laws.{and-true, and-false, and-assoc, all-none, all-next, all-both, all-each, zero-join}
+use Rattle.octets.proofs.Laws.{all-none, all-next, all-both, all-each, zero-join}
 use Rattle.keys.specs.Key.{validKey}
 use Rattle.keys.specs.Numbers.{isNumber}
 use Rattle.ledger_sheet.specs.Sheet.{usedWordSize, rowSize, rowCount, rowAt, desksStart, used, isUsed, keyAt}
@@ -177,7 +177,7 @@ module _ (s : List ℕ) (i found : ℕ) (right : Bool) (counted : found ≡ coun
       let size : rowSize * suc n ≡ rowSize * n + rowSize = omega arith in
       let place : rowAt i + rowSize * n ≡ rowAt (i + n) = omega arith in
       let next : i + suc n ≡ i + n + 1 = omega arith in
-      rw (size, zero-join s (rowAt i) (rowSize * n) rowSize, place, and-assoc, h, next, all-next, count-next) (by b u)
+      rw (size, zero-join s (rowAt i) (rowSize * n) rowSize, place, ← and-assoc, h, next, all-next, count-next) (by b u)
     where
       by : (b : Bool) → isUsed s (i + n) ≡ b
           → (all (i + n) (rowRight s) && eqb (count (i + n) (isUsed s)) found && zeroAt s (rowAt (i + n)) rowSize)

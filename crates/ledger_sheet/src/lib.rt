@@ -119,6 +119,25 @@ pub enum ReportAnswer {
     Refused(Refusal),
 }
 
+// What is told of a row: the key of its stream, and its first number.
+pub enum StreamAnswer {
+    Stream { key: u64, first: u32 },
+    Refused(Refusal),
+}
+
+// What is told of a desk: that it is closed; or its row, and whether a save would be stale now.
+pub enum DeskAnswer {
+    Closed,
+    Working { row: u32, stale: bool },
+    Refused(Refusal),
+}
+
+// How many ticks and unticks a desk has not saved.
+pub enum UnsavedAnswer {
+    Unsaved { ticks: u32, unticks: u32 },
+    Refused(Refusal),
+}
+
 // What first gap answers: the first missing number and its row.
 pub enum GapAnswer {
     Nothing,

@@ -5,11 +5,11 @@ use native.Mathlib.Nat.{pow-suc, pow-le-pow-right, add-zero, add-suc, mul-assoc}
 use native.Mathlib.Nat.{not-suc-le-zero, le-of-suc-le-suc, eq-or-lt-of-le, lt-of-lt-of-le, le-add-right, le-refl}
 use native.Mathlib.Numerals.{add-one}
 use native.Mathlib.Omega.{arith}
-use mathlib.Core.Bool.{Bool, true, false, not, _&&_, false≢true}
+use mathlib.Core.Bool.{Bool, true, false, _&&_, false≢true, and-true, and-false, and-assoc}
 use mathlib.Core.List.{List, [], _∷_, _++_, append-assoc}
 use mathlib.Core.Logic.{⊎-elim, _⊎_, inl, inr}
 use mathlib.Core.Path.{_≡_, refl, sym, ap, _∙_}
-use borrow.Author.Tests.{not-true, not-false, ne-eqb, eqb-true, eqb-false}
+use borrow.Author.Tests.{ne-eqb, eqb-true, eqb-false}
 use lib.Bits.{bitOr, bitXor, or-zero-l, or-add-and, xor-add-and, xor-self, and-le-l, and-le-r}
 use lib.Dec.{eqb, lit<, eqb·suc-zero}
 use mir.Syntax.{w8}
@@ -17,13 +17,17 @@ use mir.Val.{Fits}
 use lib.ListN.{length, take, drop, getD, set, length-append, length-drop, length-set, List·getD-append}
 use lib.Seq.{paste, paste-zero, paste-suc, length-paste, length-paste-head, take-length, length-take-le, append-snoc, getD-append-add}
 use lib.Seq.{take-set-le, drop-cons, drop-set-lt, getD-set-same, getD-take, getD-drop}
-use Rattle.octets.specs.Octets.{numberAt, bytesOf, part, put, all, zeroAt}
+use Rattle.laws.proofs.Bools.{and-cross}
+use Rattle.octets.specs.Octets.{AreBytes, numberAt, bytesOf, part, put, all, zeroAt}
 
 -- ---- numbers
 
--- every element is a byte
+-- every element is a byte, as the check says it of a slice
 abbrev pub Bytes : List ℕ → Type 0
 Bytes s = (k : ℕ) → Fits w8 (getD s k 0)
+
+pub are-bytes : (s : List ℕ) → AreBytes s → Bytes s
+are-bytes s h k = record { fits = h k }
 
 -- n bytes make a number below 256 ^ n
 pub number-lt : (s : List ℕ) (a n : ℕ) → Bytes s → numberAt s a n < 256 ^ n
@@ -57,34 +61,6 @@ length-bytesOf zero v = refl
 length-bytesOf (suc n) v = length-append (bytesOf n (v / 256)) (v % 256 ∷ []) ∙ ap (λ (k : ℕ). k + 1) (length-bytesOf n (v / 256)) ∙ add-one n
 
 -- ---- a test of every number below n
-
--- what a branch on the negation of a call's result says of the definition that the result equals
-pub failed : {r b : Bool} → r ≡ b → not r ≡ true → b ≡ false
-failed {r} e h = sym e ∙ not-true r h
-
-pub passed : {r b : Bool} → r ≡ b → not r ≡ false → b ≡ true
-passed {r} e h = sym e ∙ not-false r h
-
-pub and-split : (a b : Bool) → a && b ≡ true → (a ≡ true) × (b ≡ true)
-and-split true b e = (refl, e)
-and-split false b e = absurd (false≢true e)
-
-pub and-true : (b : Bool) → b && true ≡ b
-and-true true = refl
-and-true false = refl
-
-pub and-false : (b : Bool) → b && false ≡ false
-and-false true = refl
-and-false false = refl
-
-pub and-assoc : (a b c : Bool) → a && (b && c) ≡ a && b && c
-and-assoc true b c = refl
-and-assoc false b c = refl
-
-and-cross : (a b c d : Bool) → a && b && (c && d) ≡ a && c && (b && d)
-and-cross false b c d = refl
-and-cross true true c d = refl
-and-cross true false c d = sym (and-false c)
 
 pub all-none : (p : ℕ → Bool) → all 0 p ≡ true
 unfolding all
@@ -123,7 +99,7 @@ all-next i p = rw add-one
 pub all-join : (m n : ℕ) (p : ℕ → Bool) → all (m + n) p ≡ (all m p && all n (λ i. p (m + i)))
 unfolding all
 all-join m zero p = rw add-zero (sym (and-true (all m p)))
-all-join m (suc n) p = rw (add-suc, all-join m n p, and-assoc)
+all-join m (suc n) p = rw (add-suc, all-join m n p, ← and-assoc)
 
 -- tests that agree below n
 pub all-same : (n : ℕ) (p q : ℕ → Bool) → ((i : ℕ) → i < n → p i ≡ q i) → all n p ≡ all n q

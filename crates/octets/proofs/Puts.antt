@@ -9,6 +9,11 @@ use lib.ListN.{length, take, drop, set, length-append, length-drop}
 use lib.Seq.{sets, sets-eq, take-at, drop-at, take-all, take-length, drop-length, drop-drop, length-take-le, set-split, append-snoc, drop-append-add}
 use Rattle.octets.specs.Octets.{put}
 
+-- all of a list replaced
+pub put-whole : (s v : List ℕ) → length v ≡ length s → put s 0 v ≡ v
+unfolding put
+put-whole s v e = rw (zero-add, e, drop-length) (append-nil v)
+
 -- what is put behind what was just put
 pub put-put : (s : List ℕ) (a : ℕ) (v : List ℕ) (b : ℕ) (w : List ℕ) → a + length v ≡ b → b + length w ≤ length s
     → put (put s a v) b w ≡ put s a (v ++ w)

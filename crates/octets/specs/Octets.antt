@@ -1,10 +1,14 @@
 -- Numbers and ranges in a list of bytes (all big-endian, as document 01 has them).
 -- Assumes nothing.
-use Prim.Native.Nat.{ℕ, zero, suc, _+_, _*_, _/_, _%_}
+use Prim.Native.Nat.{ℕ, zero, suc, _+_, _*_, _/_, _%_, _<_}
 use mathlib.Core.Bool.{Bool, true, _&&_}
 use mathlib.Core.List.{List, [], _∷_, _++_}
 use lib.ListN.{length, take, drop, getD}
 use lib.Dec.{eqb}
+
+-- a list of bytes, as every slice of them is
+abbrev pub AreBytes : List ℕ → Type 0
+AreBytes s = (k : ℕ) → getD s k 0 < 256
 
 -- the big-endian number in the n bytes of s from index a
 unfoldable pub numberAt : List ℕ → ℕ → ℕ → ℕ

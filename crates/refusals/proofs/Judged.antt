@@ -1,15 +1,28 @@
 -- Laws of a list of rules: either none applies, or one is the first. Assumes nothing.
-use Prim.Native.Nat.{ℕ, _<_}
+use Prim.Native.Nat.{ℕ, zero, suc, _<_}
 use native.Mathlib.Omega.{arith}
-use mathlib.Core.Bool.{true, false, false≢true}
+use mathlib.Core.Bool.{Bool, true, false, _&&_, false≢true}
 use mathlib.Core.List.{List, [], _∷_, _++_}
 use mathlib.Core.Path.{_≡_, refl, sym, _∙_}
+use lib.ListN.{take, drop}
+use Rattle.laws.proofs.Bools.{and-split}
 use Rattle.refusals.specs.Judge.{Rule, _when_, judge, each, noneApplies, verdict}
 
 -- No rule's condition holds.
 abbrev pub NoneHolds : {A : Type 0} → List (Rule A) → Type 0
 NoneHolds [] = Unit {0}
 NoneHolds ((given when c) ∷ rules) = (c ≡ false) × NoneHolds rules
+
+-- The condition of the rule at a place of the list; it does not hold behind the last.
+abbrev pub conditionAt : {A : Type 0} → List (Rule A) → ℕ → Bool
+conditionAt [] i = false
+conditionAt ((given when c) ∷ rules) zero = c
+conditionAt ((given when c) ∷ rules) (suc i) = conditionAt rules i
+
+pub none-at : {A : Type 0} (rules : List (Rule A)) → NoneHolds rules → (i : ℕ) → conditionAt rules i ≡ false
+none-at [] h i = refl
+none-at ((given when c) ∷ rules) h zero = h .0
+none-at ((given when c) ∷ rules) h (suc i) = none-at rules (h .1) i
 
 -- What each rule gives has the property P.
 abbrev pub AllGive : {A : Type 0} → (A → Type 0) → List (Rule A) → Type 0
@@ -57,6 +70,22 @@ FirstGives P ((given when c) ∷ rules) = (c ≡ true → P given) × (c ≡ fal
 pub first-has : {A : Type 0} (P : A → Type 0) {rules : List (Rule A)} {g : A} → FirstGives P rules → First rules g → P g
 first-has P h here = h .0 refl
 first-has P h (later r) = first-has P (h .1 refl) r
+
+-- The first n rules have it whichever of them applies, and the others where none of these does.
+pub gives-past : {A : Type 0} (P : A → Type 0) (n : ℕ) (rules : List (Rule A)) → AllGive P (take n rules)
+    → (NoneHolds (take n rules) → FirstGives P (drop n rules)) → FirstGives P rules
+gives-past P zero rules h rest = rest tt
+gives-past P (suc n) [] h rest = tt
+gives-past P (suc n) ((g when c) ∷ rules) h rest = (λ _. h .0, λ e. gives-past P n rules (h .1) (λ none. rest (e, none)))
+
+-- What each rule gives passes a test.
+abbrev pub allPass : {A : Type 0} → (A → Bool) → List (Rule A) → Bool
+allPass p [] = true
+allPass p ((given when c) ∷ rules) = p given && allPass p rules
+
+pub first-passes : {A : Type 0} (p : A → Bool) {rules : List (Rule A)} {g : A} → allPass p rules ≡ true → First rules g → p g ≡ true
+first-passes p t (here {g} {rules}) = and-split (p g) (allPass p rules) t .0
+first-passes p t (later {g} {h} {rules} f) = first-passes p (and-split (p h) (allPass p rules) t .1) f
 
 -- One list behind another is judged where the first has nothing to say.
 pub judge-append : {A B : Type 0} (f : A → B) (xs ys : List (Rule A)) (answer : B) → judge f (xs ++ ys) answer ≡ judge f xs (judge f ys answer)

@@ -9,7 +9,7 @@ use borrow.Author.Tests.{ne-eqb, leb-true}
 use lib.Dec.{leb}
 use lib.IntN.{ℤ}
 use lib.ListN.{length, getD}
-use Rattle.octets.proofs.Laws.{and-split}
+use Rattle.laws.proofs.Bools.{and-split}
 use Rattle.refusals.specs.Judge.{Rule, _when_}
 use Rattle.refusals.specs.Table.{numberOf}
 use Rattle.refusals.specs.declared.Refusal.{Refusal}
@@ -19,9 +19,9 @@ use Rattle.sfdu.specs.Read.{faultWords, inStream, readRules, readOne, recordWor
 use Rattle.sfdu.specs.declared.Fault.{Fault}
 use Rattle.sfdu.proofs.Within.{second-inside}
 use Rattle.sfdu_headers.specs.Ranges.{judgedBytes}
-use Rattle.sfdu_rsr.specs.Record.{only, kindRules, rsrRules}
-use Rattle.sfdu_rsr.proofs.Rules.{first-refuses, refuse-append}
-use Rattle.sfdu_rsr.proofs.Reading.{all-refuse}
+use Rattle.sfdu_headers.specs.RsrRecord.{only, kindRules, rsrRules}
+use Rattle.sfdu_headers.proofs.Rules.{first-refuses, refuse-append}
+use Rattle.sfdu_headers.proofs.RsrRules.{all-refuse}
 use Rattle.sfdu_samples.specs.declared.Answer.{Answer}
 use Rattle.sfdu_samples.specs.Calls.{wordsOf, fills, sizeOf, rateOf, dataRules, unpackRules, unpacking}
 use Rattle.rsr_samples.specs.declared.judging.Judged.{Judged}

@@ -12,8 +12,8 @@ use lib.Seq.{length-take-le}
 use Rattle.refusals.proofs.Judged.{none-applies}
 use Rattle.sfdu.specs.Read.{recordLength, readRules, accepts}
 use Rattle.sfdu.proofs.Accepted as record-of
-use Rattle.sfdu_rsr.specs.Record.{kindRules}
-use Rattle.sfdu_rsr.proofs.Rules.{none-of-both}
+use Rattle.sfdu_headers.specs.RsrRecord.{kindRules}
+use Rattle.sfdu_headers.proofs.Rules.{none-of-both}
 use Rattle.sfdu_samples.specs.Calls.{unpacking}
 use Rattle.sfdu_samples.proofs.Judged.{unpacks}
 use Rattle.rsr_samples.specs.declared.input.Filled.{Filled}

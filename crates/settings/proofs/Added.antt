@@ -1,16 +1,17 @@
 -- Adding changes no answer for an earlier day nor for another mission; what is added is given on its first day. Assumes nothing.
 use Prim.Native.Nat.{ℕ, _<_, _^_}
 use native.Mathlib.Omega.{arith}
-use mathlib.Core.Bool.{Bool, true, false, _||_, false≢true}
+use mathlib.Core.Bool.{Bool, true, false, and-false}
 use mathlib.Core.List.{List, [], _∷_, _++_, List·Memᴰ, List·Memᴰ·head, List·Memᴰ·tail}
 use mathlib.Core.Logic.{_⊎_, inl, inr, _≢_}
 use mathlib.Core.Path.{_≡_, refl, sym, ap, _∙_}
 use lib.Dec.{eqb, lit<}
 use lib.ListN.{length, getD, length-append}
 use borrow.Author.Tests.{eq-eqb, ne-eqb, le-leb, lt-leb, lt-ltb, eqb-false, not-false}
+use Rattle.laws.proofs.Bools.{or-neither}
 use Rattle.refusals.specs.Judge.{Rule, judge}
 use Rattle.refusals.proofs.Judged as J
-use Rattle.octets.proofs.Laws.{Bytes, and-false}
+use Rattle.octets.proofs.Laws.{Bytes, are-bytes}
 use Rattle.settings.specs.declared.Setting.{Setting}
 use Rattle.settings.specs.declared.Found.{Found}
 use Rattle.settings.specs.declared.Found.the-variants.{Nothing, Latest}
@@ -30,14 +31,10 @@ unfolding picked
 picked-stays m d best x (inl l) = rw (lt-leb (x .day) d l, and-false)
 picked-stays m d best x (inr o) = rw (ne-eqb (x .mission) m o)
 
-pub neither : (a b : Bool) → (a || b) ≡ false → (a ≡ false) × (b ≡ false)
-neither false b e = (refl, e)
-neither true b e = absurd (false≢true (sym e))
-
 pub not-held : (m d : ℕ) (xs : List Setting) → holds m d xs ≡ false → (y : Setting) → List·Memᴰ y xs → isOf m d y ≡ false
 unfolding holds
-not-held m d (x ∷ xs) h y (List·Memᴰ·head q) = rw q (neither (isOf m d x) (holds m d xs) h .0)
-not-held m d (x ∷ xs) h y (List·Memᴰ·tail k) = not-held m d xs (neither (isOf m d x) (holds m d xs) h .1) y k
+not-held m d (x ∷ xs) h y (List·Memᴰ·head q) = rw q (or-neither (isOf m d x) (holds m d xs) h .0)
+not-held m d (x ∷ xs) h y (List·Memᴰ·tail k) = not-held m d xs (or-neither (isOf m d x) (holds m d xs) h .1) y k
 
 module _ (m e d f : ℕ) (xs : List Setting) where
   abbrev x : Setting
@@ -157,4 +154,4 @@ module _ (m e d f : ℕ) (s : List ℕ) (bytes : Bytes s) (hm : m < 256 ^ 1) (hd
       by true r = right-added r
 
 pub every-add : EveryAdd
-every-add m e d f s bytes = added m e d f s (λ k. record { fits = bytes k })
+every-add m e d f s bytes = added m e d f s (are-bytes s bytes)

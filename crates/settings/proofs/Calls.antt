@@ -2,15 +2,14 @@
 use Prim.Native.Nat.{ℕ, _+_, _*_, _-_, _<_}
 use native.Mathlib.Omega.{arith}
 use mathlib.Core.Bool.{true, false}
-use mathlib.Core.List.{List, [], _∷_, _++_, append-assoc, append-nil}
+use mathlib.Core.List.{List, [], _∷_, _++_, append-assoc}
 use mathlib.Core.Path.{_≡_, refl, sym, _∙_}
 use lib.ListN.{length, replicate, length-append, length-replicate, replicate-append-replicate}
-use lib.Seq.{drop-length}
 use borrow.Author.Tests.{eq-eqb, ne-eqb}
 use Rattle.refusals.specs.Judge.{judge}
 use Rattle.octets.specs.Octets.{put}
 use Rattle.octets.proofs.Laws.{Bytes}
-use Rattle.octets.proofs.Puts.{put-put, put-start, put-seam}
+use Rattle.octets.proofs.Puts.{put-put, put-seam, put-whole}
 use Rattle.settings.specs.declared.Setting.{Setting}
 use Rattle.octets.specs.Lists.{laid}
 use Rattle.settings.specs.Fields.{fieldBytes}
@@ -21,9 +20,6 @@ use Rattle.octets.proofs.Lists.{laid-more}
 use Rattle.settings.proofs.Sheets.{length-header, length-entry, length-entries, read-law, count-is}
 
 -- ---- an empty sheet
-
-put-whole : (s v : List ℕ) → length v ≡ length s → put s 0 v ≡ v
-put-whole s v e = rw (put-start, e, drop-length, append-nil)
 
 pub empty-written : (s : List ℕ) → length s ≡ sheetSize
     → put (put s 0 (fieldBytes (headerFields 0))) entriesStart (replicate (sheetSize - entriesStart) 0) ≡ layout []

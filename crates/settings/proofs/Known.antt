@@ -4,8 +4,9 @@ use native.Mathlib.Nat.{zero-lt-suc}
 use mathlib.Core.Bool.{true}
 use mathlib.Core.List.{List, List·Memᴰ, List·Memᴰ·head, List·Memᴰ·tail, List·Memᴰ·not-nil}
 use mathlib.Core.Path.{_≡_, sym, subst}
+use Rattle.laws.proofs.Bools.{and-split}
 use Rattle.octets.specs.Lists.{table}
-use Rattle.octets.proofs.Laws.{all-at, and-split}
+use Rattle.octets.proofs.Laws.{all-at}
 use Rattle.settings.specs.declared.Setting.{Setting}
 use Rattle.settings.specs.declared.Found.the-variants.{Nothing, Latest}
 use Rattle.settings.specs.Model.{known, latest}

@@ -7,6 +7,7 @@ pub mod Latest
 pub mod Added
 pub mod Order
 pub mod Answers
+pub mod BothWays
 pub mod Contracts
 pub mod Examples
 pub mod Known

@@ -5,7 +5,7 @@ use mathlib.Core.Bool.{true}
 use mathlib.Core.List.{List, [], _∷_, List·Memᴰ}
 use mathlib.Core.Logic.{_≢_}
 use mathlib.Core.Path.{_≡_}
-use lib.ListN.{getD}
+use Rattle.octets.specs.Octets.{AreBytes}
 use Rattle.settings.specs.declared.Setting.{Setting}
 use Rattle.settings.specs.declared.Found.{Found}
 use Rattle.settings.specs.declared.Found.the-variants.{Nothing, Latest}
@@ -49,7 +49,7 @@ pub record Added (mission edition day frame : ℕ) (s t : List ℕ) : Type 0 whe
 -- That holds of what `add` leaves of any slice of bytes, whether it accepts the setting or not; the numbers are those of its arguments' types.
 abbrev pub EveryAdd : Type 0
 EveryAdd =
-    (mission edition day frame : ℕ) (s : List ℕ) → ((k : ℕ) → getD s k 0 < 256) → mission < 256 ^ 1 → day < 256 ^ 4 → frame < 256 ^ 4
+    (mission edition day frame : ℕ) (s : List ℕ) → AreBytes s → mission < 256 ^ 1 → day < 256 ^ 4 → frame < 256 ^ 4
     → Added mission edition day frame s (onSheet (add mission edition day frame) s .1)
 
 -- ---- the order of adding

@@ -1,16 +1,30 @@
 -- What is known of a slice that read one accepts. Assumes nothing.
 use Prim.Native.Nat.{ℕ, _+_, _-_, _≤_, _<_}
 use native.Mathlib.Omega.{arith}
-use mathlib.Core.Bool.{Bool, true, false, not, _||_}
+use mathlib.Core.Bool.{Bool, true, false, not, _&&_, _||_, false≢true}
 use mathlib.Core.List.{List, [], _∷_}
 use mathlib.Core.Path.{_≡_, refl, sym, ap, _∙_}
-use borrow.Author.Tests.{leb-true, ltb-false, eqb-true, not-false}
-use lib.Dec.{eqb, lit<}
+use borrow.Author.Tests.{leb-true, ltb-true, ltb-false, eqb-true, not-false}
+use lib.Dec.{eqb, ltb}
 use lib.ListN.{length}
+use Rattle.laws.proofs.Bools.{and-split}
 use Rattle.refusals.specs.Table.{numberOf}
-use Rattle.refusals.proofs.Judged.{NoneHolds, AllGive, Outcome, none, first, outcome, none-judge, none-hold, none-applies, first-judge, first-gives}
+use Rattle.refusals.proofs.Judged.{
+  NoneHolds,
+  Outcome,
+  none,
+  first,
+  outcome,
+  conditionAt,
+  none-at,
+  none-judge,
+  none-hold,
+  none-applies,
+  first-judge,
+  allPass,
+  first-passes,
+}
 use Rattle.octets.specs.Octets.{sameAt}
-use Rattle.octets.proofs.Laws.{and-split}
 use Rattle.sfdu.specs.declared.Kind.{Kind}
 use Rattle.sfdu.specs.declared.Kind.the-variants.{Telemetry, Rsr}
 use Rattle.sfdu.specs.declared.Fault.{Fault}
@@ -89,50 +103,23 @@ pub record RefusalWords (w : List ℕ) : Type 0 where
   pub small : number < 12
   pub words : w ≡ number ∷ second ∷ []
 
-refuses : (n m : ℕ) → 0 < n → n < 12 → RefusalWords (n ∷ m ∷ [])
-refuses n m h l = record { number = n; second = m; positive = h; small = l; words = refl }
+-- A test of words that they are a refusal's.
+abbrev refusing : List ℕ → Bool
+refusing [] = false
+refusing (n ∷ []) = false
+refusing (n ∷ m ∷ []) = ltb 0 n && ltb n 12
+refusing (n ∷ m ∷ k ∷ more) = false
 
-all-refuse : (s : List ℕ) → AllGive RefusalWords (readRules s)
-all-refuse s = (
-  refuses _ _ (lit< tt) (lit< tt),
-  (
-    refuses _ _ (lit< tt) (lit< tt),
-    (
-      refuses _ _ (lit< tt) (lit< tt),
-      (
-        refuses _ _ (lit< tt) (lit< tt),
-        (
-          refuses _ _ (lit< tt) (lit< tt),
-          (
-            refuses _ _ (lit< tt) (lit< tt),
-            (
-              refuses _ _ (lit< tt) (lit< tt),
-              (
-                refuses _ _ (lit< tt) (lit< tt),
-                (
-                  refuses _ _ (lit< tt) (lit< tt),
-                  (
-                    refuses _ _ (lit< tt) (lit< tt),
-                    (
-                      refuses _ _ (lit< tt) (lit< tt),
-                      (
-                        refuses _ _ (lit< tt) (lit< tt),
-                        (
-                          refuses _ _ (lit< tt) (lit< tt),
-                          (refuses _ _ (lit< tt) (lit< tt), tt),
-                        ),
-                      ),
-                    ),
-                  ),
-                ),
-              ),
-            ),
-          ),
-        ),
-      ),
-    ),
-  ),
-)
+refuses : (w : List ℕ) → refusing w ≡ true → RefusalWords w
+refuses [] e = absurd (false≢true e)
+refuses (n ∷ []) e = absurd (false≢true e)
+refuses (n ∷ m ∷ []) e =
+    let b = and-split (ltb 0 n) (ltb n 12) e in
+    record { number = n; second = m; positive = ltb-true 0 n (b .0); small = ltb-true n 12 (b .1); words = refl }
+refuses (n ∷ m ∷ k ∷ more) e = absurd (false≢true e)
+
+all-refuse : (s : List ℕ) → allPass refusing (readRules s) ≡ true
+all-refuse s = refl
 
 -- Read one accepts, or what it answers is a refusal.
 pub data Reads (s : List ℕ) : Type 0 where
@@ -145,7 +132,7 @@ reads s = by (outcome (readRules s))
   where
     by : Outcome (readRules s) → Reads s
     by (none n) = accepted-one (none-applies (readRules s) n)
-    by (first g f) = refused-one (rw (first-judge (λ given. given) (recordWords (kindOf s) s) f) (first-gives RefusalWords (all-refuse s) f))
+    by (first g f) = refused-one (rw (first-judge (λ given. given) (recordWords (kindOf s) s) f) (refuses _ (first-passes refusing (all-refuse s) f)))
 
 pub words-accepted : (s rest : List ℕ) → readOne s ≡ 0 ∷ rest → accepts s ≡ true
 words-accepted s rest e = by (reads s)
@@ -226,21 +213,20 @@ block a b = record { class = eqb-true _ _ (not-false _ a); size-is = eqb-true _ 
 
 pub accepted : (s : List ℕ) → accepts s ≡ true → Accepted s
 accepted s a =
-    let h = none-holds s a in
-    let r = in-range (kindOf s) s (not-false _ (h .1 .1 .1 .1 .0)) in
-    let blocks = h .1 .1 .1 .1 .1 .1 in
+    let not-refused : (i : ℕ) → conditionAt (readRules s) i ≡ false = none-at (readRules s) (none-holds s a) in
+    let r = in-range (kindOf s) s (not-false _ (not-refused 4)) in
     record {
-      label = ltb-false _ _ (h .0);
-      authority-right = not-false _ (h .1 .0);
-      versionClass-right = not-false _ (h .1 .1 .0);
-      kind-right = picked s (not-false _ (h .1 .1 .1 .0));
+      label = ltb-false _ _ (not-refused 0);
+      authority-right = not-false _ (not-refused 1);
+      versionClass-right = not-false _ (not-refused 2);
+      kind-right = picked s (not-false _ (not-refused 3));
       least = r .0;
       most = r .1;
       size = record-length s (labelLength s) refl;
-      whole = ltb-false _ _ (h .1 .1 .1 .1 .1 .0);
-      aggregation = block (blocks .0) (blocks .1 .0);
-      primary = block (blocks .1 .1 .0) (blocks .1 .1 .1 .0);
-      secondary = block (blocks .1 .1 .1 .1 .0) (blocks .1 .1 .1 .1 .1 .0);
-      data-type = eqb-true _ _ (not-false _ (blocks .1 .1 .1 .1 .1 .1 .0));
-      data-length = eqb-true _ _ (not-false _ (blocks .1 .1 .1 .1 .1 .1 .1 .0));
+      whole = ltb-false _ _ (not-refused 5);
+      aggregation = block (not-refused 6) (not-refused 7);
+      primary = block (not-refused 8) (not-refused 9);
+      secondary = block (not-refused 10) (not-refused 11);
+      data-type = eqb-true _ _ (not-false _ (not-refused 12));
+      data-length = eqb-true _ _ (not-false _ (not-refused 13));
     }

@@ -6,9 +6,10 @@ use mathlib.Core.List.{List, _++_}
 use mathlib.Core.Path.{_≡_, _∙_}
 use borrow.Author.Tests.{le-ltb}
 use lib.ListN.{length}
+use Rattle.laws.proofs.Bools.{passed}
 use Rattle.refusals.specs.Judge.{Rule, judge, answered, noneApplies}
 use Rattle.octets.specs.Octets.{numberAt, sameAt}
-use Rattle.octets.proofs.Laws.{Bytes, passed}
+use Rattle.octets.proofs.Laws.{Bytes}
 use Rattle.sfdu.specs.declared.Kind.{Kind}
 use Rattle.sfdu.specs.declared.Kind.the-variants.{Telemetry, Rsr}
 use Rattle.sfdu.specs.Nesting.{authority, versionClass, authorityAt, versionClassAt, kindAt, tagSize, labelSize}

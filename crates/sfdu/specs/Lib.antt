@@ -1,4 +1,5 @@
 pub mod Nesting
 pub mod Read
 pub mod Nested
+pub mod Within
 pub mod inner

@@ -1,4 +1,5 @@
 // One record: its label, its nested blocks and its parts, for telemetry and for the radio science receiver (RSR).
+mod label;
 pub mod nesting;
 mod reader;
 mod whole;

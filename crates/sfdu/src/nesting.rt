@@ -120,6 +120,9 @@ pub fn data_value_at(kind: Kind) -> usize
     data_at(kind) + BLOCK_LABEL
 }
 
+// Of an RSR record, for whoever reads no other.
+pub const RSR_DATA_VALUE_AT: usize = SECONDARY_VALUE_AT + RSR_SECONDARY + BLOCK_LABEL;
+
 // The aggregation's value: the primary and the secondary block.
 pub fn aggregation_length(kind: Kind) -> u64
     ensures { λ r. ⌜ r ≡ aggregationLength kind ⌝ }

@@ -1,20 +1,13 @@
 // Read one: the checks in the order of document 01's refusal table, and the two parts.
 ghost use denote.Ref.{ptr};
-ghost use mathlib.Core.Bool.{_&&_};
 ghost use mathlib.Core.List.{[], _∷_, _++_};
 ghost use mathlib.Core.Path.{_≡_};
 ghost use Prim.Native.Nat.{_+_, _-_, _≤_, _<_};
 ghost use lib.ListN.{length};
-ghost use lib.Dec.{eqb, leb};
+ghost use lib.Dec.{eqb};
 ghost use Rattle.refusals.specs.Judge.{answered};
 ghost use Rattle.refusals.specs.Table.{numberOf};
-ghost use Rattle.octets.specs.Octets.{sameAt};
 ghost use Rattle.sfdu.specs.Nesting.{
-  authority,
-  versionClass,
-  authorityAt,
-  versionClassAt,
-  tagSize,
   labelSize,
   blockLabelSize,
   aggregationAt,
@@ -29,8 +22,6 @@ ghost use Rattle.sfdu.specs.Nesting.{
   aggregationLength,
   primaryLength,
   secondaryLength,
-  leastLabelLength,
-  mostLabelLength,
   mostData,
 };
 ghost use Rattle.sfdu.specs.Read.{
@@ -42,7 +33,6 @@ ghost use Rattle.sfdu.specs.Read.{
   headerRules,
   dataRules,
   recordWords,
-  labelLength,
   recordLength,
   blockType,
   blockLength,
@@ -58,8 +48,8 @@ use crate::Fault;
 use crate::Kind;
 use crate::Primary;
 use crate::Read;
+use crate::label;
 use crate::nesting;
-use crate::whole;
 use octets::numbers;
 use refusals::Refusal;
 
@@ -71,10 +61,10 @@ pub fn read_one(s: &[u8]) -> Read
     if s.len() < nesting::LABEL {
         return refused(Refusal::TooShort, s.len());
     }
-    if !has_authority(s) {
+    if !label::has_authority(s) {
         return refused(Refusal::Authority, nesting::AUTHORITY_AT);
     }
-    if !has_version_class(s) {
+    if !label::has_version_class(s) {
         return refused(Refusal::VersionClass, nesting::VERSION_CLASS_AT);
     }
     let tag = numbers::read_u32(s, nesting::KIND_AT);
@@ -93,40 +83,14 @@ fn refused(refusal: Refusal, at: usize) -> Read
     Read::Refused(Fault { refusal, at })
 }
 
-pub(crate) fn has_authority(s: &[u8]) -> bool
-    requires { ⌜ labelSize ≤ length (now s) ⌝ }
-    ensures { λ r. ⌜ r ≡ sameAt (now (s .entry)) authorityAt authority 0 tagSize ⌝ }
-{
-    octets::is_same(
-        s,
-        nesting::AUTHORITY_AT,
-        &nesting::AUTHORITY,
-        0,
-        nesting::TAG,
-    )
-}
-
-pub(crate) fn has_version_class(s: &[u8]) -> bool
-    requires { ⌜ labelSize ≤ length (now s) ⌝ }
-    ensures { λ r. ⌜ r ≡ sameAt (now (s .entry)) versionClassAt versionClass 0 tagSize ⌝ }
-{
-    octets::is_same(
-        s,
-        nesting::VERSION_CLASS_AT,
-        &nesting::VERSION_CLASS,
-        0,
-        nesting::TAG,
-    )
-}
-
 // The refusals from the label's length on.
 fn read_length(s: &[u8], kind: Kind) -> Read
     requires { ⌜ labelSize ≤ length (now s) ⌝ }
     ensures { λ r. ⌜ wordsOf r ≡ answered (lengthRules kind (now (s .entry)) ++ headerRules kind (now (s .entry))
         ++ dataRules kind (now (s .entry))) (recordWords kind (now (s .entry))) ⌝ }
 {
-    let after = label_length(s);
-    if !length_in_range(after, kind) {
+    let after = label::label_length(s);
+    if !label::length_in_range(after, kind) {
         return refused(Refusal::LabelLength, nesting::LENGTH_AT);
     }
     let size = nesting::LABEL + after as usize;
@@ -134,22 +98,6 @@ fn read_length(s: &[u8], kind: Kind) -> Read
         return refused(Refusal::Truncated, s.len());
     }
     read_blocks(s, kind, size)
-}
-
-// The length in the label: that of the record past the label.
-pub(crate) fn label_length(s: &[u8]) -> u64
-    requires { ⌜ labelSize ≤ length (now s) ⌝ }
-    ensures { λ r. ⌜ r ≡ labelLength (now (s .entry)) ⌝ }
-{
-    numbers::read_u64(s, nesting::LENGTH_AT)
-}
-
-pub(crate) fn length_in_range(after: u64, kind: Kind) -> bool
-    ensures { λ r. ⌜ r ≡ (leb (leastLabelLength kind) after && leb after (mostLabelLength kind)) ⌝ }
-{
-    let least = nesting::least_label_length(kind);
-    let most = least + nesting::MOST_DATA as u64;
-    (least <= after) & (after <= most)
 }
 
 // The refusals from the aggregation's label on, of a record that is `size` bytes long and lent whole.
@@ -213,7 +161,7 @@ fn judge_label(s: &[u8], at: usize, class: u64, size: u64) -> Checked
     requires { ⌜ (at + blockLabelSize ≤ length (now s)) × (class ≤ mostData) × (size ≤ mostData) ⌝ }
     ensures { λ r. ⌜ r ≡ checked (typeAndLength (now (s .entry)) at class size) ⌝ }
 {
-    if whole::is_label(s, at, class, size) {
+    if label::is_label(s, at, class, size) {
         return Checked::Right;
     }
     if numbers::read_u16(s, at) as u64 != class {

@@ -8,7 +8,6 @@ ghost use lib.ListN.{length};
 ghost use Rattle.refusals.specs.Judge.{noneApplies};
 ghost use Rattle.sfdu.specs.Nesting.{
   labelSize,
-  blockLabelSize,
   aggregationAt,
   secondaryAt,
   dataAt,
@@ -23,11 +22,9 @@ ghost use Rattle.sfdu.specs.Nesting.{
 ghost use Rattle.sfdu.specs.Read.{recordLength, lengthRules, headerRules, dataRules};
 ghost use Rattle.sfdu.specs.inner.Checked.{isLabel, wholeSize};
 use crate::Kind;
+use crate::label;
 use crate::nesting;
-use crate::reader;
 use octets::numbers;
-
-const WORD_VALUES: u64 = 65536;
 
 // 0 where read one refuses.
 pub fn whole_size(s: &[u8]) -> usize
@@ -36,10 +33,10 @@ pub fn whole_size(s: &[u8]) -> usize
     if s.len() < nesting::LABEL {
         return 0;
     }
-    if !reader::has_authority(s) {
+    if !label::has_authority(s) {
         return 0;
     }
-    if !reader::has_version_class(s) {
+    if !label::has_version_class(s) {
         return 0;
     }
     let tag = numbers::read_u32(s, nesting::KIND_AT);
@@ -57,8 +54,8 @@ fn size_as(s: &[u8], kind: Kind) -> usize
     ensures { λ r. ⌜ r ≡ cond (noneApplies (lengthRules kind (now (s .entry))
         ++ headerRules kind (now (s .entry)) ++ dataRules kind (now (s .entry)))) (recordLength (now (s .entry))) 0 ⌝ }
 {
-    let after = reader::label_length(s);
-    if !reader::length_in_range(after, kind) {
+    let after = label::label_length(s);
+    if !label::length_in_range(after, kind) {
         return 0;
     }
     let size = nesting::LABEL + after as usize;
@@ -77,7 +74,7 @@ fn has_blocks(s: &[u8], kind: Kind, size: usize) -> bool
     ensures { λ r. ⌜ r ≡ noneApplies (headerRules kind (now (s .entry)) ++ dataRules kind (now (s .entry))) ⌝ }
 {
     let aggregation = is_aggregation(s, kind);
-    let primary = is_label(
+    let primary = label::is_label(
         s,
         nesting::PRIMARY_AT,
         nesting::PRIMARY_TYPE,
@@ -92,7 +89,7 @@ fn is_aggregation(s: &[u8], kind: Kind) -> bool
     requires { ⌜ dataValueAt kind ≤ length (now s) ⌝ }
     ensures { λ r. ⌜ r ≡ isLabel (now (s .entry)) aggregationAt aggregationType (aggregationLength kind) ⌝ }
 {
-    is_label(
+    label::is_label(
         s,
         nesting::AGGREGATION_AT,
         nesting::AGGREGATION_TYPE,
@@ -104,7 +101,7 @@ fn is_secondary(s: &[u8], kind: Kind) -> bool
     requires { ⌜ dataValueAt kind ≤ length (now s) ⌝ }
     ensures { λ r. ⌜ r ≡ isLabel (now (s .entry)) secondaryAt (secondaryType kind) (secondaryLength kind) ⌝ }
 {
-    is_label(
+    label::is_label(
         s,
         nesting::SECONDARY_AT,
         nesting::secondary_type(kind),
@@ -117,13 +114,5 @@ fn is_data(s: &[u8], kind: Kind, size: usize) -> bool
     ensures { λ r. ⌜ r ≡ isLabel (now (s .entry)) (dataAt kind) dataType (recordLength (now (s .entry)) - dataValueAt kind) ⌝ }
 {
     let rest = size - nesting::data_value_at(kind);
-    is_label(s, nesting::data_at(kind), nesting::DATA_TYPE, rest as u64)
-}
-
-// Whether the block at an offset has this type and this length.
-pub(crate) fn is_label(s: &[u8], at: usize, class: u64, size: u64) -> bool
-    requires { ⌜ (at + blockLabelSize ≤ length (now s)) × (class ≤ mostData) × (size ≤ mostData) ⌝ }
-    ensures { λ r. ⌜ r ≡ isLabel (now (s .entry)) at class size ⌝ }
-{
-    numbers::read_u32(s, at) as u64 == class * WORD_VALUES + size
+    label::is_label(s, nesting::data_at(kind), nesting::DATA_TYPE, rest as u64)
 }

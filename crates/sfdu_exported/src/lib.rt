@@ -1,11 +1,18 @@
-// The walk, the number lists and the table for a host, their answers in numbers: what `reference/table` compares.
+// Calls that no script has, for a host, their answers in numbers: the walk, the number lists and the table of entries, the room for them, the
+// table of new years. `reference/table` compares them.
 ghost use mathlib.Core.Path.{_≡_};
 ghost use Rattle.sfdu_stream.specs.Walk.{wordsOf};
 ghost use Rattle.sfdu_stream.specs.Listing.{walked, listNumbers, listEntries};
+ghost use Rattle.sfdu_stream.specs.Room.{mostRecords};
+ghost use Rattle.sfdu.specs.declared.Kind.the-variants.{Telemetry, Rsr};
 ghost use Rattle.sfdu_exported.specs.Numbers.{numbersOf};
+ghost use Rattle.sfdu_exported.specs.Tables.{newYearAt};
 use sfdu_stream::Entry;
 use sfdu_stream::Stop;
 use sfdu_stream::Walked;
+
+// The entries of the table of new years.
+const YEARS: usize = 1101;
 
 // The count, the stop place, the stop number and the number that goes with it.
 #[repr(C)]
@@ -70,4 +77,30 @@ pub extern "C" fn rt_list_entries(s: &[u8], table: &mut [Entry]) -> Answer
     ensures { λ r. ⌜ (numbersOf r, now (table .exit)) ≡ listEntries (now (s .entry)) (now (table .entry)) ⌝ }
 {
     in_numbers(sfdu_lists::list_entries(s, table))
+}
+
+#[no_mangle]
+pub extern "C" fn rt_most_records(bytes: usize) -> usize
+    ensures { λ r. ⌜ r ≡ mostRecords Telemetry bytes ⌝ }
+{
+    sfdu_stream::most_records(bytes)
+}
+
+#[no_mangle]
+pub extern "C" fn rt_most_rsr_records(bytes: usize) -> usize
+    ensures { λ r. ⌜ r ≡ mostRecords Rsr bytes ⌝ }
+{
+    sfdu_stream::most_rsr_records(bytes)
+}
+
+// Entry i of the table of new years, and 0 past its end.
+#[no_mangle]
+pub extern "C" fn rt_new_year(i: usize) -> u32
+    ensures { λ r. ⌜ r ≡ newYearAt i ⌝ }
+{
+    let table = dates::new_years();
+    if YEARS <= i {
+        return 0;
+    }
+    table[i]
 }

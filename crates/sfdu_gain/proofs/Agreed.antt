@@ -19,7 +19,7 @@ use Rattle.settings.specs.Layout.{onSheet}
 use Rattle.settings.proofs.Known.{found-known}
 use Rattle.sfdu_headers.specs.Words.{number}
 use Rattle.sfdu_headers.specs.Fields.{year, day}
-use Rattle.sfdu_rsr.specs.Record.{rsrRules, mission}
+use Rattle.sfdu_headers.specs.RsrRecord.{rsrRules, mission}
 use Rattle.sfdu_gain.specs.Gain.{gainOf, gaining, agreed, editionOf, askedRules, agreedGain}
 use Rattle.sfdu_gain.specs.Agreed.{askedFor, gainFor, AgreedIsGain, AnswersAgree}
 use Rattle.sfdu_gain.proofs.Judged.{gain-refused, gain-known, agreed-refused, agreed-past}

@@ -17,7 +17,7 @@ use Rattle.settings.specs.Sheet.{right}
 use Rattle.settings.specs.Layout.{onSheet}
 use Rattle.sfdu_headers.specs.Words.{Word, number}
 use Rattle.sfdu_headers.specs.Fields.{year, day}
-use Rattle.sfdu_rsr.specs.Record.{only, rsrRules, mission}
+use Rattle.sfdu_headers.specs.RsrRecord.{only, rsrRules, mission}
 use Rattle.sfdu_gain.specs.Gain.{gainOf, gaining, agreed, editionOf, askedRules, agreedGain}
 use Rattle.sfdu_gain.specs.inner.Told.{toldGain}
 

@@ -15,7 +15,7 @@ use Rattle.settings.specs.Words.{askedWords}
 use Rattle.settings.specs.Layout.{onSheet}
 use Rattle.sfdu_headers.specs.Words.{Word, number}
 use Rattle.sfdu_headers.specs.Fields.{year, day}
-use Rattle.sfdu_rsr.specs.Record.{rsrRules, mission}
+use Rattle.sfdu_headers.specs.RsrRecord.{rsrRules, mission}
 use Rattle.sfdu_gain.specs.declared.GainAnswer.{GainAnswer}
 use Rattle.sfdu_gain.specs.declared.GainAnswer.the-variants.{Refused}
 use Rattle.sfdu_gain.specs.Gain.{wordsOf, gaining, agreedGain}

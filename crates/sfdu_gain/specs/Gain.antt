@@ -16,7 +16,7 @@ use Rattle.settings.specs.Sheet.{settingsOf, right}
 use Rattle.sfdu.specs.Read.{faultWords}
 use Rattle.sfdu_headers.specs.Words.{Word, number, none}
 use Rattle.sfdu_headers.specs.Fields.{fieldAt, year, day}
-use Rattle.sfdu_rsr.specs.Record.{only, rsrRules, mission}
+use Rattle.sfdu_headers.specs.RsrRecord.{only, rsrRules, mission}
 use Rattle.sfdu_gain.specs.declared.GainAnswer.{GainAnswer}
 use Rattle.sfdu_gain.specs.declared.GainAnswer.the-variants.{Multiplier, Nothing as NoGain, Header, Refused}
 

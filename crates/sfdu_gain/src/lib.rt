@@ -14,7 +14,7 @@ use refusals::Refusal;
 use settings::Asked;
 use sfdu::Fault;
 use sfdu::nesting;
-use sfdu_rsr::Rsr;
+use sfdu_headers::rsr_record::Rsr;
 
 // The multiplier's four bytes as one number; none in the old edition; or a refusal, read headers' 1 to 12 with the number that goes
 // with them.
@@ -31,7 +31,7 @@ const GAIN_AT: usize = nesting::SECONDARY_AT + 208;
 pub fn gain(s: &[u8], edition: u32) -> GainAnswer
     ensures { λ r. ⌜ wordsOf r ≡ gaining edition (now (s .entry)) ⌝ }
 {
-    let found = sfdu_rsr::read_rsr(s);
+    let found = sfdu_headers::rsr_record::read_rsr(s);
     match found {
         Rsr::Record {
             size: _,
@@ -52,7 +52,7 @@ pub fn gain(s: &[u8], edition: u32) -> GainAnswer
 pub fn agreed_gain(sheet: &[u8], s: &[u8]) -> GainAnswer
     ensures { λ r. ⌜ wordsOf r ≡ agreedGain (now (sheet .entry)) (now (s .entry)) ⌝ }
 {
-    let found = sfdu_rsr::read_rsr(s);
+    let found = sfdu_headers::rsr_record::read_rsr(s);
     match found {
         Rsr::Record {
             size: _,

@@ -9,7 +9,7 @@ use Rattle.sfdu.specs.Nesting.{secondaryAt}
 use Rattle.dates.specs.declared.CountAnswer.{CountAnswer}
 use Rattle.dates.specs.declared.CountAnswer.the-variants.{Day, NotADate}
 use Rattle.dates.specs.Calendar.{isYear, isDay, isDate, dayCount}
-use Rattle.dates.specs.Answers.{countOf}
+use Rattle.dates.specs.inner.Counted.{countOf}
 use Rattle.sfdu_headers.specs.Fields.{year, day, yearAt, dayAt}
 use Rattle.sfdu_headers.specs.inner.Dated.{IsDated}
 

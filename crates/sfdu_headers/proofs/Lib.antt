@@ -5,3 +5,7 @@ pub mod Words
 pub mod Dates
 pub mod Keys
 pub mod Numbers
+pub mod Rules
+pub mod RsrRules
+pub mod RsrFound
+pub mod RsrWords

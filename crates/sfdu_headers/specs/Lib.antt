@@ -4,3 +4,4 @@ pub mod Ranges
 pub mod Headers
 pub mod Keys
 pub mod inner
+pub mod RsrRecord

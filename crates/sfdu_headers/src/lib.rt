@@ -1,6 +1,8 @@
 // The header fields of a record, for both kinds, and its stream key.
+mod bands;
 mod call;
 mod rsr;
+pub mod rsr_record;
 mod telemetry;
 
 pub use call::read_headers;

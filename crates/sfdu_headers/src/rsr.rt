@@ -24,9 +24,10 @@ ghost use Rattle.sfdu_headers.specs.Headers.{
   timeOf,
   addedOf,
 };
-ghost use Rattle.sfdu_headers.specs.Ranges.{inRange, isRsrBand, byteRules};
+ghost use Rattle.sfdu_headers.specs.Ranges.{inRange, byteRules};
 ghost use Rattle.sfdu_headers.specs.Words.{number};
 use crate as headers;
+use crate::bands;
 use dates::CountAnswer;
 use octets::numbers;
 use refusals::Refusal;
@@ -196,14 +197,8 @@ fn in_range(allowed: headers::Allowed, b: u8) -> bool
 {
     match allowed {
         headers::Allowed::Between(low, high) => (low <= b) & (b <= high),
-        headers::Allowed::Bands => is_band(b),
+        headers::Allowed::Bands => bands::is_rsr_band(b),
     }
-}
-
-pub(crate) fn is_band(b: u8) -> bool
-    ensures { λ r. ⌜ r ≡ isRsrBand b ⌝ }
-{
-    (b == b'S') | (b == b'X') | (b == b'K')
 }
 
 // The year and the day: which of them is out of range, or their day count.

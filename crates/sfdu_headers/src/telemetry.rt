@@ -10,13 +10,13 @@ ghost use Rattle.sfdu.specs.Read.{primaryWords, primaryOf, recordLength};
 ghost use Rattle.sfdu_headers.specs.Fields.{recordNumber, spacecraft, hasBand, uplink};
 ghost use Rattle.sfdu_headers.specs.Headers.{wordsOf, judgedFields, telemetryFieldWords, fieldsOf, bandWord, receivedWords};
 ghost use Rattle.sfdu_headers.specs.inner.Parts.{extendedValues, millisecondValues};
-ghost use Rattle.sfdu_headers.specs.Ranges.{isBand};
 ghost use Rattle.sfdu_headers.specs.inner.Fault.{fault};
 ghost use Rattle.sfdu_headers.specs.Words.{number, none};
 use crate::Band;
 use crate::Headers;
 use crate::ReceivedTime;
 use crate::TelemetryFields;
+use crate::bands;
 use octets::numbers;
 use refusals::Refusal;
 use sfdu::Checked;
@@ -83,7 +83,7 @@ fn band_fault(s: &[u8]) -> Checked
     if !has_band(s) {
         return Checked::Right;
     }
-    if is_band(s[UPLINK_AT]) {
+    if bands::is_telemetry_band(s[UPLINK_AT]) {
         return Checked::Right;
     }
     Checked::Wrong(UPLINK_AT)
@@ -94,12 +94,6 @@ fn has_band(s: &[u8]) -> bool
     ensures { λ r. ⌜ r ≡ hasBand (now (s .entry)) ⌝ }
 {
     2 <= s[MODE_AT] % 4
-}
-
-fn is_band(b: u8) -> bool
-    ensures { λ r. ⌜ r ≡ isBand b ⌝ }
-{
-    (b == b'U') | crate::rsr::is_band(b)
 }
 
 fn read_fields(s: &[u8]) -> TelemetryFields

@@ -9,7 +9,7 @@ use borrow.Author.Tests.{ltb-true, ltb-false, ne-eqb}
 use lib.Dec.{ltb}
 use lib.ListN.{length, drop}
 use lib.Seq.{drop-drop}
-use Rattle.octets.proofs.Laws.{and-split}
+use Rattle.laws.proofs.Bools.{and-split}
 use Rattle.refusals.specs.Judge.{judge, noneApplies}
 use Rattle.refusals.proofs.Judged.{NoneHolds, First, here, none-hold, none-applies, first-judge}
 use Rattle.sfdu.specs.Nesting.{labelSize}

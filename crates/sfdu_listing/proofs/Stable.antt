@@ -1,7 +1,6 @@
 -- What a window says of the record at the start of s, where s is not cut short, the stream says however it goes on: s with any m
 -- behind it has the same refusal, the same kind, length and number. Assumes nothing.
-use Prim.Native.Nat.{ℕ, zero, suc, _+_, _≤_, _<_}
-use native.Mathlib.Nat.{le-refl}
+use Prim.Native.Nat.{ℕ, _+_, _≤_}
 use native.Mathlib.Omega.{arith}
 use mathlib.Core.Bool.{Bool, true, false, false≢true}
 use mathlib.Core.List.{List, [], _∷_, _++_}
@@ -9,8 +8,9 @@ use mathlib.Core.Path.{_≡_, refl, sym, ap, _∙_}
 use borrow.Author.Tests.{le-ltb, ltb-false, ne-eqb, not-false}
 use lib.Dec.{ltb}
 use lib.ListN.{length, length-append, List·getD-append}
+use Rattle.octets.proofs.Laws.{all-same}
 use Rattle.refusals.specs.Judge.{Rule, judge, answered}
-use Rattle.octets.specs.Octets.{all, sameAt}
+use Rattle.octets.specs.Octets.{sameAt}
 use Rattle.octets.proofs.Parts.{number-first}
 use Rattle.sfdu.specs.declared.Kind.{Kind}
 use Rattle.sfdu.specs.declared.Kind.the-variants.{Telemetry, Rsr}
@@ -56,11 +56,6 @@ use Rattle.sfdu_listing.proofs.Judging.{
 }
 
 -- ---- bytes of the first of two lists
-
-all-same : (n : ℕ) (p q : ℕ → Bool) → ((i : ℕ) → i < n → p i ≡ q i) → all n p ≡ all n q
-unfolding all
-all-same zero p q h = refl
-all-same (suc n) p q h = rw (all-same n p q (λ i l. h i (omega arith)), h n (le-refl _))
 
 module _ (s m : List ℕ) where
   same-first : (a : ℕ) (t : List ℕ) (n : ℕ) → a + n ≤ length s → sameAt (s ++ m) a t 0 n ≡ sameAt s a t 0 n

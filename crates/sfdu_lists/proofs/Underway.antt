@@ -8,7 +8,7 @@ use mathlib.Core.Path.{_≡_, refl, sym, ap, _∙_}
 use lib.Dec.{ltb}
 use lib.ListN.{length, take, drop, length-append}
 use borrow.Author.Tests.{le-ltb, lt-ltb, ltb-true}
-use Rattle.octets.proofs.Laws.{and-split}
+use Rattle.laws.proofs.Bools.{and-split}
 use Rattle.sfdu.specs.declared.Kind.{Kind}
 use Rattle.sfdu.specs.Nesting.{kindNumber}
 use Rattle.sfdu_headers.specs.Fields.{recordNumber}

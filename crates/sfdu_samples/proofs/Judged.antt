@@ -12,12 +12,12 @@ use lib.Seq.{sets}
 use Rattle.refusals.specs.Judge.{Rule, judge}
 use Rattle.refusals.proofs.Judged.{NoneHolds, First, Outcome, none, first, outcome, none-judge, first-judge, judge-append}
 use Rattle.sfdu.specs.Read.{dataPart}
-use Rattle.sfdu_rsr.specs.Record.{rsrRules}
-use Rattle.sfdu_rsr.proofs.Rules.{refuse, first-refuses, refuse-append, none-of-both}
-use Rattle.sfdu_rsr.proofs.Reading.{all-refuse}
+use Rattle.sfdu_headers.specs.RsrRecord.{rsrRules}
+use Rattle.sfdu_headers.proofs.Rules.{refuse, first-refuses, refuse-append, none-of-both}
+use Rattle.sfdu_headers.proofs.RsrRules.{all-refuse}
 use Rattle.sfdu_samples.specs.Calls.{fills, writes, sizeOf, rateOf, dataRules, unpackRules, unpacking, packRules, packing}
 use Rattle.sfdu_samples.specs.Packing.{perHalf, perWord, unpackedWords, packedWords, unpacked, packed, allCoded}
-use Rattle.sfdu_rates.specs.Rates.{isListed}
+use Rattle.sfdu_samples.specs.Rates.{isListed}
 use Rattle.sfdu_samples.specs.inner.Unpacking.{Width, unpackingData}
 use Rattle.sfdu_samples.proofs.Packed.{length-packed}
 use Rattle.sfdu_samples.proofs.Runs.{sets-fills}

@@ -10,3 +10,5 @@ pub mod Again
 pub mod RoundTrip
 pub mod Examples
 pub mod Words
+pub mod Table
+pub mod Contracts

@@ -4,7 +4,7 @@ use lib.ListN.{take}
 use lib.Seq.{take-append-seam}
 use Rattle.refusals.proofs.Judged.{none-hold}
 use Rattle.sfdu.specs.Read.{dataPart}
-use Rattle.sfdu_rsr.specs.Record.{rsrRules}
+use Rattle.sfdu_headers.specs.RsrRecord.{rsrRules}
 use Rattle.sfdu_samples.specs.Calls.{sizeOf, rateOf, unpacking, packing}
 use Rattle.sfdu_samples.specs.Packing.{unpacked, packed}
 use Rattle.sfdu_samples.specs.RoundTrip.{UnpackedPacksAgain, PackedUnpacksAgain}

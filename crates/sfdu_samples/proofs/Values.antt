@@ -2,12 +2,12 @@
 use Prim.Native.Nat.{ℕ, zero, suc, _+_, _*_, _/_, _%_, _-_, _^_, _≤_, _<_}
 use native.Mathlib.Nat.{pow-zero, pow-suc, suc-mul, add-mul, mul-assoc, pow-le-pow-right, not-suc-le-zero, add-mul-mod-self-right, mod-eq-of-lt, one-le-pow}
 use native.Mathlib.Omega.{arith}
-use mathlib.Core.Bool.{Bool, true, false, _&&_, false≢true}
+use mathlib.Core.Bool.{Bool, true, false, _&&_, false≢true, and-true, and-false}
 use mathlib.Core.Path.{_≡_, refl, sym, ap, _∙_}
 use borrow.Author.Tests.{lt-ltb, le-ltb, ltb-true, ltb-false, eqb-true, eqb-false, eq-eqb, ne-eqb}
 use lib.Dec.{eqb, ltb, lit<}
 use lib.IntN.{ℤ, pos, negsuc, negℤ, _+ℤ_, _-ℤ_, _*ℤ_}
-use Rattle.octets.proofs.Laws.{and-split, and-true, and-false}
+use Rattle.laws.proofs.Bools.{and-split}
 use Rattle.sfdu_samples.specs.Packing.{twos, valueOf, hasCode, codeOf, perHalf}
 use Rattle.sfdu_samples.specs.inner.Unpacking.{Width, raised}
 

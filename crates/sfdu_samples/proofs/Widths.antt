@@ -5,9 +5,9 @@ use mathlib.Core.List.{List, [], _∷_}
 use mathlib.Core.Path.{_≡_, refl}
 use borrow.Author.Tests.{ltb-true, leb-true, eqb-true}
 use lib.Dec.{eqb, ltb, leb}
-use Rattle.octets.proofs.Laws.{and-split}
-use Rattle.sfdu_rates.specs.declared.Listed.{Listed}
-use Rattle.sfdu_rates.specs.Rates.{table, among, isListed}
+use Rattle.laws.proofs.Bools.{and-split}
+use Rattle.sfdu_samples.specs.declared.rates.Listed.{Listed}
+use Rattle.sfdu_samples.specs.Rates.{table, among, isListed}
 use Rattle.sfdu_samples.specs.Packing.{perHalf, halfWord}
 use Rattle.sfdu_samples.specs.inner.Unpacking.{Width}
 

@@ -11,10 +11,10 @@ use Rattle.refusals.specs.Judge.{Rule, _when_, judge}
 use Rattle.refusals.specs.Table.{numberOf}
 use Rattle.sfdu.specs.Read.{faultWords, dataPart}
 use Rattle.sfdu_headers.specs.Fields.{byteAt, fieldAt}
-use Rattle.sfdu_rsr.specs.Record.{only, rsrRules}
+use Rattle.sfdu_headers.specs.RsrRecord.{only, rsrRules}
 use Rattle.sfdu_samples.specs.declared.Answer.{Answer}
 use Rattle.sfdu_samples.specs.declared.Answer.the-variants.{Count, Header, Refused}
-use Rattle.sfdu_rates.specs.Rates.{isListed}
+use Rattle.sfdu_samples.specs.Rates.{isListed}
 use Rattle.sfdu_samples.specs.Packing.{perWord, unpacked, packed, allCoded}
 
 -- An answer in words: 0 and the count, or the refusal's number, with the number that goes with it where one does.

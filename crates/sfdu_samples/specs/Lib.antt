@@ -3,3 +3,4 @@ pub mod Bits
 pub mod Calls
 pub mod RoundTrip
 pub mod inner
+pub mod Rates

@@ -9,7 +9,7 @@ use lib.IntN.{ℤ}
 use lib.ListN.{length, getD, take}
 use Rattle.refusals.specs.Judge.{noneApplies}
 use Rattle.sfdu.specs.Read.{dataPart}
-use Rattle.sfdu_rsr.specs.Record.{rsrRules}
+use Rattle.sfdu_headers.specs.RsrRecord.{rsrRules}
 use Rattle.sfdu_samples.specs.Calls.{fills, sizeOf, rateOf, unpacking, packing}
 
 -- Where unpack answers N, pack makes of the list's first N numbers, with the record's size and rate, the record's data part, in any

@@ -1,4 +1,6 @@
 // The samples of an RSR record: its data part unpacked into pairs of numbers, and numbers packed into a data part.
+pub mod rates;
+
 ghost use mathlib.Core.Path.{_≡_};
 ghost use Prim.Native.Nat.{_≤_};
 ghost use lib.ListN.{length};
@@ -11,7 +13,7 @@ use octets::numbers;
 use refusals::Refusal;
 use sfdu::Fault;
 use sfdu::nesting;
-use sfdu_rsr::Rsr;
+use sfdu_headers::rsr_record::Rsr;
 
 mod bits;
 mod packs;
@@ -24,18 +26,16 @@ pub enum Answer {
     Refused(Refusal),
 }
 
-// Where the samples' size and rate and the data stand, from the record's start.
+// Where the samples' size and rate stand, from the record's start.
 const SIZE_AT: usize = nesting::SECONDARY_AT + 36;
 
 const RATE_AT: usize = nesting::SECONDARY_AT + 38;
-
-const DATA_AT: usize = nesting::SECONDARY_AT + 228;
 
 // The numbers of a record's data part, I then Q, go to the start of the list.
 pub fn unpack(s: &[u8], list: &mut [i32]) -> Answer
     ensures { λ r. ⌜ (wordsOf r, now (list .exit)) ≡ unpacking (now (s .entry)) (now (list .entry)) ⌝ }
 {
-    let found = sfdu_rsr::read_rsr(s);
+    let found = sfdu_headers::rsr_record::read_rsr(s);
     match found {
         Rsr::Record {
             size,
@@ -44,7 +44,7 @@ pub fn unpack(s: &[u8], list: &mut [i32]) -> Answer
         } => {
             let bits = sample_size(s);
             let rate = sample_rate(s);
-            unpacks::unpack_data(&s[DATA_AT..size], bits, rate, list)
+            unpacks::unpack_data(&s[nesting::RSR_DATA_VALUE_AT..size], bits, rate, list)
         }
         Rsr::Refused(f) => Answer::Header(f),
         Rsr::WrongKind => Answer::Refused(Refusal::WrongKind),
@@ -75,7 +75,7 @@ fn sample_rate(s: &[u8]) -> u32
 pub fn pack(size: u32, rate: u32, samples: &[i32], out: &mut [u8]) -> Answer
     ensures { λ r. ⌜ (wordsOf r, now (out .exit)) ≡ packing size rate (now (samples .entry)) (now (out .entry)) ⌝ }
 {
-    if !sfdu_rates::is_listed(size, rate) {
+    if !crate::rates::is_listed(size, rate) {
         return Answer::Refused(Refusal::SamplePair);
     }
     let per = unpacks::per_word(size);

@@ -27,7 +27,7 @@ const HALF_WORD_BITS: u32 = 16;
 pub(crate) fn unpack_data(d: &[u8], size: u32, rate: u32, list: &mut [i32]) -> Answer
     ensures { λ r. ⌜ (wordsOf r, now (list .exit)) ≡ unpackingData size rate (now (d .entry)) (now (list .entry)) ⌝ }
 {
-    if !sfdu_rates::is_listed(size, rate) {
+    if !crate::rates::is_listed(size, rate) {
         return Answer::Refused(Refusal::SamplePair);
     }
     if d.len() % WORD != 0 {

@@ -3,3 +3,4 @@ pub mod Again
 pub mod Back
 pub mod RoundTrip
 pub mod Words
+pub mod Contracts

@@ -6,9 +6,10 @@ use mathlib.Core.List.{List, [], _∷_}
 use mathlib.Core.Path.{_≡_, refl}
 use lib.ListN.{length, length-append}
 use borrow.Author.Tests.{lt-ltb, le-ltb, ne-eqb, eqb-true, leb-true}
+use Rattle.laws.proofs.Bools.{and-split}
 use Rattle.refusals.specs.Judge.{judge}
 use Rattle.octets.specs.Octets.{put}
-use Rattle.octets.proofs.Laws.{length-bytesOf, and-split}
+use Rattle.octets.proofs.Laws.{length-bytesOf}
 use Rattle.octets.proofs.Puts.{put-start}
 use Rattle.sfdu.specs.declared.Kind.{Kind}
 use Rattle.sfdu.specs.declared.Kind.the-variants.{Telemetry, Rsr}

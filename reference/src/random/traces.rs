@@ -1,4 +1,4 @@
-//! Traces in random scripts: recorded nights, and such as differ from what the calls answer or are not well formed.
+//! Traces in random scripts: recorded nights, whole or in pieces, and such as differ from what the calls answer or are not well formed.
 
 use super::Generator;
 use crate::convert::OLD_SHEET;
@@ -61,12 +61,50 @@ impl Generator {
         if self.calls.sheet.len() != length {
             self.emit(Frame { op: ops::NEW_SHEET, a: vec![0; length], ..Frame::default() });
         }
-        let trace = trace_case(&self.rng, case);
-        self.emit(Frame { op: ops::REPLAY, a: trace, ..Frame::default() });
+        match case {
+            TraceCase::Recorded(count) if count <= MOST_ENTRIES && self.rng.percent(50) => self.pieces_of_night(count),
+            _ => {
+                let op = self.rng.pick(&[ops::REPLAY, ops::REPLAY, ops::REPLAY_ON]);
+                if op == ops::REPLAY_ON && self.rng.percent(80) {
+                    self.emit(Frame { op: ops::FRESH, ..Frame::default() });
+                }
+                let trace = trace_case(&self.rng, case);
+                self.emit(Frame { op, a: trace, ..Frame::default() });
+            }
+        }
         for _ in 0..self.rng.below(3) {
             let op = self.sheet_ops.deal(&self.rng);
             self.call(op);
         }
+    }
+}
+
+impl Generator {
+    /// A night in pieces: the first played over a fresh sheet, each other over what the one before left. Sometimes an answer
+    /// in one of them differs.
+    fn pieces_of_night(&mut self, count: usize) {
+        let log = recorded(&self.rng, count);
+        let mut cuts = vec![0, log.len()];
+        (0..self.rng.between(1, 3)).for_each(|_| cuts.push(self.rng.index(log.len() + 1)));
+        cuts.sort();
+        for (i, piece) in cuts.windows(2).enumerate() {
+            let mut trace = write_trace(&log[piece[0]..piece[1]]);
+            if trace.len() > HEADER && self.rng.percent(15) {
+                trace[HEADER + ANSWER] = self.rng.pick(&[0, 25, 29]);
+                trace[HEADER + ROW] = 0;
+            }
+            let op = if i == 0 { ops::REPLAY } else { ops::REPLAY_ON };
+            self.emit(Frame { op, a: trace, ..Frame::default() });
+        }
+    }
+
+    /// A few calls over the sheet as it stands, with what they answer there, or would on a fresh sheet.
+    pub fn short_replay(&mut self) {
+        let rng = &self.rng;
+        let start = if rng.percent(80) { self.view() } else { fresh_sheet() };
+        let log = recorded_on(rng, start, rng.index(6), 0);
+        let a = write_trace(&log);
+        self.emit(Frame { op: ops::REPLAY_ON, a, ..Frame::default() });
     }
 }
 
@@ -130,14 +168,23 @@ fn trace_case(rng: &Rng, case: TraceCase) -> Vec<u8> {
 
 /// Calls made one after the other on a fresh sheet, with what they answered.
 pub fn recorded(rng: &Rng, count: usize) -> Vec<(Call, Answer)> {
+    recorded_on(rng, fresh_sheet(), count, 3)
+}
+
+fn fresh_sheet() -> Vec<u8> {
     let mut s = vec![0; SHEET];
     ledger::fresh(&mut s).expect("the length is right");
+    s
+}
+
+/// The same on this sheet; the first so many are enrolments.
+fn recorded_on(rng: &Rng, mut s: Vec<u8>, count: usize, enrolments: usize) -> Vec<(Call, Answer)> {
     let mut log = Vec::new();
     while log.len() < count {
-        let call = if log.len() < 3 { enrolment(rng) } else { call(rng) };
+        let call = if log.len() < enrolments { enrolment(rng) } else { call(rng) };
         let answer = call.make(&mut s);
         // Of refused calls fewer than come, but 31 closes the desk.
-        if [0, 31].contains(&answer.number) || rng.percent(50) || log.len() < 3 {
+        if [0, 31].contains(&answer.number) || rng.percent(50) || log.len() < enrolments {
             log.push((call, answer));
         }
     }

@@ -34,10 +34,14 @@ fn well_formed(trace: &[u8]) -> bool {
 
 /// The line without the crc, and the book at the end.
 fn plainly(trace: &[u8]) -> Option<(String, Book)> {
+    plainly_on(Book::new(), trace)
+}
+
+/// The same from this book on.
+fn plainly_on(mut book: Book, trace: &[u8]) -> Option<(String, Book)> {
     if !well_formed(trace) {
         return None;
     }
-    let mut book = Book::new();
     for (i, e) in trace[12..].chunks(16).enumerate() {
         let (desk, row) = (e[1].into(), e[2].into());
         let n = u32::from_be_bytes(e[4..8].try_into().unwrap());
@@ -68,13 +72,15 @@ fn replays_are_the_books() {
         for f in random::script_of(seed, 1_500, Some("traces")) {
             let before = calls.sheet.clone();
             let line = calls.line(&f).unwrap();
-            if f.op != ops::REPLAY {
-                continue;
-            }
-            let (expected, left) = match plainly(&f.a) {
-                _ if before.len() != 6_968 => ("20".to_string(), before),
-                None => ("40".to_string(), before),
-                Some((expected, book)) => (expected, book.laid_out()),
+            let start = match f.op {
+                ops::REPLAY => Some(Book::new()).filter(|_| before.len() == 6_968),
+                ops::REPLAY_ON => Book::of_sheet(&before),
+                _ => continue,
+            };
+            let (expected, left) = match start.map(|book| plainly_on(book, &f.a)) {
+                None => ("20".to_string(), before),
+                Some(None) => ("40".to_string(), before),
+                Some(Some((expected, book))) => (expected, book.laid_out()),
             };
             *match &expected[..] {
                 "0 same" => &mut same,

@@ -1,8 +1,9 @@
 //! `table SEED COUNT`: on COUNT random streams, the proved table of entries against the proved number lists, entry by
-//! entry and past the count, and both against the reference. `table time`: the walk and the lists against the reference.
+//! entry and past the count, and both against the reference; then the room for them and the table of new years. `table time`: the walk and the lists against the reference.
 
-use reference::make::Rng;
-use reference::record::write_one;
+use reference::dates;
+use reference::make::{self, Rng};
+use reference::record::{write_one, RSR, TELEMETRY};
 use reference::stream::{self, Entry, Stop};
 use std::collections::BTreeMap;
 use std::hint::black_box;
@@ -17,6 +18,9 @@ struct Answer {
 }
 
 extern "C" {
+    fn rt_most_records(bytes: usize) -> usize;
+    fn rt_most_rsr_records(bytes: usize) -> usize;
+    fn rt_new_year(i: usize) -> u32;
     fn rt_walk(s: *const u8, length: usize) -> Answer;
     fn rt_list_entries(s: *const u8, length: usize, table: *mut Entry, free: usize) -> Answer;
     #[allow(clippy::too_many_arguments)]
@@ -141,6 +145,29 @@ fn compare(seed: u64, count: usize) {
     println!("{count} streams, {entries} entries: table, number lists and reference the same; streams by stop number {stops:?}");
 }
 
+/// The room for a list of a stream of so many bytes is as many as the shortest records that fill them.
+fn compare_room(seed: u64) {
+    let rng = Rng::new(seed);
+    let shortest = |kind| make::good_record(&rng, kind, 0).len();
+    let (telemetry, rsr) = (shortest(TELEMETRY), shortest(RSR));
+    let near = |at: usize| [at.saturating_sub(1), at, at + 1];
+    let chosen = [0, telemetry, rsr, 7 * telemetry, 9 * rsr, 1 << 32, usize::MAX - 1].into_iter().flat_map(near);
+    for bytes in chosen.chain((0..1000).map(|_| rng.next() as usize >> rng.index(64))) {
+        // They ask nothing.
+        let found = unsafe { (rt_most_records(bytes), rt_most_rsr_records(bytes)) };
+        assert_eq!(found, (bytes / telemetry, bytes / rsr), "room for {bytes} bytes");
+    }
+}
+
+/// Every entry of the table of new years, and none behind the last.
+fn compare_new_years() {
+    for i in 0..=1100 {
+        let wanted = dates::day_count(1900 + i as u32, 1).expect("it is a date");
+        assert_eq!(unsafe { rt_new_year(i) }, wanted, "1 January {}", 1900 + i);
+    }
+    assert_eq!(unsafe { (rt_new_year(1101), rt_new_year(usize::MAX)) }, (0, 0));
+}
+
 fn seconds(run: &mut dyn FnMut() -> Stop) -> f64 {
     let start = Instant::now();
     black_box(run());
@@ -179,7 +206,12 @@ fn main() {
     let words: Vec<String> = std::env::args().skip(1).collect();
     match words.as_slice() {
         [word] if word == "time" => time(),
-        [seed, count] => compare(seed.parse().expect("a seed"), count.parse().expect("a count")),
+        [seed, count] => {
+            let seed = seed.parse().expect("a seed");
+            compare(seed, count.parse().expect("a count"));
+            compare_room(seed);
+            compare_new_years();
+        }
         _ => eprintln!("table SEED COUNT | table time"),
     }
 }

@@ -3,7 +3,7 @@ use borrow.Author.Tests.{ltb-true, not-true}
 use Prim.Native.Nat.{_+_}
 use mathlib.Core.Bool.{not}
 use lib.Dec.{eqb, ltb, lit≤}
-use Rattle.octets.proofs.Laws.{and-split}
+use Rattle.laws.proofs.Bools.{and-split}
 use Rattle.idr.specs.Words.{recordSize}
 use Rattle.idr_list.proofs.Onward.{turn-fails, turn-waits, turn-lists, turn-writes}
 use borrow.Author.Needs.{needs}

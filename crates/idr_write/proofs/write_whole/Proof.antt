@@ -3,10 +3,9 @@ use native.Mathlib.Omega.{arith}
 use mathlib.Core.List.{_++_}
 use mathlib.Core.Path.{_∙_}
 use lib.ListN.{length-append}
-use Rattle.octets.proofs.Puts.{put-next}
+use Rattle.octets.proofs.Puts.{put-next, put-whole}
 use Rattle.idr.specs.Words.{samplesAt}
 use Rattle.idr_write.specs.Write.{wordBytes}
-use Rattle.idr.proofs.Header.{put-whole}
 use Rattle.idr_write.proofs.Written.{length-wordBytes}
 use borrow.Author.Needs.{needs}
 use Rattle.idr_write.proofs.write_whole.Statement.{statement}

@@ -1,6 +1,6 @@
 -- `first_gap` meets its contract. Assumes nothing.
 use mathlib.Core.Path.{ap, _∙_}
-use Rattle.octets.proofs.Laws.{failed, passed}
+use Rattle.laws.proofs.Bools.{failed, passed}
 use Rattle.ledger_sheet.proofs.Clauses.{right-parts}
 use Rattle.refusals.specs.Judge.{judge}
 use Rattle.ledger_model.specs.Step.{FirstGap, refusals, asked}

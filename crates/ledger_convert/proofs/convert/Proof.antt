@@ -3,7 +3,7 @@ use mathlib.Core.List.{List, [], _∷_}
 use mathlib.Core.Path.{ap}
 use Prim.Native.Nat.{ℕ}
 use borrow.Author.Tests.{eq-eqb, ne-eqb}
-use Rattle.octets.proofs.Laws.{failed, passed}
+use Rattle.laws.proofs.Bools.{failed, passed}
 use Rattle.ledger_convert.specs.Convert.{convertOn}
 use borrow.Author.Needs.{needs}
 use Rattle.ledger_convert.proofs.convert.Statement.{statement}

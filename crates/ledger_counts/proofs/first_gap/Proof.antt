@@ -1,11 +1,11 @@
 -- `ledger_counts::first_gap` meets its contract. The invariants: the first gap is that of the rows from `row` on; of that row the
 -- first i positions are ticked. Assumes nothing.
+use Rattle.laws.proofs.Bools.{failed, passed}
 use Rattle.ledger_layout.proofs.Scans.{Each, each-none, each-more}
 use Prim.Native.Nat.{_-_, _≤_, _<_}
 use mathlib.Core.Bool.{true}
 use mathlib.Core.Path.{_≡_, refl, sym, ap, _∙_}
 use native.Mathlib.Omega.{arith}
-use Rattle.octets.proofs.Laws.{failed, passed}
 use Rattle.ledger_sheet.specs.declared.GapAnswer.the-variants.{Nothing}
 use Rattle.ledger_sheet.specs.Sheet.{rowCount}
 use Rattle.ledger_layout.specs.Ticks.{tickedAt}

@@ -1,7 +1,7 @@
 -- `ledger_counts::row_end` meets its contract. Assumes nothing.
 use native.Mathlib.Omega.{arith}
-use Rattle.octets.proofs.Laws.{failed, passed}
 use borrow.Author.Needs.{needs}
+use Rattle.laws.proofs.Bools.{failed, passed}
 use Rattle.ledger_counts.proofs.row_end.Statement.{statement}
 use Rattle.ledger_counts.proofs.row_end.Tie as tie
 

@@ -1,103 +1,127 @@
--- `ledger_missing::put_gaps` meets its contract. The invariant: the numbers from `at` on, stored from `count` on, give the result. Assumes nothing.
-use Prim.Native.Nat.{ℕ, _+_, _-_, _≤_, _<_}
-use native.Mathlib.Numerals.{add-one}
+-- `ledger_missing::put_gaps` meets its contract. The invariant: the numbers from word k on, stored from `at` on, give the result. Assumes nothing.
+use Prim.Native.Nat.{ℕ, _+_, _-_, _*_, _≤_, min}
 use native.Mathlib.Omega.{arith}
-use mathlib.Core.Bool.{false}
-use mathlib.Core.List.{List, _∷_}
-use mathlib.Core.Path.{_≡_, refl, ap, _∙_}
-use lib.ListN.{length, length-set}
-use lib.Seq.{sets}
+use mathlib.Core.List.{List, _++_}
+use mathlib.Core.Path.{_≡_, refl, sym, ap, _∙_}
+use borrow.Author.Needs.{needs}
+use lib.ListN.{length, length-append}
+use lib.Seq.{sets, length-sets}
+use Rattle.ledger_model.specs.Positions.{positionNumber}
 use Rattle.ledger_layout.specs.Ticks.{tickedAt}
 use Rattle.ledger_counts.specs.inner.Counts.{numberAtPosition}
-use Rattle.ledger_missing.specs.inner.Gaps.{gapsIn}
-use Rattle.ledger_missing.proofs.Gaps.{except-none, gaps-next, gaps-here}
+use Rattle.ledger_counts.specs.inner.Words.{wordBits, wordCount}
+use Rattle.ledger_missing.specs.inner.Gaps.{gapsIn, numbersAt}
+use Rattle.ledger_missing.proofs.Gaps.{except-none, gaps-word, sets-append}
 use Rattle.ledger_missing.proofs.put_gaps.Statement.{statement}
 use Rattle.ledger_missing.proofs.put_gaps.Tie as tie
 
+-- The numbers from word k on, and those of word k.
+abbrev onward : (s : List ℕ) (a end k : ℕ) → List ℕ
+onward s a end k = gapsIn s a (wordBits * k) (end - wordBits * k)
+
+abbrev here : (s : List ℕ) (a end k : ℕ) → List ℕ
+here s a end k = gapsIn s a (wordBits * k) (min wordBits (end - wordBits * k))
+
 abbrev Inv-loop : tie.InvT-loop
-Inv-loop s a end list₀ count₀ at₀ list count at =
-    (at ≤ end) × (at < end → tickedAt s a at ≡ false) × (length list ≡ length list₀)
-    × (count + length (gapsIn s a at (end - at)) ≤ length list)
-    × (sets list count (gapsIn s a at (end - at)) ≡ sets list₀ 0 (gapsIn s a 0 end))
+Inv-loop s a end list₀ key first at₀ k₀ list at k =
+    (k ≤ wordCount) × (length list ≡ length list₀) × (at + length (onward s a end k) ≤ length list)
+    × (sets list at (onward s a end k) ≡ sets list₀ 0 (gapsIn s a 0 end))
 
 abbrev μ-loop : tie.MeasureT-loop
-μ-loop s a end list₀ count₀ at₀ list count at = end - at
+μ-loop s a end list₀ key first at₀ k₀ list at k = wordCount - k
 
-next-unticked-requires : tie.Need-next-unticked-requires Inv-loop μ-loop
-next-unticked-requires c κs = omega arith
+key-at-requires : tie.Need-key-at-requires Inv-loop μ-loop
+key-at-requires c κs = search needs
+
+first-at-requires : tie.Need-first-at-requires Inv-loop μ-loop
+first-at-requires c κs = search needs
 
 loop-holds : tie.Need-loop-holds Inv-loop μ-loop
 loop-holds c =
-    let start = c .before .before .before in
+    let start = c .before .before .before .before in
     let g = start .args in
-    let next = c .next-unticked .ensures in
-    let zero-off : g .end - 0 ≡ g .end = omega arith in
-    let all = rw zero-off at (gaps-next (g .s .now) (g .a) (g .end) 0 (c .next-unticked .result) next) in
-    (next .within, next .gap, refl, rw (← all) (omega (arith, start .pre .2)), rw (← all) refl)
+    let all : g .end - 0 ≡ g .end = omega arith in
+    let same = ap (gapsIn (g .s .now) (g .a) 0) all in
+    (omega arith, refl, omega (arith, start .pre .2, ap (λ (l : List ℕ). length l) same), ap (sets (g .list .now) 0) same)
 
--- The number at `at` comes first of those that are left.
-first : (c : tie.In-loop Inv-loop μ-loop)
-    → let g = c .before .before .before .before .before .args in
-    let at = c .before .loop .at in
-    gapsIn (g .s .now) (g .a) at (g .end - at) ≡ numberAtPosition (g .s .now) (g .a) at ∷ gapsIn (g .s .now) (g .a) (at + 1) (g .end - (at + 1))
-first c =
-    let g = c .before .before .before .before .before .args in
-    let at = c .before .loop in
-    gaps-here (g .s .now) (g .a) (g .end) (at .at) (c .loop-test .taken) (at .inv .1 (c .loop-test .taken))
+mul-loop : tie.Need-mul-loop Inv-loop μ-loop
+mul-loop c = omega arith
 
--- So there is an entry for it.
-room : (c : tie.In-loop Inv-loop μ-loop) → c .before .loop .count < length (c .before .loop .list)
-room c = omega (arith, c .before .loop .inv .3, ap (λ (l : List ℕ). length l) (first c))
+unticked-word-requires : tie.Need-unticked-word-requires Inv-loop μ-loop
+unticked-word-requires c κs = omega arith
 
-number-in-requires : tie.Need-number-in-requires Inv-loop μ-loop
-number-in-requires c κs = omega arith
+mul-put-word : tie.Need-mul-put-word Inv-loop μ-loop
+mul-put-word c = omega arith
 
-mul-list : tie.Need-mul-list Inv-loop μ-loop
-mul-list c =
-    let start = c .before .before .before .before .before .before in
-    omega (arith, start .good .1 .1 .1 .0 .1, room (c .before), c .before .before .loop .inv .2)
+-- What is stored of a word are its numbers, and those behind it come after them.
+own : (c : tie.After-unticked-word Inv-loop μ-loop)
+    → let l = c .before .before in
+    let g = l .before .before .before .before .before .args in
+    numbersAt (λ i. positionNumber (l .before .before .key-at .result) (l .before .first-at .result) (wordBits * l .loop .k + i)) wordBits
+    (c .unticked-word .result)
+    ≡ here (g .s .now) (g .a) (g .end) (l .loop .k)
+own c =
+    let l = c .before .before in
+    rw (l .before .before .key-at .ensures, l .before .first-at .ensures) (c .unticked-word .ensures)
 
-slice-write-list : tie.Need-slice-write-list Inv-loop μ-loop
-slice-write-list c = room (c .before)
+split : (c : tie.After-unticked-word Inv-loop μ-loop)
+    → let l = c .before .before in
+    let g = l .before .before .before .before .before .args in
+    onward (g .s .now) (g .a) (g .end) (l .loop .k) ≡ here (g .s .now) (g .a) (g .end) (l .loop .k) ++ onward (g .s .now) (g .a) (g .end) (l .loop .k + 1)
+split c =
+    let l = c .before .before in
+    let g = l .before .before .before .before .before .args in
+    gaps-word (g .s .now) (g .a) (g .end) (l .loop .k) (c .before .loop-test .taken)
 
-add-count : tie.Need-add-count Inv-loop μ-loop
-add-count c = omega (arith, room (c .before), mul-list c)
+-- and so many there are
+many : (c : tie.After-unticked-word Inv-loop μ-loop)
+    → let l = c .before .before in
+    let g = l .before .before .before .before .before .args in
+    length (onward (g .s .now) (g .a) (g .end) (l .loop .k))
+    ≡ length (here (g .s .now) (g .a) (g .end) (l .loop .k)) + length (onward (g .s .now) (g .a) (g .end) (l .loop .k + 1))
+many c =
+    let l = c .before .before in
+    let g = l .before .before .before .before .before .args in
+    ap (λ (xs : List ℕ). length xs) (split c) ∙ length-append (here (g .s .now) (g .a) (g .end) (l .loop .k)) (onward (g .s .now) (g .a) (g .end) (l .loop .k + 1))
 
-add-next-unticked : tie.Need-add-next-unticked Inv-loop μ-loop
-add-next-unticked c = omega arith
+put-word-requires : tie.Need-put-word-requires Inv-loop μ-loop
+put-word-requires c κs =
+    let u = c .before in
+    (omega arith, omega (arith, u .before .before .loop .inv .2, many u, ap (λ (xs : List ℕ). length xs) (own u)))
 
-next-unticked-requires-2 : tie.Need-next-unticked-requires-2 Inv-loop μ-loop
-next-unticked-requires-2 c κs = omega arith
+add-k : tie.Need-add-k Inv-loop μ-loop
+add-k c = omega arith
 
 loop-less : tie.Need-loop-less Inv-loop μ-loop
-loop-less c = omega (arith, c .next-unticked2 .ensures .past, c .next-unticked2 .ensures .within)
+loop-less c = omega arith
 
 loop-again : tie.Need-loop-again Inv-loop μ-loop
 loop-again c =
-    let at-loop = c .before .before .before in
-    let g = at-loop .before .before .before .before .args in
-    let at = at-loop .loop in
-    let next = c .next-unticked2 .ensures in
-    let later = gaps-next (g .s .now) (g .a) (g .end) (at .at + 1) (c .next-unticked2 .result) next in
-    let now = first (c .before .before) in
-    let stored = at .inv .4 in (
-      next .within,
-      next .gap,
-      length-set (at .list) (at .count) _ ∙ at .inv .2,
-      rw (length-set, ← later) (omega (arith, at .inv .3, ap (λ (l : List ℕ). length l) now)),
-      rw (← later, c .before .number-in .ensures, add-one) (rw now at stored),
+    let put = c .before .before .put-word .ensures in
+    let u = c .before .before .before .before in
+    let l = u .before .before in
+    let at = l .loop in
+    let g = l .before .before .before .before .before .args in
+    let xs = here (g .s .now) (g .a) (g .end) (at .k) in
+    let rest = onward (g .s .now) (g .a) (g .end) (at .k + 1) in
+    let stored = put .put ∙ ap (sets (at .list) (at .at)) (own u) in
+    let past = put .past ∙ ap (λ (ys : List ℕ). at .at + length ys) (own u) in
+    let long = ap (λ (ys : List ℕ). length ys) stored ∙ length-sets (at .list) (at .at) xs in (
+      omega arith,
+      long ∙ at .inv .1,
+      omega (arith, at .inv .2, many u, past, long),
+      rw (stored, past) (sym (sets-append xs rest (at .list) (at .at)) ∙ ap (sets (at .list) (at .at)) (sym (split u)) ∙ at .inv .3),
     )
 
 same-length : tie.Need-same-length Inv-loop μ-loop
-same-length c = c .before .loop .inv .2
+same-length c = c .before .loop .inv .1
 
 returns : tie.Need-returns Inv-loop μ-loop
 returns c =
     let at = c .before .loop in
-    let g = c .before .before .before .before .before .args in
-    let none : g .end - at .at ≡ 0 = omega arith in
-    let last = rw (none, except-none (tickedAt (g .s .now) (g .a)) (numberAtPosition (g .s .now) (g .a)) (at .at)) at (at .inv .4) in
-    last
+    let g = c .before .before .before .before .before .before .args in
+    let none : g .end - wordBits * at .k ≡ 0 = omega arith in
+    rw (none, except-none (tickedAt (g .s .now) (g .a)) (numberAtPosition (g .s .now) (g .a)) (wordBits * at .k)) at (at .inv .3)
 
 pub put-gaps-spec : {M : Type 1} → statement M
 put-gaps-spec =
@@ -105,14 +129,14 @@ put-gaps-spec =
     (tie.spec
     Inv-loop
     μ-loop
-    next-unticked-requires
+    key-at-requires
+    first-at-requires
     loop-holds
-    number-in-requires
-    mul-list
-    slice-write-list
-    add-count
-    add-next-unticked
-    next-unticked-requires-2
+    mul-loop
+    unticked-word-requires
+    mul-put-word
+    put-word-requires
+    add-k
     loop-less
     loop-again
     same-length

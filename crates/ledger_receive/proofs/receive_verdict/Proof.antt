@@ -3,8 +3,8 @@ use mathlib.Core.Bool.{not, Bool·not-not}
 use mathlib.Core.List.{[], _∷_}
 use mathlib.Core.Path.{_≡_, sym, ap, _∙_}
 use borrow.Author.Tests.{le-ltb, lt-ltb}
+use Rattle.laws.proofs.Bools.{passed}
 use Rattle.refusals.specs.Judge.{_when_, verdict}
-use Rattle.octets.proofs.Laws.{passed}
 use Rattle.ledger_model.specs.Book.{desk, isOpen}
 use Rattle.ledger_sheet.proofs.Clauses.{right-parts}
 use Rattle.ledger_layout.specs.Layout.{bookOf}

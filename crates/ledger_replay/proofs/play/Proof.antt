@@ -5,7 +5,7 @@ use Prim.Native.Nat.{suc, _+_, _-_, _≤_}
 use native.Mathlib.Omega.{arith}
 use mathlib.Core.Path.{_≡_, refl, _∙_}
 use lib.ListN.{length}
-use Rattle.octets.proofs.Laws.{failed, passed}
+use Rattle.laws.proofs.Bools.{failed, passed}
 use Rattle.ledger_replay.specs.Trace.{entriesFrom, entriesOf}
 use Rattle.ledger_replay.specs.Replay.{replayFrom}
 use Rattle.ledger_replay.specs.inner.Making.{IsLaid}

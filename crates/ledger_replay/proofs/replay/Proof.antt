@@ -2,8 +2,8 @@
 use mathlib.Core.Path.{ap, _∙_}
 use native.Mathlib.Omega.{arith}
 use borrow.Author.Tests.{eq-eqb, ne-eqb}
+use Rattle.laws.proofs.Bools.{failed, passed}
 use Rattle.refusals.specs.Judge.{judge}
-use Rattle.octets.proofs.Laws.{failed, passed}
 use Rattle.ledger_sheet.specs.Outcome.{judged}
 use Rattle.ledger_replay.specs.Trace.{entriesOf}
 use Rattle.ledger_replay.specs.Replay.{replayFrom, replayOn}

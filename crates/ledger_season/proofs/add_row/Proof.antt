@@ -2,8 +2,8 @@
 use native.Mathlib.Omega.{arith}
 use mathlib.Core.Bool.{true}
 use mathlib.Core.Path.{_≡_}
+use Rattle.laws.proofs.Bools.{failed, passed}
 use Rattle.ledger_sheet.specs.Sheet.{isUsed}
-use Rattle.octets.proofs.Laws.{failed, passed}
 use Rattle.ledger_season.proofs.Rows.{Whole, Gaps, whole-says, gaps-say, not-refused, free-adds, whole-adds, gaps-add, whole-few, gaps-few}
 use borrow.Author.Needs.{needs}
 use Rattle.ledger_season.proofs.add_row.Statement.{statement}

@@ -6,7 +6,8 @@ use mathlib.Core.Bool.{true}
 use mathlib.Core.Logic.{⊎-elim}
 use mathlib.Core.Path.{_≡_, refl, sym}
 use native.Mathlib.Omega.{arith}
-use Rattle.octets.proofs.Laws.{failed, passed, all-none, all-more, all-fails}
+use Rattle.laws.proofs.Bools.{failed, passed}
+use Rattle.octets.proofs.Laws.{all-none, all-more, all-fails}
 use Rattle.ledger_season.specs.inner.Gathered.{areNew}
 use Rattle.ledger_season.proofs.Keys.{Covers, covers-none, covers-more, slot-free}
 use Rattle.ledger_season.proofs.are_new.Statement.{statement}

@@ -4,7 +4,8 @@ use mathlib.Core.Bool.{true}
 use mathlib.Core.Path.{_≡_, sym}
 use native.Mathlib.Omega.{arith}
 use borrow.Author.Needs.{needs}
-use Rattle.octets.proofs.Laws.{failed, passed, all-none, all-more, all-fails}
+use Rattle.laws.proofs.Bools.{failed, passed}
+use Rattle.octets.proofs.Laws.{all-none, all-more, all-fails}
 use Rattle.ledger_season.specs.Season.{rightTo}
 use Rattle.ledger_season.proofs.Sheets.{sheet-part}
 use Rattle.ledger_season.proofs.are_sheets.Statement.{statement}

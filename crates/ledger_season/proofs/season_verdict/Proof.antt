@@ -1,8 +1,8 @@
 -- `season_verdict` meets its contract. Assumes nothing.
 use mathlib.Core.Bool.{true, false}
 use mathlib.Core.Path.{_≡_}
+use Rattle.laws.proofs.Bools.{failed, passed}
 use Rattle.refusals.specs.Judge.{judge}
-use Rattle.octets.proofs.Laws.{failed, passed}
 use Rattle.ledger_season.proofs.Judged.{wrongLength, fit, keys-judged}
 use Rattle.ledger_season.proofs.season_verdict.Statement.{statement}
 use Rattle.ledger_season.proofs.season_verdict.Tie as tie

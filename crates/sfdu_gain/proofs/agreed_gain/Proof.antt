@@ -4,8 +4,8 @@ use mathlib.Core.Path.{sym, ap, _∙_}
 use mathlib.Core.List.{List}
 use Prim.Native.Nat.{ℕ}
 use lib.Dec.{lit<}
-use Rattle.sfdu_rsr.specs.Record.{wordsOf}
-use Rattle.sfdu_rsr.proofs.Found.{Whole, whole, refused}
+use Rattle.sfdu_headers.specs.RsrRecord.{wordsOf}
+use Rattle.sfdu_headers.proofs.RsrFound.{Whole, whole, refused}
 use Rattle.sfdu_gain.proofs.Judged.{agreed-refused, agreed-told}
 use borrow.Author.Needs.{needs}
 use Rattle.sfdu_gain.proofs.agreed_gain.Statement.{statement}

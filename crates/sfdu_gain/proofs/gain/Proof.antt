@@ -2,9 +2,9 @@
 use native.Mathlib.Omega.{arith}
 use mathlib.Core.Path.{sym, ap, _∙_}
 use lib.Dec.{lit<}
-use Rattle.sfdu_rsr.specs.Record.{wordsOf}
-use Rattle.sfdu_rsr.proofs.Found.{Whole, whole, refused}
-use Rattle.octets.proofs.Laws.{passed, failed}
+use Rattle.laws.proofs.Bools.{passed, failed}
+use Rattle.sfdu_headers.specs.RsrRecord.{wordsOf}
+use Rattle.sfdu_headers.proofs.RsrFound.{Whole, whole, refused}
 use Rattle.sfdu_gain.proofs.Judged.{gain-refused, gain-unknown, gain-known}
 use borrow.Author.Needs.{needs}
 use Rattle.sfdu_gain.proofs.gain.Statement.{statement}

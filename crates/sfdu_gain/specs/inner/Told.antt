@@ -5,7 +5,7 @@ use Rattle.refusals.specs.Table.{numberOf}
 use Rattle.settings.specs.declared.Asked.{Asked}
 use Rattle.settings.specs.declared.Asked.the-variants.{Given, Refused}
 use Rattle.sfdu_headers.specs.Words.{Word, number}
-use Rattle.sfdu_rsr.specs.Record.{only}
+use Rattle.sfdu_headers.specs.RsrRecord.{only}
 use Rattle.sfdu_gain.specs.Gain.{gainOf}
 
 -- The gain of a record, by what asking answered.

@@ -6,9 +6,9 @@ use mathlib.Core.Path.{_≡_}
 use borrow.Author.Needs.{needs}
 use lib.Dec.{lit<}
 use lib.ListN.{length}
-use Rattle.octets.proofs.Laws.{passed, failed}
+use Rattle.laws.proofs.Bools.{passed, failed}
 use Rattle.sfdu_samples.specs.Packing.{perWord, allCoded}
-use Rattle.sfdu_rates.specs.Rates.{isListed}
+use Rattle.sfdu_samples.specs.Rates.{isListed}
 use Rattle.sfdu_samples.specs.inner.Unpacking.{Width}
 use Rattle.sfdu_samples.proofs.Judged.{per-some, too-short, long-enough, pack-19, pack-34, pack-37, pack-35, pack-accepts}
 use Rattle.sfdu_samples.proofs.Widths.{listed-width}

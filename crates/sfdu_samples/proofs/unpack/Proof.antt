@@ -3,8 +3,8 @@ use native.Mathlib.Omega.{arith}
 use mathlib.Core.Path.{sym, ap, _∙_}
 use lib.Dec.{lit<}
 use Rattle.octets.specs.Octets.{part}
-use Rattle.sfdu_rsr.specs.Record.{wordsOf}
-use Rattle.sfdu_rsr.proofs.Found.{Whole, whole, refused}
+use Rattle.sfdu_headers.specs.RsrRecord.{wordsOf}
+use Rattle.sfdu_headers.proofs.RsrFound.{Whole, whole, refused}
 use Rattle.sfdu_samples.proofs.Judged.{refused-as, accepted-as}
 use borrow.Author.Needs.{needs}
 use Rattle.sfdu_samples.proofs.unpack.Statement.{statement}

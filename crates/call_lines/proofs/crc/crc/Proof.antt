@@ -21,11 +21,8 @@ shared-slice-read-wide c = omega arith
 wide-requires : tie.Need-wide-requires Inv-loop μ-loop
 wide-requires c κs = tt
 
-four-bits-requires : tie.Need-four-bits-requires Inv-loop μ-loop
-four-bits-requires c κs = tt
-
-four-bits-requires-2 : tie.Need-four-bits-requires-2 Inv-loop μ-loop
-four-bits-requires-2 c κs = tt
+byte-requires : tie.Need-byte-requires Inv-loop μ-loop
+byte-requires c κs = tt
 
 add-i : tie.Need-add-i Inv-loop μ-loop
 add-i c = omega arith
@@ -34,7 +31,7 @@ loop-less : tie.Need-loop-less Inv-loop μ-loop
 loop-less c = omega arith
 
 loop-again : tie.Need-loop-again Inv-loop μ-loop
-loop-again c = (omega arith, c .before .before .before .before .before .loop .inv .1)
+loop-again c = (omega arith, omega arith)
 
 returns : tie.Need-returns Inv-loop μ-loop
 returns c = tt
@@ -48,8 +45,7 @@ crc-spec =
     loop-holds
     shared-slice-read-wide
     wide-requires
-    four-bits-requires
-    four-bits-requires-2
+    byte-requires
     add-i
     loop-less
     loop-again

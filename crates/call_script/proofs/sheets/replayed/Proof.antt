@@ -15,8 +15,8 @@ slice-relend-prefix-s c = search needs
 slice-aggregate-s : tie.Need-slice-aggregate-s
 slice-aggregate-s c = sym (length-take-le _ _ (omega arith))
 
-replay-requires : tie.Need-replay-requires
-replay-requires c κs = search needs
+play-requires : tie.Need-play-requires
+play-requires c κs = search needs
 
 replayed-requires : tie.Need-replayed-requires
 replayed-requires c κs = search needs
@@ -52,7 +52,7 @@ replayed-spec =
     returns
     slice-relend-prefix-s
     slice-aggregate-s
-    replay-requires
+    play-requires
     replayed-requires
     slice-aggregate-told-or
     told-or-requires

@@ -1,8 +1,7 @@
--- `host::calendar::hernganow_date` meets its contract. Assumes nothing.
-use mathlib.Core.Path.{ap}
-use Rattle.host.proofs.Exports.{unwritten, written}
-use Rattle.answers.specs.Numbers.{plain}
+-- `host::calendar::hernganow_date` meets its contract. Written by crates/host/exports. Assumes nothing.
 use borrow.Author.Needs.{needs}
+use Rattle.answers.specs.Numbers.{plain}
+use Rattle.host.proofs.Exports.{unwritten, written-as}
 use Rattle.host.proofs.calendar.hernganow_date.Statement.{statement}
 use Rattle.host.proofs.calendar.hernganow_date.Tie as tie
 
@@ -27,9 +26,10 @@ same-length c = search needs
 returns-2 : tie.Need-returns-2
 returns-2 c =
     let wrote = c .before .before in
-    let told = wrote .before in
-    let called = told .before .before in
-    written _ _ (called .before .if1 .left) (ap plain (called .date-of .ensures)) (told .date .ensures .same) (wrote .write-few .ensures)
+    let counted = wrote .before in
+    let called = counted .before .before in
+    let length = called .before .if1 .left in
+    written-as plain _ _ length (called .date-of .ensures) (counted .date .ensures .same) (wrote .write-few .ensures)
 
 pub hernganow-date-spec : {M : Type 1} → statement M
 hernganow-date-spec =

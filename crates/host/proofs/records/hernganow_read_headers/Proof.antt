@@ -1,6 +1,6 @@
--- `host::records::hernganow_read_headers` meets its contract. Assumes nothing.
-use Rattle.host.proofs.Exports.{unwritten, written}
+-- `host::records::hernganow_read_headers` meets its contract. Written by crates/host/exports. Assumes nothing.
 use borrow.Author.Needs.{needs}
+use Rattle.host.proofs.Exports.{unwritten, written}
 use Rattle.host.proofs.records.hernganow_read_headers.Statement.{statement}
 use Rattle.host.proofs.records.hernganow_read_headers.Tie as tie
 
@@ -25,9 +25,10 @@ same-length c = search needs
 returns-2 : tie.Need-returns-2
 returns-2 c =
     let wrote = c .before .before in
-    let told = wrote .before in
-    let called = told .before .before in
-    written _ _ (called .before .if1 .left) (called .read-headers .ensures) (told .headers .ensures .0) (wrote .write .ensures)
+    let counted = wrote .before in
+    let called = counted .before .before in
+    let length = called .before .if1 .left in
+    written _ _ length (called .read-headers .ensures) (counted .headers .ensures .0) (wrote .write .ensures)
 
 pub hernganow-read-headers-spec : {M : Type 1} → statement M
 hernganow-read-headers-spec =

@@ -1,5 +1,5 @@
 -- `idr::fields::given` meets its contract. Group by group. Assumes nothing.
-use Rattle.octets.proofs.Laws.{failed, passed}
+use Rattle.laws.proofs.Bools.{failed, passed}
 use Rattle.idr.specs.Fields.{originOf, timeOf, recorderOf, reductionOf, statusOf, countOf}
 use Rattle.idr.specs.Read.{originWords, timeWords, recorderWords, reductionWords, statusWords, countWords}
 use Rattle.idr.proofs.Given.{joined}

@@ -1,10 +1,10 @@
 -- `idr::reader::read_words` meets its contract. Assumes nothing.
 use native.Mathlib.Omega.{arith}
+use mathlib.Core.Bool.{and-false}
 use mathlib.Core.List.{[], _∷_}
 use mathlib.Core.Path.{sym, ap, _∙_}
 use borrow.Author.Tests.{ne-eqb}
 use Rattle.refusals.specs.Judge.{judge}
-use Rattle.octets.proofs.Laws.{and-false}
 use Rattle.idr.specs.Rules.{outcomeNumber}
 use Rattle.idr.specs.Read.{readRules, readWords}
 use Rattle.idr.proofs.Judging.{read-numbered, accepted-length, words-judged, judge-accepted, judge-refused}

@@ -1,7 +1,7 @@
 -- `idr::rules::judge_words` meets its contract. The tests stand in the order of the rules. Assumes nothing.
 use borrow.Author.Tests.{eq-eqb, ne-eqb}
+use Rattle.laws.proofs.Bools.{failed, passed}
 use Rattle.refusals.specs.Judge.{judge}
-use Rattle.octets.proofs.Laws.{failed, passed}
 use borrow.Author.Needs.{needs}
 use Rattle.idr.proofs.rules.judge_words.Statement.{statement}
 use Rattle.idr.proofs.rules.judge_words.Tie as tie

@@ -2,7 +2,7 @@
 use mathlib.Core.List.{[], _∷_}
 use mathlib.Core.Path.{ap, _∙_}
 use borrow.Author.Tests.{lt-ltb}
-use Rattle.octets.proofs.Laws.{failed, passed}
+use Rattle.laws.proofs.Bools.{failed, passed}
 use Rattle.ledger_layout.specs.Layout.{laidOut}
 use Rattle.ledger_layout.proofs.Right.{reads-back}
 use Rattle.ledger_layout.proofs.Writers.{laid-sheet, stored-fine}

@@ -5,7 +5,7 @@ use mathlib.Core.Path.{sym, _∙_}
 use native.Mathlib.Omega.{arith}
 use lib.ListN.{getD}
 use borrow.Author.Tests.{eqb-true, eqb-false}
-use Rattle.octets.proofs.Laws.{failed, passed}
+use Rattle.laws.proofs.Bools.{failed, passed}
 use Rattle.ledger_sheet.specs.Sheet.{ticksAt, byteBits}
 use Rattle.ledger_layout.specs.Ticks.{tickedAt}
 use Rattle.ledger_changes.specs.inner.Rows.{setTick, clearTick}

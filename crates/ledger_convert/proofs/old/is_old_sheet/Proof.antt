@@ -1,7 +1,8 @@
 -- `old::is_old_sheet` meets its contract. Assumes nothing.
 use native.Mathlib.Omega.{arith}
 use borrow.Author.Tests.{eq-eqb, ne-eqb}
-use Rattle.octets.proofs.Laws.{failed, passed, and-assoc}
+use mathlib.Core.Bool.{and-assoc}
+use Rattle.laws.proofs.Bools.{failed, passed}
 use Rattle.ledger_convert.specs.Old.{right}
 use Rattle.ledger_convert.proofs.Clauses.{header-few}
 use borrow.Author.Needs.{needs}
@@ -33,7 +34,7 @@ returns-3 c =
       eq-eqb _ _ (header .before .before .if1 .left),
       passed (header .before .is-header .ensures) (header .if2 .left),
       ← c .before .are-rows .ensures,
-      ← and-assoc,
+      and-assoc,
       ← c .is-rest .ensures,
     )
 

@@ -1,5 +1,5 @@
 -- `old::is_open_desk` meets its contract. Assumes nothing.
-use Rattle.octets.proofs.Laws.{and-false, and-assoc}
+use mathlib.Core.Bool.{and-false, and-assoc}
 use Rattle.ledger_sheet.specs.Sheet.{deskRowAt}
 use Rattle.ledger_convert.proofs.Clauses.{open-desk}
 use Prim.Native.Nat.{_+_}
@@ -66,7 +66,7 @@ returns-2 c =
       ← c .before .before .before .before .row-at .ensures,
       ← c .before .is-same .ensures,
       ← c .is-same2 .ensures,
-      and-assoc,
+      ← and-assoc,
     )
 
 pub is-open-desk-spec : {M : Type 1} → statement M

@@ -1,7 +1,7 @@
 -- `row_verdict` meets its contract. Assumes nothing.
 use mathlib.Core.Bool.{Bool·not-not}
 use mathlib.Core.Path.{sym, _∙_}
-use Rattle.octets.proofs.Laws.{passed}
+use Rattle.laws.proofs.Bools.{passed}
 use Rattle.ledger_sheet.proofs.Clauses.{right-parts}
 use Rattle.ledger_model.specs.Step.{refusals}
 use Rattle.ledger_judged.proofs.Judged.{stops, passes, none-left}

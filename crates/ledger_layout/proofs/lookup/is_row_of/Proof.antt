@@ -1,6 +1,6 @@
 -- `is_row_of` meets its contract. Assumes nothing.
-use Rattle.octets.proofs.Laws.{failed, passed}
 use mathlib.Core.Path.{sym, _∙_}
+use Rattle.laws.proofs.Bools.{failed, passed}
 use Rattle.ledger_layout.proofs.Scans.{row-of}
 use borrow.Author.Needs.{needs}
 use Rattle.ledger_layout.proofs.lookup.is_row_of.Statement.{statement}

@@ -1,7 +1,7 @@
 -- `trace::is_trace` meets its contract. Assumes nothing.
 use native.Mathlib.Omega.{arith}
 use borrow.Author.Tests.{le-leb, lt-leb}
-use Rattle.octets.proofs.Laws.{failed, passed}
+use Rattle.laws.proofs.Bools.{failed, passed}
 use Rattle.ledger_replay.specs.Trace.{headerSize, isTrace}
 use Rattle.ledger_replay.proofs.Clauses.{header-parts}
 use Rattle.ledger_replay.proofs.trace.is_trace.Statement.{statement}

@@ -1,11 +1,11 @@
 -- `right::is_open_desk` meets its contract. Assumes nothing.
 use Prim.Native.Nat.{ℕ, _+_, _<_}
-use mathlib.Core.Bool.{true}
+use mathlib.Core.Bool.{true, and-false, and-assoc}
 use mathlib.Core.List.{List}
 use mathlib.Core.Path.{_≡_}
 use native.Mathlib.Omega.{arith}
 use lib.ListN.{getD}
-use Rattle.octets.proofs.Laws.{failed, passed, and-false, and-assoc}
+use Rattle.laws.proofs.Bools.{failed, passed}
 use Rattle.ledger_sheet.specs.Sheet.{rowCount, deskRowAt, isRow}
 use Rattle.ledger_sheet.proofs.Clauses.{open-desk, row-parts}
 use borrow.Author.Needs.{needs}
@@ -80,7 +80,7 @@ returns-2 c =
       ← c .before .before .before .before .row-at .ensures,
       ← c .before .is-same .ensures,
       ← c .is-same2 .ensures,
-      and-assoc,
+      ← and-assoc,
     )
 
 pub is-open-desk-spec : {M : Type 1} → statement M

@@ -1,7 +1,7 @@
 -- `right::is_sheet` meets its contract. Assumes nothing.
 use native.Mathlib.Omega.{arith}
 use borrow.Author.Tests.{eq-eqb, ne-eqb}
-use Rattle.octets.proofs.Laws.{failed, passed}
+use Rattle.laws.proofs.Bools.{failed, passed}
 use Rattle.ledger_sheet.specs.Sheet.{right}
 use borrow.Author.Needs.{needs}
 use Rattle.ledger_sheet.proofs.right.is_sheet.Statement.{statement}

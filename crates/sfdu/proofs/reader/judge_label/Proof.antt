@@ -3,8 +3,8 @@ use mathlib.Core.Bool.{true, false}
 use mathlib.Core.Path.{_≡_, sym, _∙_}
 use lib.Dec.{eqb}
 use borrow.Author.Tests.{eq-eqb, ne-eqb}
+use Rattle.laws.proofs.Bools.{and-split}
 use Rattle.refusals.specs.Judge.{judge}
-use Rattle.octets.proofs.Laws.{and-split}
 use Rattle.sfdu.specs.Read.{blockType, blockLength}
 use borrow.Author.Needs.{needs}
 use Rattle.sfdu.proofs.reader.judge_label.Statement.{statement}

@@ -2,8 +2,8 @@
 use Prim.Native.Nat.{_+_}
 use mathlib.Core.Path.{_≡_, sym, _∙_}
 use native.Mathlib.Omega.{arith}
+use Rattle.laws.proofs.Bools.{failed, passed}
 use Rattle.refusals.specs.Judge.{judge}
-use Rattle.octets.proofs.Laws.{failed, passed}
 use Rattle.sfdu.specs.Nesting.{labelSize}
 use Rattle.sfdu.specs.Read.{lengthInRange}
 use Rattle.sfdu.proofs.Placed.{placed}

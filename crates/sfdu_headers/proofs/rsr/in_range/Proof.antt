@@ -12,8 +12,8 @@ enum-known-allowed c = search needs
 enum-told : tie.Need-enum-told
 enum-told c = search needs
 
-is-band-requires : tie.Need-is-band-requires
-is-band-requires c κs = search needs
+is-rsr-band-requires : tie.Need-is-rsr-band-requires
+is-rsr-band-requires c κs = search needs
 
 returns : tie.Need-returns
 unfolding inRange
@@ -21,8 +21,8 @@ returns c = rw (c .before .allowed .given .1)
 
 returns-2 : tie.Need-returns-2
 unfolding inRange
-returns-2 c = c .is-band .ensures ∙ ap (λ (x : Allowed). inRange x (c .before .before .before .args .b)) (sym (c .before .enum-told .given .1))
+returns-2 c = c .is-rsr-band .ensures ∙ ap (λ (x : Allowed). inRange x (c .before .before .before .args .b)) (sym (c .before .enum-told .given .1))
 
 pub in-range-spec : {M : Type 1} → statement M
 in-range-spec =
-    tie.close (tie.spec enum-known-allowed enum-told is-band-requires returns returns-2)
+    tie.close (tie.spec enum-known-allowed enum-told is-rsr-band-requires returns returns-2)

@@ -1,6 +1,6 @@
 -- `sfdu_headers::rsr::read_date` meets its contract. Assumes nothing.
 use mathlib.Core.Path.{_≡_, sym, _∙_}
-use Rattle.dates.specs.Answers.{countOf}
+use Rattle.dates.specs.inner.Counted.{countOf}
 use Rattle.sfdu_headers.specs.Fields.{year, day}
 use Rattle.sfdu_headers.proofs.Dates.{is-dated, is-no-date}
 use borrow.Author.Needs.{needs}

@@ -5,9 +5,9 @@ use mathlib.Core.Bool.{true}
 use mathlib.Core.Path.{_≡_}
 use borrow.Author.Needs.{needs}
 use lib.ListN.{length}
-use Rattle.octets.proofs.Laws.{passed, failed}
+use Rattle.laws.proofs.Bools.{passed, failed}
 use Rattle.sfdu_samples.specs.Packing.{perWord}
-use Rattle.sfdu_rates.specs.Rates.{isListed}
+use Rattle.sfdu_samples.specs.Rates.{isListed}
 use Rattle.sfdu_samples.specs.inner.Unpacking.{Width}
 use Rattle.sfdu_samples.proofs.Judged.{per-some, too-short, long-enough, data-19, data-34, data-35, data-accepts}
 use Rattle.sfdu_samples.proofs.Widths.{listed-width}

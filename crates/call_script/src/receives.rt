@@ -1,0 +1,51 @@
+// The lines of the calls on the ledger sheet that are lent a list too: a row's missing numbers, and records received.
+use answers::ledgers;
+use answers::streams;
+use call_lines::Frame;
+use call_lines::crc;
+use call_lines::line;
+use call_lines::ops;
+
+// The most numbers of the list, and what it holds before.
+const MOST_NUMBERS: usize = 1100;
+
+const FILL: u32 = 7;
+
+// How many numbers the answers have where they are accepted.
+const MISSING: usize = 2;
+
+const RECEIVED: usize = 6;
+
+// A call on the sheet, which is the first n bytes of its room. The crcs of the whole list and of the whole sheet end its line. No words where
+// the list is to be too long.
+pub(crate) fn line(
+    f: Frame,
+    a: &[u8],
+    room: &mut [u8],
+    n: usize,
+    out: &mut [u8],
+    at: usize,
+) -> usize {
+    let z = f.z as usize;
+    if MOST_NUMBERS < z {
+        return at;
+    }
+    if room.len() < n {
+        return at;
+    }
+    let s = &mut room[..n];
+    let mut numbers = [FILL; MOST_NUMBERS];
+    let list = &mut numbers[..z];
+    let end = call(f, a, s, list, out, at);
+    let listed = line::number(out, end, crc::crc_of_numbers(list) as u64);
+    line::number(out, listed, crc::crc(s) as u64)
+}
+
+fn call(f: Frame, a: &[u8], s: &mut [u8], list: &mut [u32], out: &mut [u8], at: usize) -> usize {
+    if f.op == ops::MISSING_NUMBERS {
+        let found = ledger_missing::missing_numbers(s, f.x, list);
+        return line::told(out, at, ledgers::missing(found), MISSING);
+    }
+    let found = ledger_receive::receive(s, f.x, a, list);
+    line::told_of(out, at, streams::received(found), RECEIVED)
+}

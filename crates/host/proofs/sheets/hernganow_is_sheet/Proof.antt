@@ -1,0 +1,48 @@
+-- `host::sheets::hernganow_is_sheet` meets its contract. Its answer is a test's, of which the words are made. Assumes nothing.
+use mathlib.Core.Bool.{Bool, cond}
+use mathlib.Core.List.{[], _∷_}
+use mathlib.Core.Path.{ap}
+use borrow.Author.Needs.{needs}
+use Rattle.answers.specs.Numbers.{plain}
+use Rattle.host.proofs.Exports.{unwritten, written}
+use Rattle.host.proofs.sheets.hernganow_is_sheet.Statement.{statement}
+use Rattle.host.proofs.sheets.hernganow_is_sheet.Tie as tie
+
+unwritten-requires : tie.Need-unwritten-requires
+unwritten-requires c κs = search needs
+
+returns : tie.Need-returns
+returns c = unwritten _ _ (c .before .if1 .taken) (c .unwritten .ensures)
+
+is-sheet-requires : tie.Need-is-sheet-requires
+is-sheet-requires c κs = search needs
+
+is-sheet-requires-2 : tie.Need-is-sheet-requires-2
+is-sheet-requires-2 c κs = search needs
+
+write-few-requires : tie.Need-write-few-requires
+write-few-requires c κs = search needs
+
+same-length : tie.Need-same-length
+same-length c = search needs
+
+returns-2 : tie.Need-returns-2
+returns-2 c =
+    let wrote = c .before .before in
+    let counted = wrote .before in
+    let called = counted .before .before in
+    let length = called .before .if1 .left in
+    let words = ap (λ (b : Bool). plain (0 ∷ cond b 1 0 ∷ [])) (called .is-sheet .ensures) in
+    written _ _ length words (counted .is-sheet2 .ensures .same) (wrote .write-few .ensures)
+
+pub hernganow-is-sheet-spec : {M : Type 1} → statement M
+hernganow-is-sheet-spec =
+    tie.close
+    (tie.spec
+    unwritten-requires
+    returns
+    is-sheet-requires
+    is-sheet-requires-2
+    write-few-requires
+    same-length
+    returns-2)

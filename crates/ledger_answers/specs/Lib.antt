@@ -1,3 +1,0 @@
--- What the contracts of `ledger_answers` cite.
-pub mod Seasons
-pub mod inner

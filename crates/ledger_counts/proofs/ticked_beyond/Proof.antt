@@ -1,0 +1,75 @@
+-- `ledger_counts::ticked_beyond` meets its contract. The invariant: the count is that of the positions of the first k words. Assumes nothing.
+use Prim.Native.Nat.{_*_, _≤_, _-_}
+use mathlib.Core.Path.{_≡_, sym, _∙_}
+use native.Mathlib.Omega.{arith}
+use lib.Count.{ones-le}
+use Rattle.octets.specs.Lists.{table}
+use Rattle.ledger_model.specs.Positions.{rowLength, size}
+use Rattle.ledger_counts.specs.inner.Words.{wordBits, wordCount}
+use Rattle.ledger_counts.proofs.Missing.{size-none}
+use Rattle.ledger_counts.proofs.Beyond.{beyond, beyond-fits, beyond-count, beyond-all}
+use Rattle.ledger_counts.proofs.ticked_beyond.Statement.{statement}
+use Rattle.ledger_counts.proofs.ticked_beyond.Tie as tie
+
+abbrev Inv-loop : tie.InvT-loop
+Inv-loop s a b count₀ k₀ count k = (k ≤ wordCount) × (count ≤ wordBits * k) × (count ≡ size (table (wordBits * k) (beyond s a b)))
+
+abbrev μ-loop : tie.MeasureT-loop
+μ-loop s a b count₀ k₀ count k = wordCount - k
+
+loop-holds : tie.Need-loop-holds Inv-loop μ-loop
+loop-holds c = (omega arith, omega arith, sym (size-none _))
+
+tick-word-requires : tie.Need-tick-word-requires Inv-loop μ-loop
+tick-word-requires c κs = omega arith
+
+tick-word-requires-2 : tie.Need-tick-word-requires-2 Inv-loop μ-loop
+tick-word-requires-2 c κs = omega arith
+
+add-count : tie.Need-add-count Inv-loop μ-loop
+add-count c =
+    let first = c .before in
+    let g = first .before .before .before .before .args in
+    let k = first .before .before .loop .k in
+    let x = first .tick-word .result in
+    let y = c .tick-word2 .result in
+    let fits = beyond-fits (g .s .now) (g .a) (g .b) k x y (first .tick-word .ensures) (c .tick-word2 .ensures) (omega arith) (omega arith) in
+    omega (arith, ones-le wordBits _ fits)
+
+add-k : tie.Need-add-k Inv-loop μ-loop
+add-k c = omega arith
+
+loop-less : tie.Need-loop-less Inv-loop μ-loop
+loop-less c = omega arith
+
+loop-again : tie.Need-loop-again Inv-loop μ-loop
+loop-again c =
+    let first = c .before in
+    let g = first .before .before .before .before .args in
+    let k = first .before .before .loop .k in
+    let x = first .tick-word .result in
+    let y = c .tick-word2 .result in
+    let fits = beyond-fits (g .s .now) (g .a) (g .b) k x y (first .tick-word .ensures) (c .tick-word2 .ensures) (omega arith) (omega arith) in
+    let more = beyond-count (g .s .now) (g .a) (g .b) k x y (first .tick-word .ensures) (c .tick-word2 .ensures) (omega arith) (omega arith) in
+    (omega arith, omega (arith, ones-le wordBits _ fits), omega arith)
+
+returns : tie.Need-returns Inv-loop μ-loop
+returns c =
+    let g = c .before .before .before .args in
+    let e : wordBits * c .before .loop .k ≡ rowLength = omega arith in
+    rw e at (c .before .loop .inv .2) ∙ beyond-all (g .s .now) (g .a) (g .b)
+
+pub ticked-beyond-spec : {M : Type 1} → statement M
+ticked-beyond-spec =
+    tie.close
+    (tie.spec
+    Inv-loop
+    μ-loop
+    loop-holds
+    tick-word-requires
+    tick-word-requires-2
+    add-count
+    add-k
+    loop-less
+    loop-again
+    returns)

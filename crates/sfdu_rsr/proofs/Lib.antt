@@ -1,4 +1,0 @@
-pub mod Rules
-pub mod Reading
-pub mod Found
-pub mod Words
