@@ -22,6 +22,7 @@ pub mod tapes;
 // What is done with them.
 pub mod agreed;
 pub mod bench;
+pub mod bill;
 pub mod coverage;
 pub mod files;
 pub mod make;

@@ -2,7 +2,7 @@
 
 use reference::agreed;
 use reference::coverage::Coverage;
-use reference::{bench, files, list, privacy, random, sample, sample_text, script, season, tables, tapes};
+use reference::{bench, bill, files, list, privacy, random, sample, sample_text, script, season, tables, tapes};
 use std::ffi::OsString;
 use std::io::{self, BufWriter, Read, Write};
 use std::process::ExitCode;
@@ -20,6 +20,7 @@ reference sample [NAME]          a sample stream; without a name, the names, wha
 reference big BYTES              a stream of mixed records of about so many bytes
 reference bench                  benchmarks
 reference privacy SEED PAIRS     pairs of nights that differ in a desk's unsaved work
+reference bill SEED NIGHTS DESKS what desks order again with the rule of the stale save, and without it
 reference tables SEED COUNT      tables of entries against number lists, over random streams
 reference agreed SEED ROUNDS     cases of the agreed gain, each with its answer; fails where a number that it can give is missing";
 
@@ -85,6 +86,9 @@ fn command(args: &[OsString], out: &mut impl Write) -> io::Result<bool> {
             return Ok(told == 0);
         }
         ["agreed", seed, rounds] => return agreed::write(parse(seed)?, parse(rounds)? as usize, out),
+        ["bill", seed, nights, desks @ ("1" | "2" | "3" | "4" | "5" | "6" | "7" | "8")] => {
+            write!(out, "{}", bill::told(parse(seed)?, parse(nights)? as u32, parse(desks)? as usize))?;
+        }
         ["tables", seed, count] => {
             let tried = tables::compare(parse(seed)?, parse(count)? as usize);
             writeln!(out, "{tried} tables are the same")?;

@@ -11,6 +11,7 @@ use crate::{keys, list, nights, ops, privacy, random, sample};
 use std::collections::BTreeSet;
 use std::io::{self, Read};
 
+mod bill;
 mod dates;
 mod gain;
 mod idr;
