@@ -1,6 +1,6 @@
-/* Makes the calls of the agreed gain that the reference wrote down (`reference agreed`), and holds each answer, all 256 bytes, to the
+/* Makes the calls of the agreed gain that the reference wrote to a file (`reference agreed`), and compares each answer, all 256 bytes, with the
  * reference's. */
-#include "../include/hernganow.h"
+#include <hernganow.h>
 
 #include <stdio.h>
 #include <string.h>
@@ -9,7 +9,7 @@
 
 static uint8_t settings[MOST], record[MOST];
 
-/* Reads a slice behind its length; -1 at the end of the file or where it is cut. */
+/* Reads a length and then a slice of that length. Returns -1 at the end of the file, or if it is cut off. */
 static long read_slice(FILE *file, uint8_t *slice)
 {
     uint8_t head[4];

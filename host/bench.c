@@ -1,7 +1,7 @@
-/* What a call through C costs beside the library's own: each is timed over the same inputs, in turn, and the least of several passes is
- * told, in nanoseconds. The library's calls are those of crates/bench, which make one number of an answer. */
+/* What a call through C costs, compared with the library's own call. Times both in turn on the same inputs, and prints the least time of several
+ * passes, in nanoseconds. The library's calls are those of crates/bench, which compute one number from an answer. */
 #define _XOPEN_SOURCE 700
-#include "../include/hernganow.h"
+#include <hernganow.h>
 
 #include <stdio.h>
 #include <stdlib.h>
@@ -10,6 +10,7 @@
 #define PASSES 40
 #define CALLS 2000
 
+uint64_t bench_walk(const uint8_t *stream, size_t length);
 uint64_t bench_read_headers(const uint8_t *record, size_t length, uint32_t wanted);
 uint64_t bench_date_of(uint32_t count);
 uint64_t bench_tick(uint8_t *sheet, size_t length, uint32_t desk, uint32_t number);
@@ -41,10 +42,10 @@ static const uint8_t trace[] = {
     5, 0, 0, 0, 0, 0, 0, 0, 0, 0, 0, 0, 0, 0, 0, 0,
 };
 
-/* Samples of 8 bits, at 100,000 a second. */
+/* Samples of 8 bits, 100,000 per second. */
 enum { SIZE = 8, RATE = 100, SAMPLES = 64 };
 
-/* The settings: so many, of eight missions. */
+/* How many settings there are, and of how many missions. */
 enum { SETTINGS = 32, MISSIONS = 8 };
 static volatile uint64_t sink;
 
@@ -81,6 +82,18 @@ static void replay_c(uint32_t i) { (void)i; sink = hernganow_replay(trace, sizeo
 static void convert_library(uint32_t i) { (void)i; sink = bench_convert(old, old_length, made, sizeof made); }
 static void convert_c(uint32_t i) { (void)i; sink = hernganow_convert(old, old_length, made, sizeof made, answer, sizeof answer); }
 
+static void walk_library(uint32_t i) { (void)i; sink = bench_walk(stream, length); }
+
+/* Record by record, as a host walks. */
+static void walk_c(uint32_t i)
+{
+    (void)i;
+    size_t place = 0;
+    while (place < length && !hernganow_read_one(stream + place, length - place, answer, sizeof answer))
+        place += (size_t)hernganow_number(answer, HERNGANOW_AT_SIZE);
+    sink = place;
+}
+
 static double pass(void (*call)(uint32_t))
 {
     struct timespec begun, ended;
@@ -103,7 +116,7 @@ static void compare(const char *name, void (*library)(uint32_t), void (*c)(uint3
     printf("%-28s %7.1f %7.1f %+6.1f\n", name, least[0], least[1], least[1] - least[0]);
 }
 
-/* The file's bytes, as many as there is room for. */
+/* Reads the file's bytes, as many as there is room for. */
 static size_t read_file(const char *path, uint8_t *bytes, size_t room)
 {
     FILE *file = fopen(path, "rb");
@@ -116,7 +129,7 @@ static size_t read_file(const char *path, uint8_t *bytes, size_t room)
     return count;
 }
 
-/* Ends the program where a call that is to be timed would be refused. */
+/* Ends the program if a call that is timed is refused. */
 static void accepted(const char *name, uint32_t refused)
 {
     if (refused) {
@@ -164,6 +177,7 @@ int main(int count, char **words)
     tone_length = read_file(words[3], tone, sizeof tone);
     set_up();
     printf("%-28s %7s %7s %6s\n", "ns a call", "library", "C", "more");
+    compare("walk, by read one in C", walk_library, walk_c);
     compare("read headers, telemetry", telemetry_library, telemetry_c);
     compare("read headers, RSR", rsr_library, rsr_c);
     compare("date", date_library, date_c);

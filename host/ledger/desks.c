@@ -1,4 +1,4 @@
-/* Commands on desks: a visit by hand. */
+/* Commands on desks: a person makes a visit. */
 #define _XOPEN_SOURCE 700
 #include "row.h"
 
@@ -9,7 +9,7 @@ static uint32_t desk_word(void)
     return read_number(words[0], "desk");
 }
 
-/* ---- What is not saved */
+/* ---- Unsaved work */
 
 static void say_unsaved(uint32_t desk)
 {
@@ -25,7 +25,7 @@ static void say_marks_of(const struct line *line)
     print_marks(said, line->calls, line->size, at_desk);
 }
 
-/* What the desk ticked and unticked since it opened its row, from the log, in words that make it again. */
+/* Prints what the desk ticked and unticked since it opened its row, from the log, as words that a person can type again. */
 static void say_marks(uint32_t desk)
 {
     at_desk = desk;
@@ -70,7 +70,7 @@ int do_take(void)
     say("desk %" PRIu32 " is taken over from %s\n", desk, book.holders[desk].who[0] ? book.holders[desk].who : "nobody");
     uint64_t opened = book.holders[desk].visit;
     set_holder(desk, who);
-    /* What is not saved is still that of the visit that opened the row. */
+    /* The unsaved work still belongs to the visit that opened the row. */
     book.holders[desk].visit = opened;
     say_desk(desk);
     return DONE;
@@ -78,13 +78,13 @@ int do_take(void)
 
 /* ---- Ticks */
 
-/* What a command's runs changed, and what was so already; and its last call, which may be refused. */
+/* How many numbers a command ticked and unticked, and how many were so already; and its last call, which may be refused. */
 struct tally {
     uint64_t ticked, unticked, already;
     struct call last;
 };
 
-/* Ticks or unticks a run at a desk. What is so already is no refusal. */
+/* Ticks or unticks a run of numbers at a desk. A number that is so already is not an error. */
 static uint32_t mark_run(uint32_t desk, uint8_t call, struct run run, uint64_t numbers, struct tally *tally)
 {
     for (uint64_t number = run.from;; number = (number + 1) % numbers) {
@@ -95,7 +95,7 @@ static uint32_t mark_run(uint32_t desk, uint8_t call, struct run run, uint64_t n
         tally->already += refused != 0;
         tally->ticked += !refused && call == TICK;
         tally->unticked += !refused && call == UNTICK;
-        /* A command is one line of the log: a row has 1,024 numbers. */
+        /* A command is one line of the log. A row has 1,024 numbers. */
         if (tally->ticked + tally->unticked + tally->already > MOST_CALLS - 3)
             cannot("more numbers than a command takes; nothing was done");
         if (number == run.to)
@@ -103,7 +103,7 @@ static uint32_t mark_run(uint32_t desk, uint8_t call, struct run run, uint64_t n
     }
 }
 
-/* Runs from a word on. In a mark a word may begin with + or -, which says what is done from there on. */
+/* The runs from a word of the command on. In a mark, a word may begin with + or -, which says whether to tick or untick from there on. */
 static uint32_t mark_words(uint32_t desk, int from, uint8_t call, int signs, struct tally *tally)
 {
     uint64_t row = desk_row(desk), numbers = (uint64_t)1 << 32;
@@ -133,7 +133,7 @@ static void say_tally(const struct tally *tally)
         say("%s%" PRIu64 " so already", comma, tally->already);
 }
 
-/* Where a number is refused, the row that it is not in. */
+/* If a number is refused as outside, prints the row that it is not in. */
 static void say_outside(uint64_t index, uint32_t number, uint32_t refused)
 {
     static struct row row;
@@ -154,7 +154,7 @@ static int mark_desk(uint8_t call)
     uint64_t row = desk_row(desk);
     uint32_t refused = mark_words(desk, 1, call, 0, &tally);
     if (refused) {
-        /* The refused call alone is kept in the log: the sheet as it was refuses it too. */
+        /* The log keeps only the refused call: the sheet as it was refuses it too. */
         take_back();
         make(tally.last);
         say_outside(row, tally.last.number, refused);
@@ -209,7 +209,7 @@ static void say_row_counts(uint32_t index)
     say("\n");
 }
 
-/* What a save or a drop did; what was not kept is said in the words that make it again. */
+/* Prints what a save or a drop did. It prints work that was not kept as words that a person can type again. */
 static void say_left(uint32_t desk, uint32_t row, int saved, uint64_t ticks, uint64_t unticks)
 {
     if (saved) {
@@ -251,7 +251,7 @@ int do_drop(void)
     return leave(DROP);
 }
 
-/* Where a number is refused the desk is dropped: the open, the refused call and the drop are all that the log has. */
+/* If a number is refused, the desk is dropped. The log keeps only the open, the refused call and the drop. */
 static int drop_mark(uint32_t desk, uint32_t row, const struct tally *tally, uint32_t refused)
 {
     take_back();

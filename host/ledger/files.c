@@ -21,7 +21,7 @@ static void fail(int file, const char *path, const char *reason)
     cannot("%s: %s; nothing was done", path, reason);
 }
 
-/* A pointer is never null, even where nothing is mapped. */
+/* The pointer is never null, even if nothing is mapped. */
 struct file map_file(const char *path)
 {
     struct stat about;

@@ -11,11 +11,11 @@ struct file {
     size_t size;
 };
 
-/* Maps a file; what cannot be read ends the command. All are unmapped at once, at the command's end. */
+/* Maps a file. If it cannot be read, the command ends. All files are unmapped together at the command's end. */
 struct file map_file(const char *path);
 void unmap_files(void);
 
-/* Writes a sheet to a file that is not there yet, and says so. */
+/* Writes a sheet to a new file, and says so. */
 void write_sheet(const char *path, const uint8_t *sheet);
 
 #endif

@@ -1,4 +1,4 @@
-/* The log, shown and played again. */
+/* Shows the log, and replays it. */
 #define _XOPEN_SOURCE 700
 #include "files.h"
 #include "visit.h"
@@ -14,7 +14,7 @@ static uint64_t big_endian(const uint8_t *bytes, size_t size)
     return number;
 }
 
-/* ---- Calls in words */
+/* ---- Calls as text */
 
 static const char *const names[] = {"?", "enrol", "open", "tick", "untick", "save", "drop", "strike"};
 
@@ -111,31 +111,20 @@ int do_log(void)
     return DONE;
 }
 
-/* ---- The audit: the log's lines are traces, played one after the other over the base */
-
-enum { HEAD = 12 };
+/* ---- The audit: the log's lines are traces, replayed one after the other over the base */
 
 static struct {
-    uint8_t sheet[HERNGANOW_SHEET], trace[HEAD + MOST_CALLS * ENTRY];
+    uint8_t sheet[HERNGANOW_SHEET], trace[TRACE_HEAD + MOST_CALLS * ENTRY];
     char holders[DESKS][NAME];
     uint64_t lines, calls;
     int broken; /* said already */
 } audit;
 
-static void put4(uint8_t *bytes, size_t number)
-{
-    for (int i = 0; i < 4; i++)
-        bytes[i] = (uint8_t)(number >> (24 - 8 * i));
-}
-
 static uint32_t replay_line(const struct line *line)
 {
-    put4(audit.trace, HEAD + line->size);
-    put4(audit.trace + 4, line->size / ENTRY);
-    put4(audit.trace + 8, HEAD);
     if (line->size)
-        memcpy(audit.trace + HEAD, line->calls, line->size);
-    return hernganow_replay_on(audit.trace, HEAD + line->size, audit.sheet, sizeof audit.sheet, ANSWER);
+        memcpy(audit.trace + TRACE_HEAD, line->calls, line->size);
+    return play(audit.sheet, audit.trace, line->size);
 }
 
 static void say_broken(const struct line *line)
@@ -171,7 +160,7 @@ static void audit_line(const struct line *line)
     audit.calls += line->size / ENTRY;
 }
 
-/* Whether the log's end is what is stored: the last visit, the holders and the sheet. */
+/* Compares the log's end with what is stored: the last visit, the holders and the sheet. */
 static void audit_end(void)
 {
     size_t at = 0;

@@ -1,4 +1,4 @@
-/* The packer's program: a receipt ledger at a terminal, or in a script. */
+/* The ledger program: a receipt ledger for a person at a terminal, or for a script. */
 #define _XOPEN_SOURCE 700
 #include "visit.h"
 
@@ -101,7 +101,7 @@ static void __attribute__((noreturn)) end_program(void)
     exit(CANNOT);
 }
 
-/* Cuts a line into words; a word in double quotes may have blanks. */
+/* Cuts a line into words. A word in double quotes may contain blanks. */
 static int cut(char *text, char **parts, int room)
 {
     int found = 0;
@@ -118,7 +118,7 @@ static int cut(char *text, char **parts, int room)
     }
 }
 
-/* A line's status: what cannot work ends the line, and not the session. */
+/* Runs a line and returns its status. A command that cannot work ends the line, but not the session. */
 static int run_line(char **parts, int length)
 {
     if (!setjmp(line_end))
@@ -155,7 +155,7 @@ static int run_session(void)
 
 /* ---- The program */
 
-/* USER@MACHINE/TERMINAL-SESSION, and of a session the process, as one word: two sessions at one terminal are two. */
+/* USER@MACHINE/TERMINAL-SESSION as one word; a session also has its process, so that two sessions at one terminal have two names. */
 static void set_who(int session)
 {
     char host[40] = "", process[24] = "";
@@ -188,7 +188,7 @@ static int run_program(int argc, char **argv)
 int main(int argc, char **argv)
 {
     end_command = end_program;
-    /* What cannot be written is an error that is told, and not the program's end. */
+    /* A failed write is an error that the program reports; it must not end the program. */
     signal(SIGPIPE, SIG_IGN);
     signal(SIGXFSZ, SIG_IGN);
     int status = run_program(argc, argv);

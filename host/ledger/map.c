@@ -8,7 +8,7 @@
 
 enum { ACROSS = 64, BLOCK = 16 };
 
-/* Red where a person looks. */
+/* Prints a block, in red if a person should look at it. */
 static void print_block(FILE *to, const char *block, int red)
 {
     int colours = isatty(1) && !getenv("NO_COLOR");
@@ -46,7 +46,7 @@ void print_strip(FILE *to, const struct row *row)
 
 enum { WIDE = 128, SQUARE = 7, HEAD = 22, MARGIN = 12, ROW_HIGH = HEAD + POSITIONS / WIDE * SQUARE + 10, LEGEND = 26 };
 
-/* One rectangle for each run of a line's squares that are alike. */
+/* Prints one rectangle for each run of equal squares in a line. */
 static void print_squares(FILE *to, const uint8_t states[POSITIONS], int top)
 {
     static const char *const classes[] = {"n", "t", "m"};

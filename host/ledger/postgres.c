@@ -1,4 +1,4 @@
-/* A ledger among others in a PostgreSQL database, for desks at several machines: postgresql://[USER@]HOST[:PORT]/DATABASE#LEDGER */
+/* A ledger in a PostgreSQL database, which may have several, for desks at several machines: postgresql://[USER@]HOST[:PORT]/DATABASE#LEDGER */
 #define _XOPEN_SOURCE 700
 #include "rules.h"
 #include "store.h"
@@ -13,7 +13,7 @@
 static void open_base(const char *place, enum aim aim)
 {
     (void)aim;
-    cannot("%s: this build has no PostgreSQL; install libpq-dev, remove target/bin/hernganow-ledger and start again", shown(place));
+    cannot("%s: this build has no PostgreSQL; install libpq-dev and build it again (`make clean all`)", shown(place));
 }
 
 static void close_base(void)
@@ -30,7 +30,7 @@ static PGconn *base;
 static PGresult *result;  /* the last one */
 static const char *shown_place, *name;
 
-/* Desks that begin a first ledger at the same time wait for each other: IF NOT EXISTS alone is no protection. */
+/* Desks that make the first ledger at the same time wait for each other. IF NOT EXISTS alone does not protect them. */
 static const char tables[] =
     "SELECT pg_advisory_xact_lock(1212632114);"
     "CREATE SCHEMA IF NOT EXISTS hernganow;"
@@ -42,14 +42,14 @@ static const char tables[] =
     " desk int NOT NULL, holder text NOT NULL, calls bytea NOT NULL, PRIMARY KEY (ledger, visit),"
     " CHECK (desk BETWEEN -1 AND 7 AND length(calls) % 16 = 0 AND length(calls) <= 64000))";
 
-/* A commit is on the server's disk when it is answered, whatever the server's or the role's own setting is. A desk that is cut off holds the
-   ledger's lock no longer than some seconds. */
+/* A commit is on the server's disk when the server answers, whatever the server's or the role's own setting is. A desk that loses its connection keeps
+   the ledger's lock for a few seconds at most. */
 static const char settings[] =
     POSTGRES_SYNCHRONOUS ";SET lock_timeout = '10s';SET idle_in_transaction_session_timeout = '30s';SET tcp_keepalives_idle = 5;"
     "SET tcp_keepalives_interval = 3;SET tcp_keepalives_count = 3;SET tcp_user_timeout = 15000;SET client_min_messages = error;"
     "SET bytea_output = hex;SET default_transaction_isolation = 'read committed';SET search_path = pg_catalog";
 
-/* ---- What goes wrong */
+/* ---- Errors */
 
 static int is_state(const char *wanted)
 {
@@ -74,7 +74,7 @@ static void fail(void)
     cannot("%s: %s; nothing of this command was kept", shown_place, PQerrorMessage(base));
 }
 
-/* Keeps one result at a time, which the next one or the connection's end frees. */
+/* Keeps one result at a time. The next result, or the end of the connection, frees it. */
 static ExecStatusType took(PGresult *next)
 {
     PQclear(result);
@@ -109,7 +109,7 @@ static void ask(const char *text, int count, const struct value *values)
         fail();
 }
 
-/* The one point at which a failure leaves it open whether the command was kept. COMMIT of a failed transaction answers ROLLBACK. */
+/* Only a failure here leaves open whether the command was kept. COMMIT of a failed transaction answers ROLLBACK. */
 static void run_commit(void)
 {
     ExecStatusType status = took(PQexec(base, "COMMIT"));
@@ -132,13 +132,13 @@ static void open_base(const char *place, enum aim aim)
         cannot("%s: say which ledger of the database, as in postgresql://host/base#night (letters, digits, . _ -)", shown_place);
     if ((size_t)snprintf(uri, sizeof uri, "%.*s", (int)(mark - place), place) >= sizeof uri)
         cannot("%s: the address is too long", shown_place);
-    /* An address that is not right is not shown again: it may have a password in it. */
+    /* The message does not show a wrong address, which may contain a password. */
     PQconninfoOption *parts = PQconninfoParse(uri, NULL);
     if (!parts)
         cannot("%s: not an address as postgresql://HOST:PORT/DATABASE#NAME", shown_place);
     PQconninfoFree(parts);
     name = mark + 1;
-    /* What stands before the address, the address may change. A server that no longer answers is given up after some seconds. */
+    /* The address may change the settings that stand before it. The program gives up a server that does not answer for some seconds. */
     static const char *const keys[] = {"connect_timeout", "keepalives_idle", "keepalives_interval", "keepalives_count", "tcp_user_timeout",
                                        "fallback_application_name", "dbname", NULL};
     const char *const values[] = {"10", "5", "3", "3", "15000", "hernganow-ledger", uri, NULL};
@@ -193,8 +193,8 @@ static void get_sheet(uint8_t *sheet)
 
 static void begin(enum aim aim, struct book *book)
 {
-    /* FOR UPDATE waits, and then reads what the one before stored: so it does at READ COMMITTED alone. Readers want one state for the
-       sheet and the log: REPEATABLE READ. */
+    /* FOR UPDATE waits, and then reads what the transaction before stored; it does so only at READ COMMITTED. Readers need one state of the sheet and
+       the log: REPEATABLE READ. */
     run(aim == WRITE ? "BEGIN ISOLATION LEVEL READ COMMITTED" : "BEGIN ISOLATION LEVEL REPEATABLE READ READ ONLY");
     ask(aim == WRITE ? "SELECT sheet, holders, visits FROM hernganow.ledger WHERE name = $1" POSTGRES_LOCK
                      : "SELECT sheet, holders, visits FROM hernganow.ledger WHERE name = $1", 0, NULL);
@@ -248,7 +248,7 @@ static void read_log(uint64_t visit, void (*each)(const struct line *))
     char from[24];
     const char *values[] = {name, from};
     snprintf(from, sizeof from, "%" PRIu64, visit);
-    /* Line by line: a long log would not fit. */
+    /* Reads line by line, because a long log might not fit into memory. */
     if (!PQsendQueryParams(base, "SELECT visit, at, who, desk, holder, calls FROM hernganow.log WHERE ledger = $1 AND visit >= $2 ORDER BY visit", 2, NULL,
                            values, NULL, NULL, 0) || !PQsetSingleRowMode(base))
         fail();

@@ -1,90 +1,101 @@
-/* Streams come in: the proved receive files their records, and what became of them is told for each stream. */
+/* Receives streams: the proved receive ticks their records, and the program says what became of them for each stream. */
 #define _XOPEN_SOURCE 700
 #include "files.h"
 #include "row.h"
 
-#include <stdlib.h>
 #include <string.h>
 
-/* ---- What became of the records of each key */
+enum { MOST_TOLD = 20 };
 
-struct tally {
+/* ---- What became of the records of each row, and of streams that have none */
+
+static struct tally {
     uint64_t key;
-    uint32_t row, number; /* its row, and the first record's number */
-    uint64_t ticked, already, outside, strange;
-};
+    uint64_t records, ticked, already, outside;
+} tallies[ROWS];
 
-static struct {
-    struct tally *list; /* in the order of their first records */
-    size_t *places;     /* where a key stands in the list, from 1; a table of `room` places, which is a power of two */
-    size_t number, room;
-} keys;
+static struct stranger {
+    uint64_t key, records;
+    uint32_t number; /* the first record's */
+} strangers[MOST_TOLD];
+static size_t strange_streams;
+static uint64_t other_records; /* of streams that are strange too, and not in the list */
 
-static size_t *place_of(uint64_t key)
+/* A receive enrols no stream, so the rows' keys stay. A free row has no stream's key. */
+static void start_tallies(void)
 {
-    size_t at = (size_t)(key * 0x9E3779B97F4A7C15u >> 20) & (keys.room - 1);
-    while (keys.places[at] && keys.list[keys.places[at] - 1].key != key)
-        at = (at + 1) & (keys.room - 1);
-    return &keys.places[at];
-}
-
-static void forget_keys(void)
-{
-    free(keys.list);
-    free(keys.places);
-    memset(&keys, 0, sizeof keys);
-}
-
-/* Room for one key more, in a table that is at most half full. */
-static void make_room(void)
-{
-    if (2 * (keys.number + 1) <= keys.room)
-        return;
-    keys.room = keys.room ? 2 * keys.room : 128;
-    keys.list = realloc(keys.list, keys.room / 2 * sizeof *keys.list);
-    free(keys.places);
-    keys.places = calloc(keys.room, sizeof *keys.places);
-    if (!keys.list || !keys.places)
-        cannot("no memory");
-    for (size_t i = 0; i < keys.number; i++)
-        *place_of(keys.list[i].key) = i + 1;
-}
-
-static struct tally *tally_of(uint64_t key, uint32_t number)
-{
-    make_room();
-    size_t *at = place_of(key);
-    if (!*at) {
-        uint32_t row = hernganow_find(SHEET, key, ANSWER) ? ROWS : (uint32_t)answered(HERNGANOW_AT_ROW);
-        keys.list[keys.number++] = (struct tally){.key = key, .row = row, .number = number};
-        *at = keys.number;
+    for (uint32_t row = 0; row < ROWS; row++) {
+        uint64_t key = hernganow_row(SHEET, row, ANSWER) ? HERNGANOW_NONE : answered(HERNGANOW_AT_ROW_KEY);
+        tallies[row] = (struct tally){.key = key};
     }
-    return &keys.list[*at - 1];
+    strange_streams = 0;
+    other_records = 0;
+}
+
+static uint32_t row_of(uint64_t key)
+{
+    uint32_t row = 0;
+    while (row < ROWS && tallies[row].key != key)
+        row++;
+    return row;
+}
+
+static void count_strange(uint64_t key, uint32_t number)
+{
+    for (size_t i = 0; i < strange_streams; i++)
+        if (strangers[i].key == key) {
+            strangers[i].records++;
+            return;
+        }
+    if (strange_streams < MOST_TOLD)
+        strangers[strange_streams++] = (struct stranger){.key = key, .records = 1, .number = number};
+    else
+        other_records++;
 }
 
 /* ---- One stream */
 
-/* So many records at a time that their calls, three each, are one line of the log. */
-enum { WINDOW = MOST_CALLS / 3, MOST_TOLD = 20 };
+/* How many records at a time: their calls, three each, fit one line of the log. */
+enum { WINDOW = MOST_CALLS / 3 };
 static uint32_t outcomes[WINDOW];
 static uint64_t out_of_range;
 
-/* The calls that a record's visit made, by its outcome, are noted; and it is counted. */
+/* The sheet before them, and the log's entries of their calls. */
+static uint8_t before[HERNGANOW_SHEET], trace[TRACE_HEAD + 3 * WINDOW * ENTRY];
+static size_t entries;
+
+static void keep(struct call call, uint32_t refused)
+{
+    memcpy(trace + TRACE_HEAD + entries, note(call, refused), ENTRY);
+    entries += ENTRY;
+}
+
+/* The entries are this program's own. The proved replay says whether they are what the receive did. */
+static void check_entries(void)
+{
+    if (play(before, trace, entries) || answered(HERNGANOW_AT_ENTRY) != HERNGANOW_NONE || memcmp(before, book.sheet, sizeof before))
+        cannot("the log of this receive does not make the sheet; nothing was kept");
+}
+
+/* Notes the calls that a record's visit made, which follow from its outcome, and counts the record. */
 static void file_record(uint32_t desk, uint64_t key, uint32_t number, uint32_t outcome)
 {
-    struct tally *tally = tally_of(key, number);
+    uint32_t row = row_of(key);
+    if (row == ROWS) {
+        count_strange(key, number);
+        return;
+    }
+    struct tally *tally = &tallies[row];
+    tally->records++;
     tally->ticked += outcome == 0;
     tally->already += outcome == HERNGANOW_REFUSED_ALREADY_TICKED;
     tally->outside += outcome == HERNGANOW_REFUSED_OUTSIDE_ROW;
-    tally->strange += outcome == HERNGANOW_REFUSED_NO_ROW;
-    if (outcome == HERNGANOW_REFUSED_NO_ROW)
-        return;
-    note((struct call){.call = OPEN, .desk = desk, .row = tally->row}, 0);
-    note((struct call){.call = TICK, .desk = desk, .number = number}, outcome);
-    note((struct call){.call = outcome ? DROP : SAVE, .desk = desk}, 0);
+    keep((struct call){.call = OPEN, .desk = desk, .row = row}, 0);
+    keep((struct call){.call = TICK, .desk = desk, .number = number}, outcome);
+    keep((struct call){.call = outcome ? DROP : SAVE, .desk = desk}, 0);
 }
 
-/* The whole record at a place: it is filed, or what is wrong with it is said. Returns its length. */
+/* Files the whole record at a place, or says what is wrong with it. Returns its length. */
 static size_t look_at(const struct file *stream, size_t at, uint32_t desk, uint32_t outcome)
 {
     const uint8_t *record = stream->bytes + at;
@@ -107,10 +118,12 @@ struct stop {
     size_t place;
 };
 
-/* Receives the next records. Returns 0 or the refusal; in `stop` where the walk is, and why it stopped. */
+/* Receives the next records. Returns 0 or the refusal. Sets `stop` to where the walk is and why it stopped. */
 static uint32_t receive_some(const struct file *stream, uint32_t desk, struct stop *stop)
 {
     size_t at = stop->place;
+    memcpy(before, book.sheet, sizeof before);
+    entries = 0;
     uint32_t refused = hernganow_receive(SHEET, desk, stream->bytes + at, stream->size - at, outcomes, WINDOW, ANSWER);
     if (refused)
         return refused;
@@ -118,39 +131,40 @@ static uint32_t receive_some(const struct file *stream, uint32_t desk, struct st
     stop->place = at + (size_t)answered(HERNGANOW_AT_RECEIVED_PLACE);
     stop->number = answered(HERNGANOW_AT_RECEIVED_STOP);
     stop->records += records;
-    /* Of a stream cut off the second number is a count, else a place. */
+    /* If the stream is cut off, the second number is a count; else it is a place. */
     int counts = stop->number == HERNGANOW_REFUSED_TOO_SHORT || stop->number == HERNGANOW_REFUSED_TRUNCATED;
     stop->second = counts ? second : at + second;
     for (uint64_t i = 0; i < records; i++)
         at += look_at(stream, at, desk, outcomes[i]);
+    check_entries();
     return 0;
 }
 
-/* ---- What is said of it */
+/* ---- What the program says */
 
-static void say_filed(const struct tally *tally)
+static void say_filed(uint32_t index)
 {
     static struct row row;
-    read_row(tally->row, &row);
-    say("  row %2" PRIu32 "  %-28s  %" PRIu64 " ticked, %" PRIu64 " already ticked, %" PRIu64 " outside the row; %" PRIu32 " missing\n", tally->row,
+    const struct tally *tally = &tallies[index];
+    read_row(index, &row);
+    say("  row %2" PRIu32 "  %-28s  %" PRIu64 " ticked, %" PRIu64 " already ticked, %" PRIu64 " outside the row; %" PRIu32 " missing\n", index,
         stream_words(tally->key), tally->ticked, tally->already, tally->outside, row.missing);
 }
 
-static int say_keys(void)
+/* Returns whether a record was not filed. */
+static int say_tallies(void)
 {
-    int unfiled = 0;
-    size_t strange = 0;
-    for (size_t i = 0; i < keys.number; i++) {
-        const struct tally *tally = &keys.list[i];
-        unfiled |= tally->outside || tally->strange;
-        if (tally->row < ROWS)
-            say_filed(tally);
-        else if (strange++ < MOST_TOLD)
-            say("  not filed: %" PRIu64 " record%s of a stream with no row: enrol %s %" PRIu32 "\n", tally->strange, plural(tally->strange),
-                stream_words(tally->key), tally->number);
-    }
-    if (strange > MOST_TOLD)
-        say("  and %zu streams more with no row\n", strange - MOST_TOLD);
+    int unfiled = strange_streams > 0;
+    for (uint32_t row = 0; row < ROWS; row++)
+        if (tallies[row].records) {
+            say_filed(row);
+            unfiled |= tallies[row].outside > 0;
+        }
+    for (size_t i = 0; i < strange_streams; i++)
+        say("  not filed: %" PRIu64 " record%s of a stream with no row: enrol %s %" PRIu32 "\n", strangers[i].records, plural(strangers[i].records),
+            stream_words(strangers[i].key), strangers[i].number);
+    if (other_records)
+        say("  not filed: %" PRIu64 " record%s of other streams with no row\n", other_records, plural(other_records));
     return unfiled;
 }
 
@@ -165,12 +179,13 @@ static void say_stop(const struct stop *stop)
         say("stopped at byte %zu, for what is at byte %" PRIu64 "\n", stop->place, stop->second);
 }
 
-/* Whether all of a stream was filed is in `status`; returns 0, or the refusal of the desk. */
+/* Receives a stream. Sets `status` if not all of it was filed. Returns 0, or the refusal of the desk. */
 static uint32_t receive_stream(const struct file *stream, uint32_t desk, int *status)
 {
     struct stop stop = {0};
     uint32_t refused;
     out_of_range = 0;
+    start_tallies();
     say("%s\n", stream->path);
     do {
         refused = receive_some(stream, desk, &stop);
@@ -179,9 +194,8 @@ static uint32_t receive_stream(const struct file *stream, uint32_t desk, int *st
         return refused;
     if (out_of_range > MOST_TOLD)
         say("  and %" PRIu64 " records more with a field out of range\n", out_of_range - MOST_TOLD);
-    int unfiled = say_keys() || out_of_range;
+    int unfiled = say_tallies() || out_of_range;
     say_stop(&stop);
-    forget_keys();
     if (stop.number)
         fprintf(denied, "%s: %s\n", stream->path, refusal_words((uint32_t)stop.number));
     if (unfiled || stop.number)
@@ -189,7 +203,7 @@ static uint32_t receive_stream(const struct file *stream, uint32_t desk, int *st
     return 0;
 }
 
-/* The desk is refused before anything is done: at the first stream, whose name is then not said. */
+/* The desk is refused before anything is done, at the first stream; the message then does not name the stream. */
 static int receive_streams(const struct file *streams, int number, uint32_t desk)
 {
     int status = DONE;
@@ -209,7 +223,6 @@ int do_receive(void)
     uint32_t desk = read_number(words[0], "desk");
     for (int i = 1; i < count; i++)
         streams[i - 1] = map_file(words[i]);
-    forget_keys();
     begin(WRITE);
     int status = is_held(desk) ? REFUSED : receive_streams(streams, count - 1, desk);
     unmap_files();

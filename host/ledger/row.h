@@ -1,4 +1,4 @@
-/* A row as the proved calls tell of it. */
+/* A row, as the proved calls report it. */
 #ifndef ROW_H
 #define ROW_H
 
@@ -16,20 +16,20 @@ struct row {
 /* Reads a row of the sheet; returns 0 or the refusal. */
 uint32_t read_row(uint32_t index, struct row *row);
 uint32_t number_at(const struct row *row, uint32_t position);
-/* What each position is: below the highest tick ticked or missing, above it not yet there. */
+/* The state of each position: up to the highest tick ticked or missing, above it not yet received. */
 void row_states(const struct row *row, uint8_t states[POSITIONS]);
 
 /* "row 3, telemetry 177 43 2 1, numbers 1-1024"; "12 ticked, 2 missing: 5 9" */
 void say_row(const struct row *row);
 void say_counts(const struct row *row);
 
-/* Goes over the rows that there are, from *index on; 0 where there is no further one. */
+/* Reads the next row from *index on; 0 if there is no other. */
 int each_row(uint32_t *index, struct row *row);
 
-/* Whether the command's next word is this option, which is then done with. */
+/* Whether the command's next word is this option. If so, removes it. */
 int has_option(const char *option);
 
-/* Pictures: in the terminal one line, or 16; an SVG. */
+/* Pictures of a row: one line or 16 lines in the terminal; or an SVG. */
 void print_strip(FILE *to, const struct row *row);
 void print_grid(FILE *to, const struct row *row);
 void print_svg(FILE *to, const struct row *rows, size_t number);

@@ -11,7 +11,7 @@ static int create(const char *how)
 {
     begin_any(CREATE);
     if (!store->create(&book)) {
-        fprintf(denied, "refused: %s is there already, and was left as it is\n", shown(place));
+        fprintf(denied, "refused: %s is there already, and was left as it is; use another name\n", shown(place));
         return REFUSED;
     }
     say("%s: %s\n", shown(place), how);
@@ -29,7 +29,7 @@ int do_import(void)
 {
     struct file file = map_file(words[0]);
     book = (struct book){.visits = 0};
-    /* The converter takes old sheets alone. */
+    /* The converter accepts only old sheets. */
     int old = !hernganow_convert(file.bytes, file.size, SHEET, ANSWER);
     if (!old)
         take_sheet(book.sheet, file.bytes, file.size);
@@ -130,7 +130,7 @@ int do_row(void)
 
 /* ---- The order list */
 
-/* The rows that a command is about: all, or the one that its word names. Says a refusal where there is none. */
+/* The rows of a command: all, or the one that it names. If there is no such row, says the refusal. */
 static size_t chosen_rows(struct row rows[ROWS])
 {
     size_t number = 0;

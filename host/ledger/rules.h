@@ -1,19 +1,19 @@
-/* The rules that keep what was told as saved. A flag turns each off, as in -DSAY_AFTER_COMMIT=0: such a wrong build is what host/test has to
-   find. A right build sets none. */
+/* The rules that make sure that what the program says is saved is saved. A flag such as -DSAY_AFTER_COMMIT=0 turns one off. host/test must find every
+   such wrong build. A right build sets no flag. */
 #ifndef RULES_H
 #define RULES_H
 
-/* Nothing is said before the commit has answered. */
+/* The program says nothing before the commit is answered. */
 #ifndef SAY_AFTER_COMMIT
 #define SAY_AFTER_COMMIT 1
 #endif
 
-/* A desk that another has open is refused. */
+/* The program refuses a desk that another person has open. */
 #ifndef HEED_HOLDERS
 #define HEED_HOLDERS 1
 #endif
 
-/* SQLite: the writer's lock is taken before the sheet is read, and a commit is on the disk when it is answered. */
+/* SQLite: a command takes the writer's lock before it reads the sheet, and a commit is on the disk when it is answered. */
 #ifndef SQLITE_BEGIN
 #define SQLITE_BEGIN "BEGIN IMMEDIATE"
 #endif

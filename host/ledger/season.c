@@ -12,7 +12,7 @@ static const char *name_of(size_t ledger)
     return shown(ledger ? words[ledger - 1] : place);
 }
 
-/* Every ledger's sheet, one after the other. */
+/* Reads every ledger's sheet, one after the other. */
 static void read_sheets(size_t number)
 {
     for (size_t i = 0; i < number; i++) {
@@ -22,7 +22,7 @@ static void read_sheets(size_t number)
         finish();
         memcpy(sheets[i], book.sheet, sizeof book.sheet);
     }
-    /* The session's next command is about its own ledger again. */
+    /* The session's next command uses its own ledger again. */
     close_ledger();
 }
 
@@ -34,7 +34,7 @@ static uint32_t rows_of(size_t ledger)
     return used;
 }
 
-/* The streams that have a row in two ledgers. */
+/* Says which streams have a row in two ledgers. */
 static void say_twice(size_t number)
 {
     for (size_t one = 0; one < number; one++)

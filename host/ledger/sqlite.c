@@ -1,4 +1,4 @@
-/* A ledger in a file of its own. Many processes of one machine may use it; the file must not be on a network's disk. */
+/* A ledger in its own file. Many processes of one machine may use it. The file must not be on a network disk. */
 #define _XOPEN_SOURCE 700
 #include "rules.h"
 #include "store.h"
@@ -26,9 +26,9 @@ static const char tables[] =
     "CREATE TABLE log (visit INTEGER PRIMARY KEY, at INTEGER NOT NULL, who TEXT NOT NULL, desk INTEGER NOT NULL, holder TEXT NOT NULL,"
     " calls BLOB NOT NULL, CHECK (desk BETWEEN -1 AND 7 AND length(calls) % 16 = 0 AND length(calls) <= 64000)) STRICT;";
 
-/* ---- What goes wrong */
+/* ---- Errors */
 
-/* Ends the command with the reason. What was begun is undone: by SQLite, when the file is next opened, at the latest. */
+/* Ends the command with the reason. SQLite undoes what was begun, at the latest when the file is next opened. */
 static void fail(void)
 {
     int code = sqlite3_errcode(base) & 0xff, system = sqlite3_system_errno(base);
@@ -60,7 +60,7 @@ static sqlite3_stmt *prepare(const char *text)
     return statement;
 }
 
-/* Whether there is a further line. */
+/* Whether there is another line. */
 static int step(sqlite3_stmt *statement)
 {
     int code = sqlite3_step(statement);
@@ -85,7 +85,7 @@ static int64_t one_number(const char *text)
 
 /* ---- Opening */
 
-/* Waits a few milliseconds for another's commit. SQLite's own waiting grows to a tenth of a second a time, and lets a late desk starve. */
+/* Waits a few milliseconds for another process to commit. SQLite's own waits grow to a tenth of a second, so that a late desk might never get its turn. */
 static int wait_turn(void *context, int tries)
 {
     static time_t since;
@@ -105,7 +105,7 @@ static int open_as(const char *name, int flags)
     return code == SQLITE_OK ? sqlite3_exec(base, "SELECT count(*) FROM sqlite_schema", NULL, NULL, NULL) : code;
 }
 
-/* In WAL mode even readers write beside the file; one that may not is read as it stands, if nobody is at work on it. */
+/* In WAL mode even readers write next to the file. A reader that may not write reads the file as it is, if nobody is changing it. */
 static int open_immutable(void)
 {
     char name[4200];
@@ -118,7 +118,7 @@ static int open_immutable(void)
     return open_as(name, SQLITE_OPEN_READONLY | SQLITE_OPEN_URI);
 }
 
-/* The file that the name stands for is the one that was opened, and has no second name: SQLite keeps its log beside the name. */
+/* Checks that the name still stands for the opened file, and that the file has no other name: SQLite keeps its log next to the name. */
 static void check_name(void)
 {
     struct stat now;
@@ -128,7 +128,7 @@ static void check_name(void)
         cannot("%s: the file has %lu names (hard links), and a ledger may have one; nothing was done", path, (unsigned long)now.st_nlink);
 }
 
-/* SQLite takes such names for databases in memory, or for URIs. */
+/* Whether SQLite takes the name for a file, and not for a database in memory or a URI. */
 static int is_file_name(const char *name)
 {
     return *name && *name != ':' && !strpbrk(name, "?#%") && strncmp(name, "file:", 5) && strlen(name) <= 4000;
@@ -154,7 +154,7 @@ static void open_file(const char *name, enum aim aim)
     if (aim != CREATE && one_number("PRAGMA application_id") != MARK)
         cannot("%s: not a ledger, but %s; nothing was done", name,
                one_number("SELECT count(*) FROM sqlite_schema") ? "another program's database" : "an empty file");
-    /* In WAL mode some builds of SQLite do less. */
+    /* Some builds of SQLite sync less in WAL mode. */
     if (aim != CREATE)
         run(SQLITE_SYNCHRONOUS);
 }
@@ -184,7 +184,7 @@ static void put_book(const char *text, const struct book *book)
 static int create(const struct book *book)
 {
     char mark[64];
-    /* Nothing is set in a database that is another's. */
+    /* Changes nothing in a database that is no ledger's. */
     if (one_number("SELECT count(*) FROM sqlite_schema"))
         return 0;
     run("PRAGMA journal_mode = WAL");
@@ -247,7 +247,7 @@ static void read_base(uint8_t *sheet)
     sqlite3_finalize(statement);
 }
 
-/* A column's text; of a damaged file it may be none. */
+/* A column's text. A damaged file may have none. */
 static void get_text(char text[NAME], sqlite3_stmt *statement, int column)
 {
     const char *found = (const char *)sqlite3_column_text(statement, column);

@@ -1,13 +1,13 @@
-/* A ledger kept in a database: SQLite (a path) or PostgreSQL (a URI). A command is one transaction: begin reads the sheet and locks it, append
-   adds lines to the log, commit stores the sheet. One ledger is open at a time. What cannot be done ends the command: `cannot`, words.h. */
+/* A ledger in a database: SQLite (a path) or PostgreSQL (a URI). A command is one transaction: begin reads the sheet and locks it, append adds lines
+   to the log, commit stores the sheet. One ledger is open at a time. An error ends the command (`cannot` in words.h). */
 #ifndef STORE_H
 #define STORE_H
 
-#include "../../include/hernganow.h"
+#include <hernganow.h>
 
 enum { DESKS = 8, ROWS = 32, POSITIONS = 1024, NAME = 96, WAIT_SECONDS = 10 };
 
-/* A line of the log: up to 4,000 calls as a trace has them, and the desk, if any, that got another holder. */
+/* A line of the log: up to 4,000 calls as entries of a trace; and the desk, if any, whose holder changed. */
 enum { ENTRY = 16, MOST_CALLS = 4000, NO_DESK = -1 };
 
 struct line {
@@ -20,7 +20,7 @@ struct line {
     const uint8_t *calls;
 };
 
-/* Who has a desk's row open, since when and which visit. Nobody: an empty name. */
+/* Who has a desk's row open, since when, and in which visit. An empty name is nobody. */
 struct holder {
     char who[NAME];
     int64_t since;
@@ -39,26 +39,26 @@ enum aim { READ, WRITE, CREATE };
 struct store {
     void (*open)(const char *place, enum aim aim);
     void (*close)(void);
-    /* Makes the ledger; its sheet is also the base, which the log starts from. 0 where there is one already. */
+    /* Makes the ledger. Its sheet is also the base, from which the log starts. Returns 0 if there is a ledger already. */
     int (*create)(const struct book *book);
-    /* READ sees one state of the ledger until end; WRITE keeps others from writing until commit or end. */
+    /* READ sees one state of the ledger until end. WRITE keeps others from writing until commit or end. */
     void (*begin)(enum aim aim, struct book *book);
     void (*append)(const struct line *line);
     void (*commit)(const struct book *book);
     void (*end)(void);
-    /* Between begin and the end: the base, and the log's lines from a visit on, in order. */
+    /* After begin: the base; and the log's lines from a visit on, in order. */
     void (*base)(uint8_t *sheet);
     void (*log)(uint64_t visit, void (*each)(const struct line *line));
 };
 
 extern const struct store sqlite_store, postgres_store;
 
-/* Holders as one text, a line for each desk, and back. */
+/* The holders as one text, with a line for each desk; and back. */
 enum { HOLDERS = DESKS * (NAME + 48) };
 void holders_write(const struct holder *holders, char text[HOLDERS]);
 void holders_read(struct holder *holders, const char *text);
 
-/* Bytes that are no sheet are taken for zeros, which every call refuses with 20. */
+/* Takes bytes that are no sheet as zeros, which every call refuses with 20. */
 void take_sheet(uint8_t *sheet, const void *bytes, size_t size);
 
 #endif

@@ -32,7 +32,7 @@ uint64_t answered(int at)
     return hernganow_number(answer, (enum hernganow_at)at);
 }
 
-/* ---- What is said */
+/* ---- Output */
 
 void say(const char *form, ...)
 {
@@ -63,7 +63,7 @@ void start_saying(void)
         cannot("no memory");
 }
 
-/* Standard output that cannot be written ends the program: nobody hears what else it would do. */
+/* If standard output cannot be written, the program ends: nobody would see what else it does. */
 static void tell(void)
 {
     fflush(said);
@@ -162,11 +162,11 @@ static void put(uint8_t *bytes, size_t size, uint64_t number)
         bytes[--size] = (uint8_t)number;
 }
 
-void note(struct call c, uint32_t refused)
+const uint8_t *note(struct call c, uint32_t refused)
 {
-    /* A desk or a row that an entry has no room for is none, and the call does nothing. */
+    /* If an entry has no room for the desk or the row, there is no such desk or row, and the call does nothing. */
     if (c.desk > UINT8_MAX || c.row > UINT8_MAX)
-        return;
+        return NULL;
     if (line.size == sizeof calls)
         append_line();
     uint8_t *entry = calls + line.size;
@@ -175,6 +175,15 @@ void note(struct call c, uint32_t refused)
     put(entry + 4, 4, c.number);
     put(entry + 8, 8, c.key);
     line.size += ENTRY;
+    return entry;
+}
+
+uint32_t play(uint8_t *sheet, uint8_t *trace, size_t size)
+{
+    put(trace, 4, TRACE_HEAD + size);
+    put(trace + 4, 4, size / ENTRY);
+    put(trace + 8, 4, TRACE_HEAD);
+    return hernganow_replay_on(trace, TRACE_HEAD + size, sheet, HERNGANOW_SHEET, ANSWER);
 }
 
 static uint32_t call_on_sheet(const struct call *c)

@@ -1,9 +1,9 @@
-/* One command at work, a transaction of proved calls. What it says is held back until what it did is kept: nobody is told of a save that a
-   lost disk or server then undoes. */
+/* One command: a transaction of proved calls. The program says nothing before the transaction is kept, so nobody hears of a save that a lost disk or
+   server then undoes. */
 #ifndef VISIT_H
 #define VISIT_H
 
-#include "../../include/hernganow.h"
+#include <hernganow.h>
 #include "store.h"
 #include "words.h"
 
@@ -14,7 +14,7 @@ enum status { DONE, REFUSED, CANNOT };
 /* The most words that a command takes. */
 enum { MOST_WORDS = 9999 };
 
-/* The command's words behind its name; the ledger; what was read of it and is stored again; the last call's answer; who works here. */
+/* The command's words after its name; the ledger; what the transaction reads and stores; the last call's answer; the person's name. */
 extern char **words;
 extern int count;
 extern const char *place;
@@ -26,18 +26,18 @@ extern char who[NAME];
 #define ANSWER answer, sizeof answer
 uint64_t answered(int at);
 
-/* The ledger is opened, and closed: whatever was begun and not kept is undone. */
+/* Open and close the ledger. Closing undoes what was begun and not kept. */
 void open_ledger(const char *name, enum aim aim);
 void close_ledger(void);
 
-/* Reads the ledger. A damaged sheet ends the command, but not that of begin_any. */
+/* Reads the ledger. A damaged sheet ends the command; begin_any accepts it. */
 void begin(enum aim aim);
 void begin_any(enum aim aim);
-/* Whether the book's sheet is one. */
+/* Whether the book's sheet is a right sheet. */
 int is_sheet(void);
-/* Ends what was begun, and keeps it where a call was made or a desk has another holder. Then says what was said. */
+/* Ends the transaction. Keeps it if a call was made or a desk has another holder. Then writes what the command says. */
 void finish(void);
-/* Forgets what was said and made, when a command cannot work. */
+/* Forgets the command's output and calls, because it cannot work. */
 void abandon(void);
 
 /* To standard output, and to standard error. */
@@ -53,21 +53,25 @@ struct call {
     uint32_t desk, row, number;
     uint64_t key;
 };
-/* Makes a call on the sheet and notes it with its answer; notes one that a receive made; forgets the calls of this command, and the sheet is
-   what it was. */
+/* Makes a call on the sheet and notes it with its answer; notes a call that a receive made, and returns the log's entry of it; takes back the calls of
+   this command, so that the sheet is as before. */
 uint32_t make(struct call call);
-void note(struct call call, uint32_t refused);
+const uint8_t *note(struct call call, uint32_t refused);
 void take_back(void);
 
-/* The visit that the next call is noted in. */
+/* Replays calls on a sheet: a trace with so many bytes of entries behind its head, which is written here. Returns 0 or the refusal. */
+enum { TRACE_HEAD = 12 };
+uint32_t play(uint8_t *sheet, uint8_t *trace, size_t size);
+
+/* The visit in which the next call is noted. */
 uint64_t this_visit(void);
 
-/* Calls in words, as the log shows them: all of a line, or what a desk ticked and unticked. */
+/* Calls as text, as the log shows them: all calls of a line, or a desk's ticks and unticks. */
 void print_calls(FILE *to, const uint8_t *calls, size_t size);
 void print_marks(FILE *to, const uint8_t *calls, size_t size, uint32_t desk);
 
-/* A desk's row, or HERNGANOW_NONE where it has none open; whether another has it open, which is refused; its holder is who works here, or
-   nobody. */
+/* A desk's row, or HERNGANOW_NONE if it has none open; whether another person has it open, which the program refuses; sets its holder to this person,
+   or to nobody. */
 uint64_t desk_row(uint32_t desk);
 int is_held(uint32_t desk);
 void set_holder(uint32_t desk, const char *name);

@@ -1,7 +1,7 @@
 #define _XOPEN_SOURCE 700
 #include "words.h"
 
-#include "../../include/hernganow.h"
+#include <hernganow.h>
 
 #include <errno.h>
 #include <inttypes.h>
@@ -12,7 +12,7 @@
 
 void (*end_command)(void) __attribute__((noreturn));
 
-/* One line, also where a database says more. */
+/* Prints one line, also if a database's message has more. */
 void cannot(const char *form, ...)
 {
     char text[6000];
@@ -27,7 +27,7 @@ void cannot(const char *form, ...)
     end_command();
 }
 
-/* What to do next, in this program's commands. */
+/* What to do next, as a command of this program. */
 static const char *next_step(uint32_t number)
 {
     switch (number) {
@@ -49,11 +49,20 @@ static const char *next_step(uint32_t number)
     }
 }
 
+/* What the refusal means: the library's own text. */
+static const char *text_of(uint32_t number)
+{
+    static uint8_t text[HERNGANOW_TEXT];
+    uint8_t answer[HERNGANOW_ANSWER];
+    hernganow_refusal_text(number, text, sizeof text, answer, sizeof answer);
+    return (const char *)text;
+}
+
 const char *refusal_words(uint32_t number)
 {
     static char words[512];
     const char *next = next_step(number);
-    snprintf(words, sizeof words, "refused %" PRIu32 ": %s%s%s", number, refusal_text(number), next ? "; " : "", next ? next : "");
+    snprintf(words, sizeof words, "refused %" PRIu32 ": %s%s%s", number, text_of(number), next ? "; " : "", next ? next : "");
     return words;
 }
 

@@ -1,5 +1,5 @@
-/* The transaction of a command with no proved call in it: the sheet is read and locked, a line is put into the log, and the same sheet is
-   stored again, so many times. What the ledger program's commands are timed beside. */
+/* The transaction of a command without a proved call: reads and locks the sheet, adds a line to the log, and stores the same sheet, as often as asked.
+   The benchmarks compare the ledger program's commands with it. */
 #define _XOPEN_SOURCE 700
 #include "../ledger/store.h"
 #include "../ledger/words.h"

@@ -1,4 +1,4 @@
-"""Every command on one ledger, as a packer uses it; what it does is looked up in the exported sheet, or in the reference's listing."""
+"""Every command on one ledger, as a person uses it. Checks what it does in the exported sheet, or in the reference's listing."""
 import os
 import subprocess
 
@@ -44,14 +44,14 @@ def first_record(path):
 
 
 def unfiled(ledger, path):
-    """What is said of a stream of which not all was filed."""
+    """What the program says of a stream that is not filed completely."""
     status, out, err = ledger.run('receive', '0', path)
     expect(status == 1, f'{path}: {status} {out}{err}')
     return out + err
 
 
 def receive_wrong(ledger, samples, work):
-    """Streams that stop, records out of range, of no row and outside the row; a file that is not there keeps all of a command back."""
+    """Streams that stop; records out of range, of no row and outside the row; if one file is missing, the command does nothing."""
     cut = unfiled(ledger, os.path.join(samples, 'refusal-06'))
     expect('3 records, stopped at byte 2564, where only 139 bytes are left' in cut and 'refused 6: ' in cut, cut)
     wrong = unfiled(ledger, os.path.join(samples, 'refusal-05'))
@@ -81,7 +81,7 @@ def receive_wrong(ledger, samples, work):
 
 
 def visit(ledger):
-    """A visit by hand, in a session; runs are as they can be pasted."""
+    """A visit by a person, in a session. The program prints runs so that they can be typed again."""
     lines = ['open 3 1', 'tick 3 60-62 70', 'untick 3 5 6', 'nonsense', 'tick 3 three', 'tick 3 61', 'save 3', 'missing 1']
     status, out, err = ledger.run(text='\n'.join(lines))
     expect('ledger>' not in out, 'a prompt without a terminal')
@@ -103,7 +103,7 @@ def visit(ledger):
 
 
 def stale(ledger):
-    """A stale save says what was not kept, in words that make it again."""
+    """A stale save prints what was not kept, as words that can be typed again."""
     ledger.ok('open', '4', '2')
     ledger.ok('tick', '4', '80-82')
     ledger.ok('mark', '5', '2', '+90')
@@ -114,7 +114,7 @@ def stale(ledger):
 
 
 def holders(ledger):
-    """A desk is its holder's from open to save or drop; take is in the log."""
+    """A desk belongs to its holder from open to save or drop. The log has a take."""
     ledger.ok('open', '6', '3', who='ann')
     for words in (['open', '6', '3'], ['tick', '6', '1'], ['untick', '6', '1'], ['save', '6'], ['drop', '6'], ['mark', '6', '3', '+1']):
         expect('ann has had desk 6 open since ' in ledger.refused(None, *words, who='bob'), words)
@@ -159,7 +159,7 @@ def whole_ledgers(ledger, make, samples, work):
 
 
 def long_log(ledger):
-    """More calls than a trace has, each command and all."""
+    """More calls than a trace can hold, in one command and in all."""
     lines = ['enrol telemetry 9 9 9 9 0'] + [f'mark 0 0 {sign}0-1023' for _ in range(4) for sign in '+-']
     expect(ledger.run(text='\n'.join(lines))[0] == 0, 'a long log')
     expect(int(ledger.ok('audit').split()[1]) > 8 * 1024, 'the calls of a long log')
@@ -180,7 +180,7 @@ def try_terminal(ledger):
 
 
 def try_page(ledger, page):
-    """The page's session says what it does say."""
+    """The session on the page prints what the page says."""
     with open(page) as file:
         block = next(b for b in file.read().split('```') if b.startswith('\nledger> '))
     lines = block.strip().splitlines()
@@ -192,7 +192,7 @@ def try_page(ledger, page):
 
 
 def try_all(ledger, make, samples, reference, work):
-    """All of it; returns words for the page."""
+    """Runs all of these tests. Returns a text for the report."""
     enrol(ledger)
     receive(ledger, samples, reference)
     receive_wrong(ledger, samples, work)

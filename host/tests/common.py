@@ -1,4 +1,4 @@
-"""What the tests of the ledger program share: a ledger, its sheet, and what went wrong."""
+"""What the tests of the ledger program share: a ledger, its sheet, and failures."""
 import os
 import subprocess
 
@@ -34,19 +34,19 @@ class Ledger:
         return out
 
     def refused(self, number, *words, **more):
-        """The command is refused with this number (None: in the program's own words); returns the words."""
+        """Checks that the command is refused with this number (None: by the program itself). Returns the message."""
         status, out, err = self.run(*words, **more)
         start = 'refused: ' if number is None else f'refused {number}: '
         expect(status == 1 and any(line.startswith(start) for line in err.splitlines()), f'{" ".join(words)}: not {start}: {status}: {out}{err}')
         return out + err
 
     def cannot(self, part, *words, **more):
-        """The command cannot work, and says why."""
+        """Checks that the command cannot work, and says why."""
         status, out, err = self.run(*words, **more)
         expect(status == 2 and err.startswith('ledger: ') and part in err, f'{" ".join(words)}: not "{part}": {status}: {out}{err}')
 
     def session(self, who=None):
-        """A session with a pipe to and from it; refusals come behind what is said."""
+        """A session with pipes to and from it. Refusals come after the other output."""
         env = dict(os.environ, TZ='UTC', **({'HERNGANOW_WHO': who} if who else {}))
         return subprocess.Popen([self.program, self.place], stdin=subprocess.PIPE, stdout=subprocess.PIPE, stderr=subprocess.STDOUT, bufsize=0,
                                 env=env)
@@ -65,5 +65,5 @@ class Ledger:
 
 
 def is_ticked(sheet, row, position):
-    """By the manual's layout of a sheet."""
+    """From the manual's layout of a sheet."""
     return sheet[ROWS_AT + ROW_BYTES * row + TICKS_AT + position // 8] >> position % 8 & 1

@@ -1,4 +1,5 @@
-"""Eight desks hammer one ledger. Each keeps what it was told: at the end every number told as saved is as it was told, and the audit says same."""
+"""Eight desks work on one ledger at the same time. Each notes what the program told it. At the end every number is as the program said, and the audit
+answers "same"."""
 import random
 import signal
 import threading
@@ -11,15 +12,15 @@ UNKNOWN = None
 
 
 class Died(Exception):
-    """The session's process ended; what it said before."""
+    """The session's process ended; holds what it said before."""
 
 
 class Failed(Exception):
-    """A command could not work; why."""
+    """A command could not work; holds the reason."""
 
 
 class Desk(threading.Thread):
-    """One desk. Its numbers are its own, so that it knows what each has to be."""
+    """One desk. No other desk uses its numbers, so it knows what each must be."""
 
     def __init__(self, night, number):
         super().__init__()
@@ -73,12 +74,12 @@ class Desk(threading.Thread):
     # ---- a visit
 
     def wish(self, row):
-        """Three numbers of its own, and what each is to become."""
+        """Three of its numbers, and whether each shall be ticked."""
         mine = [n for n in range(1, POSITIONS + 1) if n % DESKS == self.number]
         return {(row, n): int(self.states.get((row, n), 0) != 1) for n in self.random.sample(mine, 3)}
 
     def keep(self, wish, line):
-        """What a save or a mark told."""
+        """Notes what the program said after a save or a mark."""
         if ': saved row' in line:
             self.states.update(wish)
             self.night.count('saves')
@@ -88,7 +89,7 @@ class Desk(threading.Thread):
             self.states.update({k: UNKNOWN for k in wish})
 
     def try_to_keep(self, wish, words):
-        """Says the command that keeps the wish. Where nothing is told it may be kept or not."""
+        """Makes the command that saves the wish. If the program says nothing, the wish may be saved or not."""
         try:
             line = self.say(words)
         except Died as died:
@@ -119,7 +120,7 @@ class Desk(threading.Thread):
         try:
             self.try_to_keep(wish, f'mark {self.number} {row} {words}')
         except Wrong:
-            # A visit that was cut short has left a row open.
+            # A visit that was interrupted has left a row open.
             self.say(f'drop {self.number}')
 
     def turn(self):
@@ -148,7 +149,7 @@ class Desk(threading.Thread):
 
 
 class Night:
-    """A time of work by eight desks, in which `kills` sessions are killed, and `crashes` times something else is done."""
+    """Eight desks work for some time. `kills` sessions are killed, and `crash` is called `crashes` times."""
 
     def __init__(self, ledger, seconds=0, kills=0, crash=None, crashes=0, seed=1):
         self.ledger, self.seconds, self.kills, self.crash, self.crashes, self.seed = ledger, seconds, kills, crash, crashes, seed
@@ -168,7 +169,7 @@ class Night:
         return True
 
     def take_failure(self, words):
-        """A command that could not work is wrong, but where a server crashes."""
+        """A command that cannot work is a failure, unless a server crashed."""
         if self.crash and ('connection' in words or 'not known' in words):
             self.count('not known' if 'not known' in words else 'lost connections')
             time.sleep(0.05)
@@ -200,7 +201,7 @@ class Night:
         return self.judge(desks)
 
     def judge(self, desks):
-        """Every number is what its desk was last told; what no desk touched is not ticked; the log makes the sheet."""
+        """Every number is as the program last told its desk; numbers that no desk used are not ticked; replaying the log gives the sheet."""
         expect(not self.wrong, f'{len(self.wrong)} commands went wrong: {self.wrong[:3]}')
         sheet = self.ledger.sheet()
         told = {k: s for desk in desks for k, s in desk.states.items()}

@@ -1,4 +1,4 @@
-"""Desks at three machines: network namespaces with addresses of their own. One is cut off in mid commit, and comes back."""
+"""Desks at three machines: network namespaces with their own addresses. One loses its connection during a commit, and comes back."""
 import os
 import subprocess
 import threading
@@ -25,7 +25,7 @@ class Network:
         return f'{self.mark}h{n}'
 
     def make(self):
-        """Whether it could be made."""
+        """Whether the network could be made."""
         if not ip('link', 'add', self.mark, 'type', 'bridge', check=False):
             return False
         ip('addr', 'add', f'{self.server}/24', 'dev', self.mark)
@@ -52,7 +52,7 @@ class Network:
 
 
 class Packer(threading.Thread):
-    """Marks its numbers one after the other, at its own machine."""
+    """A desk at its own machine that marks its numbers one after the other."""
 
     def __init__(self, ledger, network, me, over):
         super().__init__()
@@ -77,8 +77,8 @@ class Packer(threading.Thread):
 
 
 def work_apart(program, work, server, network, seconds):
-    """The packer at the last host is cut off twice."""
-    place = server.uri('hosts', host=network.server, more='?tcp_user_timeout=2000&connect_timeout=3')
+    """The desk at the last host loses its connection twice."""
+    place = server.uri(f'hosts-{os.path.basename(program)}', host=network.server, more='?tcp_user_timeout=2000&connect_timeout=3')
     ledger, over = Ledger(program, place, work), threading.Event()
     ledger.ok('new')
     ledger.ok('enrol', 'telemetry', '1', '1', '1', '1', '0')

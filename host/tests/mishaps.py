@@ -1,4 +1,4 @@
-"""What goes wrong at a terminal: disks, rights, files that are no ledger, damage. Clear words, the right status, and nothing lost."""
+"""Errors at a terminal: disks, rights, files that are no ledger, damage. Checks that the message is clear, the status right, and nothing lost."""
 import os
 import resource
 import shutil
@@ -10,7 +10,7 @@ from common import Ledger, expect
 
 
 def begun(ledger):
-    """A ledger with a row and two ticks that are saved, and a third that is not."""
+    """A ledger with a row, two saved ticks, and a third that is not saved."""
     ledger.ok('new')
     ledger.ok('enrol', 'telemetry', '1', '1', '1', '1', '0')
     ledger.ok('mark', '0', '0', '+0', '2')
@@ -20,7 +20,7 @@ def begun(ledger):
 
 
 def has_all(ledger):
-    """The two ticks are there, the third can still be saved, and the log makes the sheet."""
+    """Checks that the two ticks are there, the third can still be saved, and replaying the log gives the sheet."""
     expect('2 ticked, 1 missing: 1' in ledger.ok('row', '0'), 'what was saved')
     expect('1 tick and 0 unticks' in ledger.ok('desks'), 'what was not saved')
     expect(ledger.is_same(), 'the audit')
@@ -59,7 +59,7 @@ def full_disk(program, work):
 
 
 def file_limit(program, work):
-    """The limit of a file's size, and a signal with it."""
+    """A limit on the size of files, and the signal that comes with it."""
     ledger = begun(Ledger(program, os.path.join(work, 'limited'), work))
     small = lambda: resource.setrlimit(resource.RLIMIT_FSIZE, (4096, 4096))
     ledger.cannot('nothing of this command was kept', 'tick', '1', '7-900', who='ann', preexec_fn=small)
@@ -142,7 +142,7 @@ def anothers(program, work):
 
 
 def names(program, work):
-    """A symbolic link is the same ledger; a second name is refused; a file that is moved away is seen."""
+    """A symbolic link is the same ledger; the program refuses a second name, and notices a file that is moved away."""
     ledger = begun(Ledger(program, os.path.join(work, 'named'), work))
     link, second = os.path.join(work, 'link'), os.path.join(work, 'second')
     os.symlink(ledger.place, link)
@@ -212,7 +212,7 @@ def damaged(program, work):
 
 
 def damaged_pages(program, work):
-    """Noise in the file: never another answer than 'damaged', or the right one."""
+    """Random changes in the file: the program says that it is damaged, or gives the right answer, and nothing else."""
     for at in (0, 16, 100, 4096, 8192, 12288):
         ledger = damage(program, work, 'SELECT 1')
         with open(ledger.place, 'r+b') as file:
@@ -226,7 +226,7 @@ def damaged_pages(program, work):
 # ---- Standard output
 
 def output(program, work):
-    """A command whose answer cannot be written is done, and says so."""
+    """A command whose output cannot be written is done, and says so."""
     ledger = begun(Ledger(program, os.path.join(work, 'heard'), work))
     full = f'{program} {ledger.place} mark 2 0 +3 >/dev/full'
     head = f'{program} {ledger.place} | head -1'
@@ -243,7 +243,7 @@ def output(program, work):
 
 
 def try_all(program, work, samples):
-    """All of it on SQLite; returns what was tried."""
+    """Runs all of these tests on SQLite. Returns what was tried."""
     return '; '.join([full_disk(program, work), file_limit(program, work), read_only(program, work), no_rights(program, work),
                       not_ledgers(program, work, samples), anothers(program, work), names(program, work), damaged(program, work),
                       damaged_pages(program, work), output(program, work)])
@@ -252,13 +252,13 @@ def try_all(program, work, samples):
 # ---- PostgreSQL
 
 def forget(server, name):
-    """A ledger of an earlier test is gone."""
+    """Removes the ledger of an earlier test."""
     if server.sql("SELECT 1 FROM pg_namespace WHERE nspname = 'hernganow'"):
         server.sql(f"DELETE FROM hernganow.log WHERE ledger = '{name}'; DELETE FROM hernganow.ledger WHERE name = '{name}'")
 
 
 def rights_on_server(program, work, server):
-    """A desk's role works, and can change nothing of the log; others may not; no password is shown."""
+    """The role of a desk works, and cannot change the log; other roles may not use the ledger; no message shows a password."""
     forget(server, 'rights')
     ledger = begun(Ledger(program, server.uri('rights'), work))
     if not server.sql("SELECT 1 FROM pg_roles WHERE rolname = 'packer'"):
@@ -282,7 +282,7 @@ def rights_on_server(program, work, server):
 
 
 def stopped_server(program, work, server):
-    """A session outlives its server."""
+    """A session goes on after its server was restarted."""
     forget(server, 'stopped')
     ledger = begun(Ledger(program, server.uri('stopped'), work))
     session = ledger.session()

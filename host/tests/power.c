@@ -1,4 +1,4 @@
-/* For LD_PRELOAD: the disk of a machine that loses its power. Whenever a file is synced, a copy of it is put beside it, FILE.disk: what such a
+/* For LD_PRELOAD: simulates the disk of a machine that loses its power. Whenever a file is synced, writes a copy of it, FILE.disk, which is what such a
    disk is sure to have. A test then puts the copies in the files' places. */
 #define _GNU_SOURCE
 #include <dlfcn.h>

@@ -1,4 +1,4 @@
-"""A machine that loses its power: of SQLite's files only what was synced is left (power.c). Every mark that was told is there."""
+"""A machine loses its power: of SQLite's files only what was synced is left (power.c). Every mark that the program told of is there."""
 import os
 import shutil
 import subprocess
@@ -9,7 +9,7 @@ MARKS = 60
 
 
 def lose_power(place):
-    """Puts the disk's copies in the files' places; SQLite makes its shared memory anew."""
+    """Puts the disk's copies in the files' places. SQLite makes its shared memory again."""
     for ending in ('', '-wal'):
         if os.path.exists(place + ending):
             os.unlink(place + ending)
@@ -20,10 +20,11 @@ def lose_power(place):
 
 
 def try_power(program, shim, work):
-    """Two sessions at work; the power goes after each of several numbers of marks."""
+    """Two sessions work; the power is lost after each of several counts of marks."""
     for cut in (1, 7, MARKS):
         ledger = Ledger(program, os.path.join(work, f'power{cut}'), work)
-        env = dict(os.environ, LD_PRELOAD=shim)
+        # Where the program is built with the address sanitizer, that wants to be loaded first.
+        env = dict(os.environ, LD_PRELOAD=shim, ASAN_OPTIONS='verify_asan_link_order=0')
         for words in (['new'], ['enrol', 'telemetry', '1', '1', '1', '1', '0']):
             subprocess.run([program, ledger.place, *words], check=True, env=env, capture_output=True)
         sessions = [subprocess.Popen([program, ledger.place], stdin=subprocess.PIPE, stdout=subprocess.PIPE, stderr=subprocess.STDOUT, env=env, bufsize=0)

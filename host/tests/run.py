@@ -1,4 +1,4 @@
-"""Tries the ledger program. usage: run.py FOLDER [LONGER]; host/test makes the programs in FOLDER. LONGER multiplies kills and crashes."""
+"""Tests the ledger program. usage: run.py FOLDER [LONGER]; host/test makes the programs in FOLDER. LONGER multiplies kills and crashes."""
 import os
 import sys
 import tempfile
@@ -32,7 +32,7 @@ class Trial:
         return os.path.join(self.folder, build)
 
     def ledger(self, store, build='ledger', name=None):
-        """A new ledger of a store, and the build that works on it."""
+        """A new ledger in a store, and the build that uses it."""
         self.names += 1
         name = f'{name or "night"}{self.names}'
         place = os.path.join(self.work, name) if store == 'SQLite' else self.database.uri(name)
@@ -48,7 +48,7 @@ class Trial:
             print(f'{words}: WRONG: {wrong}', flush=True)
 
     def catch(self, build, tries, test):
-        """A wrong build has to be found, in one of several tries."""
+        """Checks that a wrong build is found, in one of several tries."""
         begun = time.time()
         for _ in range(tries):
             try:
@@ -61,7 +61,7 @@ class Trial:
 
 
 def try_store(t, store, build='ledger', share=1.0):
-    """A store's tests; a share of the kills and crashes where it is not the first time."""
+    """The tests of a store; with only a share of the kills and crashes if it is not the first time."""
     make = lambda name: t.ledger(store, build, name)
     times = lambda n: max(1, int(n * share * t.longer))
     t.show(f'{store}: commands', commands.try_all, make('whole'), make, SAMPLES, REFERENCE, t.work)
@@ -87,12 +87,13 @@ def try_without(t):
 
 def try_power(t):
     shim = t.program('power.so')
-    t.show('SQLite: power', power.try_power, t.program('ledger'), shim, tempfile.mkdtemp(dir=t.work))
+    for build in ('ledger', 'sanitized'):
+        t.show(f'SQLite: power, {build}', power.try_power, t.program(build), shim, tempfile.mkdtemp(dir=t.work))
     t.catch('not-synced', 1, lambda build: power.try_power(t.program(build), shim, tempfile.mkdtemp(dir=t.work)))
 
 
 def try_wrong(t):
-    """Each rule turned off is found."""
+    """Checks that each build with one rule turned off is found."""
     kill = lambda store: lambda build: hammer.Night(t.ledger(store, build), kills=150, seed=t.names).run()
     work = lambda store: lambda build: hammer.Night(t.ledger(store, build), seconds=3).run()
     crash = lambda build: hammer.Night(t.ledger('PostgreSQL', build), seconds=4, crashes=2, crash=t.database.crash).run()
@@ -115,7 +116,8 @@ def main():
         try_power(t)
         t.show('PostgreSQL: missing', try_without, t)
         if is_apart:
-            t.show('PostgreSQL: hosts', hosts.try_hosts, t.program('ledger'), t.work, database, network)
+            for build in ('ledger', 'sanitized'):
+                t.show(f'PostgreSQL: hosts, {build}', hosts.try_hosts, t.program(build), t.work, database, network)
         else:
             print('PostgreSQL: hosts: not tried, no network could be made')
         try_wrong(t)

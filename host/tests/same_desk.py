@@ -1,4 +1,4 @@
-"""Processes that all use desk 0, each for its own row and numbers: no tick goes to another's row, and none that was told is lost."""
+"""Processes that all use desk 0, each for its own row and numbers: no tick goes to another process's row, and no tick that the program told of is lost."""
 import random
 import threading
 import time
@@ -16,7 +16,7 @@ def said(child, words):
 
 
 class Packer(threading.Thread):
-    """One that opens, ticks and saves, whatever the answers are."""
+    """A process that opens, ticks and saves, whatever the answers are."""
 
     def __init__(self, ledger, me, number, end):
         super().__init__()

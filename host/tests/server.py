@@ -1,10 +1,12 @@
-"""A PostgreSQL server in a folder of its own, on the loopback address."""
+"""A PostgreSQL server in its own folder, on the loopback address."""
 import glob
 import os
 import shutil
+import signal
 import socket
 import subprocess
 import tempfile
+import time
 
 
 def free_port():
@@ -14,7 +16,8 @@ def free_port():
 
 
 class Server:
-    """Started with commits that are written late where a connection asks for it, so that a crash shows it."""
+    """If a connection asks for commits that are written late, this server never writes them, so that a crash loses them: its writer of the log is held.
+    A commit that is not late writes its own part of the log."""
 
     def __init__(self, addresses=()):
         self.bin = sorted(glob.glob('/usr/lib/postgresql/*/bin'))[-1]
@@ -31,7 +34,7 @@ class Server:
         self.sql('CREATE DATABASE hire', base='postgres')
 
     def run(self, name, *words):
-        """A program of the server's, which may not run as root."""
+        """Runs a program of the server, which may not run as root."""
         prefix = ['setpriv', '--reuid=postgres', '--regid=postgres', '--clear-groups'] if os.getuid() == 0 else []
         subprocess.run([*prefix, os.path.join(self.bin, name), *words], check=True, stdout=subprocess.DEVNULL, stderr=subprocess.DEVNULL,
                        cwd=self.folder)
@@ -40,13 +43,31 @@ class Server:
         options = (f"-p {self.port} -c listen_addresses='{','.join(self.addresses)}' -c unix_socket_directories='{self.folder}'"
                    " -c wal_writer_delay=10000 -c max_connections=60")
         self.run('pg_ctl', '-w', '-D', self.data, '-l', os.path.join(self.folder, 'log'), '-o', options, 'start')
+        self.writer = int(self.sql("SELECT pid FROM pg_stat_activity WHERE backend_type = 'walwriter'", base='postgres'))
+        os.kill(self.writer, signal.SIGSTOP)
 
-    def stop(self, how='fast'):
-        self.run('pg_ctl', '-w', '-D', self.data, '-m', how, 'stop')
+    def let_go(self):
+        """The writer of the log goes on, which it must to end."""
+        try:
+            os.kill(self.writer, signal.SIGCONT)
+        except ProcessLookupError:
+            pass
+
+    def stop(self):
+        self.let_go()
+        self.run('pg_ctl', '-w', '-D', self.data, '-m', 'fast', 'stop')
+
+    def stop_at_once(self):
+        """The writer is told to end before it goes on, so that it writes nothing more."""
+        self.run('pg_ctl', '-W', '-D', self.data, '-m', 'immediate', 'stop')
+        time.sleep(0.2)
+        self.let_go()
+        while os.path.exists(os.path.join(self.data, 'postmaster.pid')):
+            time.sleep(0.02)
 
     def crash(self):
-        """Ends the server at once, as a lost machine would, and starts it again."""
-        self.stop('immediate')
+        """Ends the server at once, as if its machine were lost, and starts it again."""
+        self.stop_at_once()
         self.start()
 
     def remove(self):

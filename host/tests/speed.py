@@ -114,6 +114,7 @@ def main():
     work = tempfile.mkdtemp(dir=folder)
     t = {'ledger': os.path.join(folder, 'ledger'), 'bare': os.path.join(folder, 'bare'), 'work': work}
     database = server.Server()
+    database.let_go()
     try:
         for store, place in (('SQLite', lambda name: os.path.join(work, name)), ('PostgreSQL', database.uri)):
             beside_bare(t, store, place)

@@ -1,4 +1,5 @@
-//! The agreed gain has no call in scripts: cases of it with the answers that a host has to get. `host/agreed.c` makes the calls.
+//! Scripts have no call for the agreed gain. This module makes cases of it with their expected answers;
+//! `host/agreed.c` makes the calls.
 
 use crate::dates::day_count;
 use crate::gain::gain_by_settings;
@@ -8,10 +9,10 @@ use crate::settings::{self, Setting, SETTINGS};
 use std::collections::BTreeMap;
 use std::io::{self, Write};
 
-/// An answer in numbers of eight bytes, most significant first.
+/// An answer has this many numbers of eight bytes, most significant byte first.
 const NUMBERS: usize = 32;
 
-/// What is wrong with a case, or which of the mission's settings is the record's.
+/// What is wrong in a case, or which of the mission's settings applies to the record.
 #[derive(Clone, Copy, Debug, PartialEq, Eq, PartialOrd, Ord)]
 enum Case {
     FirstSetting,
@@ -43,8 +44,9 @@ const CASES: [Case; 12] = [
     Case::DamagedRecordAndSheet,
 ];
 
-/// Writes so many rounds of all cases: sheet and record, each behind its length in four bytes, and the answer's 256 bytes. Says how often each
-/// number is answered; false where a number that the call can give is not among them.
+/// Writes all cases, so many rounds of them: the sheet and the record, each after its length in four bytes, and the
+/// answer's 256 bytes. Prints how often each number is answered. Returns false if a number that the call can give is
+/// not among them.
 pub fn write(seed: u64, rounds: usize, out: &mut impl Write) -> io::Result<bool> {
     let rng = Rng::new(seed);
     let mut answered: BTreeMap<u32, usize> = BTreeMap::new();
@@ -76,7 +78,7 @@ fn numbers(answer: Result<Option<u32>, Refused>) -> [u64; NUMBERS] {
 fn made(rng: &Rng, case: Case) -> (Vec<u8>, Vec<u8>) {
     let kind = if case == Case::Telemetry { TELEMETRY } else { RSR };
     let mut record = make::good_record(rng, kind, make::short_length(rng));
-    // The mission, and the day of the record: byte 30, bytes 60 to 63.
+    // The mission is byte 30 of the record, its day bytes 60 to 63.
     let mission = record[30];
     let field = |at: usize| u32::from(u16::from_be_bytes([record[at], record[at + 1]]));
     let day = day_count(field(60), field(62)).unwrap_or(0);
@@ -94,7 +96,7 @@ fn made(rng: &Rng, case: Case) -> (Vec<u8>, Vec<u8>) {
         Case::FirstSetting => [0, 1, 50].iter().for_each(|later| add(mission, day.saturating_sub(1) + 2 * later)),
         Case::LastSetting => [0, 1, 2].iter().for_each(|more| add(mission, (day / 3).max(1) * more)),
         Case::SettingOfThatDay => [day, day + 1, day / 2 + 1_000_000].iter().for_each(|first| add(mission, *first)),
-        // Later ones stand before it and behind it.
+        // Settings that begin later stand before it and after it.
         _ => [day + 7, day / 2, day + 1, day / 3 + 2_000_000].iter().for_each(|first| add(mission, *first)),
     }
     if matches!(case, Case::BrokenSheet | Case::DamagedRecordAndSheet) {

@@ -1,40 +1,54 @@
-//! Benchmarks: each call over fixed inputs, in nanoseconds a call, the best of several passes. With the feature
-//! `rattle` every line has the proved library's time too, and the ratio.
+//! Benchmarks: each call on fixed inputs, in nanoseconds per call, the best of several passes. With the feature
+//! `rattle` every line also has the proved library's time, and the ratio.
 
 use crate::idr::{self, Idr};
-use crate::make::Rng;
-use crate::random::traces;
+use crate::receive::{self, Received};
 use crate::record::{Fields, Record, Refused, Rsr, Telemetry, RSR, TELEMETRY};
-use crate::replay::{self, Replayed, MOST_ENTRIES};
+use crate::replay::{self, Replayed};
+use crate::season::{self, Season};
 use crate::stream;
-use crate::{dates, iq, ledger, list, nights, record, sample};
+use crate::{dates, iq, keys, ledger, record, sample};
 use std::hint::black_box;
 use std::time::Instant;
 
-const PASSES: usize = 7;
-/// A pass lasts about this long.
-const PASS_SECONDS: f64 = 0.05;
-/// Reports of a pass.
-const REPORTS: usize = 1_000_000;
+mod programs;
+mod sheets;
 
-/// The calls that are timed. Each returns a number made of its answer, by which implementations are held to the same.
+/// Many short passes: some of them meet no other work on the machine.
+const PASSES: usize = 150;
+/// How long a pass takes, about.
+const PASS_SECONDS: f64 = 0.002;
+/// Runs of a program.
+const LISTED_PASSES: usize = 11;
+
+/// The calls that are timed. Each returns a number computed from its answer, so that implementations can be compared.
 pub struct Implementation {
     pub name: &'static str,
     pub read_headers: fn(&[u8], u32) -> u64,
     pub walk: fn(&[u8]) -> u64,
     pub read_tape: fn(&[u8]) -> u64,
     pub date_of: fn(u32) -> u64,
-    /// A record's samples into the list.
+    /// Unpacks a record's samples into the list.
     pub unpack: fn(&[u8], &mut [i32]) -> u64,
-    /// Size, rate and numbers into the bytes.
+    /// Packs numbers into bytes, for a size and a rate.
     pub pack: fn(u32, u32, &[i32], &mut [u8]) -> u64,
     pub is_sheet: fn(&[u8]) -> u64,
     pub tick: fn(&mut [u8], u32, u32) -> u64,
     pub untick: fn(&mut [u8], u32, u32) -> u64,
     pub report: fn(&[u8], u32) -> u64,
-    /// The counting alone: the report of a row of a right sheet, without the sheet's check.
+    /// The counting alone: the report of a row of a right sheet. Does not check the sheet.
     pub count: fn(&[u8], u32) -> u64,
     pub replay: fn(&[u8], &mut [u8]) -> u64,
+    pub replay_on: fn(&[u8], &mut [u8]) -> u64,
+    pub parts: fn(u64) -> u64,
+    pub row: fn(&[u8], u32) -> u64,
+    pub desk: fn(&[u8], u32) -> u64,
+    pub unsaved: fn(&[u8], u32) -> u64,
+    /// The missing numbers of a row into the list.
+    pub missing: fn(&[u8], u32, &mut [u32]) -> u64,
+    /// Desk, stream, and the list of outcomes.
+    pub receive: fn(&mut [u8], u32, &[u8], &mut [u32]) -> u64,
+    pub season: fn(&[u8]) -> u64,
 }
 
 pub const REFERENCE: Implementation = Implementation {
@@ -43,7 +57,7 @@ pub const REFERENCE: Implementation = Implementation {
     // The count of whole records.
     walk: |s| black_box(stream::walk(s)).count,
     read_tape: |s| tape_number(idr::read(s)),
-    // 1,000 years and the day.
+    // 1,000 times the year, plus the day.
     date_of: |count| dates::date_of(count).map_or_else(u64::from, |(year, day)| 1_000 * year as u64 + day as u64),
     unpack: |s, list| iq::unpack(s, list).map_or_else(|refused| refused.number() as u64, |count| count as u64),
     pack: |size, rate, numbers, out| iq::pack(size, rate, numbers, out).map_or_else(u64::from, |count| count as u64),
@@ -53,9 +67,46 @@ pub const REFERENCE: Implementation = Implementation {
     report: |s, row| report_number(ledger::report(s, row)),
     count: |s, row| report_number(Ok(ledger::report_row(ledger::row(s, row as usize)))),
     replay: |t, s| replay_number(replay::replay(t, s)),
+    replay_on: |t, s| replay_number(replay::replay_on(t, s)),
+    parts: |key| parts_number(keys::parts(key)),
+    row: |s, row| few_number(ledger::row_of(s, row).map(|(key, first)| [key, first.into()])),
+    desk: |s, desk| few_number(ledger::desk_of(s, desk).map(desk_numbers)),
+    unsaved: |s, desk| few_number(ledger::unsaved(s, desk).map(|(ticks, unticks)| [ticks.into(), unticks.into()])),
+    missing: |s, row, list| ledger::missing_numbers(s, row, list).map_or_else(u64::from, |count| count as u64),
+    receive: |s, desk, stream, list| received_number(receive::receive(s, desk, stream, list)),
+    season: |s| season_number(season::season(s)),
 };
 
-/// The numbers of the answer, added up.
+/// The numbers of the answer, one on the other.
+fn few_number(answer: Result<[u64; 2], u32>) -> u64 {
+    answer.map_or_else(u64::from, |[first, second]| first ^ second)
+}
+
+/// A closed desk has neither: two times all ones.
+fn desk_numbers(open: Option<(usize, bool)>) -> [u64; 2] {
+    open.map_or([u64::MAX; 2], |(row, stale)| [row as u64, stale as u64])
+}
+
+fn parts_number(answer: Result<(u32, [u32; 4]), u32>) -> u64 {
+    answer.map_or_else(u64::from, |(kind, numbers)| numbers.iter().fold(kind, |all, number| all ^ number).into())
+}
+
+fn received_number(answer: Result<Received, u32>) -> u64 {
+    match answer {
+        Ok(Received { stop, ticked }) => stop.count ^ stop.place ^ stop.number as u64 ^ stop.detail ^ ticked,
+        Err(refusal) => refusal as u64,
+    }
+}
+
+/// How many sheets the season has and its counts in all, one on the other.
+fn season_number(answer: Result<Season, u32>) -> u64 {
+    let counts = |season: Season| {
+        season.total.ticked ^ season.total.missing ^ season.total.per_million() ^ season.sheets.len() as u32
+    };
+    answer.map_or(0, |season| counts(season).into())
+}
+
+/// The sum of the answer's numbers.
 fn replay_number(answer: Result<Replayed, u32>) -> u64 {
     match answer {
         Ok(Replayed::Same) => 0,
@@ -64,7 +115,8 @@ fn replay_number(answer: Result<Replayed, u32>) -> u64 {
     }
 }
 
-/// Every number of the answer, one on the other, so that every field has to be read: Px/No in two's complement, a none all ones.
+/// The exclusive or of every number of the answer, so that every field is read. Px/No is in two's complement; a value
+/// that is not there is all ones.
 fn headers_number(answer: Result<(Record, Fields), Refused>) -> u64 {
     match answer {
         Ok((record, Fields::Telemetry(fields))) => record_number(&record) ^ telemetry_number(&fields),
@@ -117,7 +169,7 @@ fn rsr_number(r: &Rsr) -> u64 {
     source ^ signal ^ time ^ r.key ^ r.day_count as u64
 }
 
-/// Every number of the fields, one on the other, flags as 0 or 1; 0 where there are none.
+/// The exclusive or of every number of the fields, with flags as 0 or 1; 0 if there are no fields.
 fn tape_number(answer: Result<Idr, u32>) -> u64 {
     let f = match answer {
         Ok(Idr { fields: Some(fields), .. }) => fields,
@@ -153,7 +205,7 @@ fn tape_number(answer: Result<Idr, u32>) -> u64 {
     (flags as u32 ^ bytes as u32 ^ words as u32 ^ longs ^ f.sample_count.unwrap_or(0)) as u64
 }
 
-/// The ticked and the missing count and the lowest missing number.
+/// One number of the ticked count, the missing count and the lowest missing number.
 fn report_number(answer: Result<ledger::Report, u32>) -> u64 {
     match answer {
         Ok(report) => ((report.ticked as u64) << 32 | report.missing as u64) ^ report.lowest.map_or(0, u64::from),
@@ -168,14 +220,14 @@ pub fn implementations() -> Vec<Implementation> {
     vec![REFERENCE]
 }
 
-/// As many tries as make a pass.
+/// How many tries a pass has.
 fn tries(mut try_once: impl FnMut() -> u64) -> usize {
     let start = Instant::now();
     black_box(try_once());
     (PASS_SECONDS / start.elapsed().as_secs_f64().max(1e-9)).clamp(1.0, 1e6) as usize
 }
 
-/// Seconds of one try in a pass of several.
+/// The seconds of one try, in a pass of several.
 fn pass(tries: usize, mut try_once: impl FnMut() -> u64) -> f64 {
     let start = Instant::now();
     for _ in 0..tries {
@@ -184,175 +236,99 @@ fn pass(tries: usize, mut try_once: impl FnMut() -> u64) -> f64 {
     start.elapsed().as_secs_f64() / tries as f64
 }
 
-/// One line: the best pass of each implementation, and how many times the first one's the others take. The passes
-/// take turns, so that a busy machine slows all alike.
-fn compare(name: &str, calls: f64, each: &[Implementation], mut run: impl FnMut(&Implementation) -> u64) {
-    let tries = tries(|| run(&each[0]));
-    compare_passes(name, calls, tries, each, run);
+/// What is timed: these implementations, in the lines whose names have a word in them.
+struct Bench<'a> {
+    each: Vec<Implementation>,
+    word: &'a str,
 }
 
-/// The same with passes of so many tries.
-fn compare_passes(
-    name: &str,
-    calls: f64,
-    tries: usize,
-    each: &[Implementation],
-    mut run: impl FnMut(&Implementation) -> u64,
-) {
-    let expected = run(&each[0]);
-    for implementation in each {
-        assert_eq!(run(implementation), expected, "{name}: {} answers otherwise", implementation.name);
+impl Bench<'_> {
+    fn heading(&self) {
+        let names: Vec<String> = self.each.iter().map(|i| format!(" {:>12} {:>6}", i.name, "times")).collect();
+        println!("{:44}{}", "nanoseconds a call", names.concat());
     }
-    let mut best = vec![f64::INFINITY; each.len()];
-    for _ in 0..PASSES {
-        for (implementation, best) in each.iter().zip(&mut best) {
-            *best = best.min(pass(tries, || run(implementation)));
+
+    /// One line: the best pass of each implementation, and the ratio of the others to the first. The passes take turns,
+    /// so that a busy machine slows all of them.
+    fn compare(&self, name: &str, calls: f64, mut run: impl FnMut(&Implementation) -> u64) {
+        if !name.contains(self.word) {
+            return;
         }
+        let expected = run(&self.each[0]);
+        for implementation in &self.each {
+            assert_eq!(run(implementation), expected, "{name}: {} answers otherwise", implementation.name);
+        }
+        let tries = tries(|| run(&self.each[0]));
+        let mut best = vec![f64::INFINITY; self.each.len()];
+        for _ in 0..PASSES {
+            for (implementation, best) in self.each.iter().zip(&mut best) {
+                *best = best.min(pass(tries, || run(implementation)));
+            }
+        }
+        self.line(name, calls, &best);
     }
-    let times = best.iter().map(|time| format!(" {:12.2} {:6.2}", time * 1e9 / calls, time / best[0]));
-    println!("{name:44}{}", times.collect::<String>());
+
+    fn line(&self, name: &str, calls: f64, best: &[f64]) {
+        let times = best.iter().map(|time| format!(" {:12.2} {:6.2}", time * 1e9 / calls, time / best[0]));
+        println!("{name:44}{}", times.collect::<String>());
+    }
 }
 
-pub fn run() {
-    let each = implementations();
-    let names: Vec<String> = each.iter().map(|i| format!(" {:>12} {:>6}", i.name, "times")).collect();
-    println!("{:44}{}", "nanoseconds a call", names.concat());
+/// Times the calls whose lines have the word in their names; every line has the empty one.
+pub fn run(word: &str) {
+    let bench = Bench { each: implementations(), word };
+    bench.heading();
+    records(&bench);
+    samples(&bench);
+    sheets::checks(&bench);
+    sheets::reports(&bench);
+    sheets::questions(&bench);
+    sheets::missing(&bench);
+    sheets::receives(&bench);
+    sheets::replays(&bench);
+    sheets::seasons(&bench);
+    programs::listings(&bench);
+}
+
+fn records(bench: &Bench) {
     for (name, kind) in [("read headers, telemetry", TELEMETRY), ("read headers, RSR", RSR)] {
         let s = sample::headers_sample(kind);
-        compare(name, 1.0, &each, |i| (i.read_headers)(black_box(&s), black_box(kind)));
+        bench.compare(name, 1.0, |i| (i.read_headers)(black_box(&s), black_box(kind)));
     }
     for (name, records, length) in [
         ("walk, a record of 120 bytes, in cache", 1_000, 120),
-        ("walk, a record of 120 bytes", 1_000_000, 120),
+        ("walk, a record of 120 bytes", 100_000, 120),
         ("walk, a record of 1,000 bytes", 100_000, 1_000),
     ] {
         let s = sample::telemetry_stream(records, length);
-        compare(name, records as f64, &each, |i| (i.walk)(black_box(&s)));
+        bench.compare(name, records as f64, |i| (i.walk)(black_box(&s)));
     }
     let counts: Vec<u32> = (0..1_000).map(|i| i * 7_919 % (dates::LAST_COUNT + 1)).collect();
-    compare("the date of a day count", counts.len() as f64, &each, |i| {
+    bench.compare("the date of a day count", counts.len() as f64, |i| {
         black_box(&counts).iter().fold(0, |all, count| all ^ (i.date_of)(*count))
     });
     for (name, sample) in [("read a medium band record", 0), ("read one without a valid time tag", 1)] {
         let tape = sample::sample("tapes/good-tape").expect("a sample");
         let s = &tape[sample * idr::RECORD..][..idr::RECORD];
-        compare(name, 1.0, &each, |i| (i.read_tape)(black_box(s)));
+        bench.compare(name, 1.0, |i| (i.read_tape)(black_box(s)));
     }
-    samples(&each);
-    let full = nights::full_sheet(&Rng::new(1));
-    for (name, s) in [
-        ("is it a sheet: fresh", &fresh_sheet()),
-        ("is it a sheet: one row, one desk open", &one_row_sheet()),
-        ("is it a sheet: 16 rows", &nights::sheet_with(&Rng::new(1), 16, 0, 0)),
-        ("is it a sheet: 16 rows, 16 struck", &nights::sheet_with(&Rng::new(1), 16, 16, 0)),
-        ("is it a sheet: 32 rows", &nights::sheet_with(&Rng::new(1), 32, 0, 0)),
-        ("is it a sheet: 32 rows, 8 desks open", &full),
-    ] {
-        compare(name, 1.0, &each, |i| (i.is_sheet)(black_box(s)));
-    }
-    ledger_calls("a tick or untick: one row", &mut one_row_sheet(), &each);
-    ledger_calls("a tick or untick: 32 rows, 8 desks open", &mut full.clone(), &each);
-    for (name, s) in [("row report: one row", &one_row_sheet()), ("row report: 32 rows, 8 desks open", &full)] {
-        compare(name, 1.0, &each, |i| (i.report)(black_box(s), 0));
-    }
-    reports(&each);
-    replays(&each);
-    listing();
 }
 
-/// The longest record of samples at each width: nanoseconds a byte of data, so that 1 over the time is gigabytes a second.
-fn samples(each: &[Implementation]) {
+/// The longest record of samples at each width, in nanoseconds per byte of data. One divided by it is gigabytes per
+/// second.
+fn samples(bench: &Bench) {
     for (size, rates) in iq::LISTED {
         let s = sample::samples_record(size, rates[0]);
         let bytes = record::data_part(&s).len();
         let mut list = vec![0; 8 * bytes];
         let count = iq::unpack(&s, &mut list).expect("a good record");
         let mut numbers = list[..count].to_vec();
-        compare(&format!("unpack, {size} bits, a byte"), bytes as f64, each, |i| {
+        bench.compare(&format!("unpack, {size} bits, a byte"), bytes as f64, |i| {
             (i.unpack)(black_box(&s), black_box(&mut numbers))
         });
         let mut out = vec![0; bytes];
-        compare(&format!("pack, {size} bits, a byte"), bytes as f64, each, |i| {
+        bench.compare(&format!("pack, {size} bits, a byte"), bytes as f64, |i| {
             (i.pack)(black_box(size), black_box(rates[0]), black_box(&numbers), black_box(&mut out))
         });
     }
-}
-
-fn fresh_sheet() -> Vec<u8> {
-    let mut s = vec![0; ledger::SHEET];
-    ledger::fresh(&mut s).expect("the length is right");
-    s
-}
-
-fn one_row_sheet() -> Vec<u8> {
-    let mut s = fresh_sheet();
-    ledger::enrol(&mut s, 760_930_632_193, 1).expect("a fresh sheet");
-    ledger::open(&mut s, 0, 0).expect("a closed desk");
-    for n in [1, 2, 4, 900] {
-        ledger::tick(&mut s, 0, n).expect("not ticked");
-    }
-    ledger::save(&mut s, 0).expect("not stale");
-    ledger::open(&mut s, 0, 0).expect("a closed desk");
-    s
-}
-
-/// A million reports a pass on a sheet of one row: the counting alone, and the call with its sheet's check.
-fn reports(each: &[Implementation]) {
-    for (row, ticked) in [
-        ("no tick", Vec::new()),
-        ("gap at the start", (1..ledger::POSITIONS).collect()),
-        ("gap at the end", (0..ledger::POSITIONS).filter(|n| *n != ledger::POSITIONS - 2).collect()),
-        ("whole", (0..ledger::POSITIONS).collect()),
-    ] {
-        let s = ticked_sheet(&ticked);
-        compare_passes(&format!("counting alone: {row}"), 1.0, REPORTS, each, |i| {
-            (i.count)(black_box(&s), black_box(0))
-        });
-        compare_passes(&format!("row report, one row: {row}"), 1.0, REPORTS, each, |i| {
-            (i.report)(black_box(&s), black_box(0))
-        });
-    }
-}
-
-/// A sheet of one row, in which these numbers are ticked.
-fn ticked_sheet(numbers: &[u32]) -> Vec<u8> {
-    let mut s = fresh_sheet();
-    ledger::enrol(&mut s, 760_930_632_193, 0).expect("a fresh sheet");
-    ledger::open(&mut s, 0, 0).expect("a closed desk");
-    for n in numbers {
-        ledger::tick(&mut s, 0, *n).expect("not ticked");
-    }
-    ledger::save(&mut s, 0).expect("not stale");
-    s
-}
-
-/// A night of 4,000 calls played again: the time of one.
-fn replays(each: &[Implementation]) {
-    let night = traces::recorded(&Rng::new(1), MOST_ENTRIES);
-    let trace = replay::write_trace(&night);
-    let mut s = fresh_sheet();
-    compare("a call of a replay of 4,000", MOST_ENTRIES as f64, each, |i| {
-        (i.replay)(black_box(&trace), black_box(&mut s))
-    });
-}
-
-/// Ticks a number and unticks it (or the other way about), which leaves the sheet as it was.
-fn ledger_calls(name: &str, s: &mut [u8], each: &[Implementation]) {
-    let n = ledger::number_at(&ledger::desk(s, 0)[ledger::WORKED..], 100);
-    let _ = ledger::untick(s, 0, n);
-    compare(name, 2.0, each, |i| (i.tick)(black_box(s), 0, n) << 8 | (i.untick)(black_box(s), 0, n));
-}
-
-/// The lister in memory, without the system's reads; whole programs are timed on a file of `reference big`.
-fn listing() {
-    let mut stream = Vec::new();
-    sample::big(64 << 20, &mut stream).expect("memory");
-    let mut text = Vec::new();
-    let mut list_once = || {
-        text.clear();
-        list::list(&stream[..], &mut text).expect("memory").expect("memory");
-        text.len() as u64
-    };
-    let time = (0..PASSES).map(|_| pass(3, &mut list_once)).fold(f64::INFINITY, f64::min);
-    println!("{:44} {:12.2}", "listing, megabytes a second (reference)", stream.len() as f64 / time / 1e6);
 }

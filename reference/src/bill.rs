@@ -1,40 +1,40 @@
-//! What a night costs without the rule of the stale save: desks tick what came in, at the same time and all in one row; once with the library's
-//! ledger, and once with one that keeps every save.
+//! What a night costs without the rule of the stale save. Desks tick records that came in, at the same time and in
+//! one row: once with the library's ledger, and once with a ledger that accepts every save.
 
 use crate::make::Rng;
 use crate::{keys, ledger};
 use std::collections::VecDeque;
 
 const VISITS: u32 = 40;
-/// Records that a visit ticks.
+/// How many records a visit ticks.
 const BATCH: u32 = 5;
 
 #[derive(Clone, Copy, PartialEq)]
 pub enum Rule {
-    /// A save is stale where the row is no longer what the desk opened; the visit is made again.
+    /// A save is stale if the row is no longer what the desk opened; the desk then makes the visit again.
     Stale,
     /// Every save is kept: the later one wins.
     LastSaveWins,
 }
 
-/// Of a number of nights.
+/// The bill of several nights.
 #[derive(Clone, Copy, Debug, Default, PartialEq)]
 pub struct Bill {
-    /// Saves that were stale.
+    /// How many saves were stale.
     pub stale: u32,
-    /// Records that lie on the shelf and are on the order list.
+    /// How many records are on the shelf and also on the order list.
     pub ordered_again: u32,
-    /// Nights with such a record.
+    /// How many nights have such a record.
     pub nights: u32,
 }
 
-/// What a desk is about: the first number of its visit, and what it does next there: open, tick so many, save.
+/// The first number of a desk's visit, and the visit's next step: open, tick, or save.
 struct Visit {
     first: u32,
     steps: u32,
 }
 
-/// Nights in which every number that is ticked is on the shelf, and none other is: what is missing at the end is ordered again.
+/// Nights in which exactly the ticked numbers are on the shelf. What is missing at the end is ordered again.
 pub fn nights(seed: u64, count: u32, desks: usize, rule: Rule) -> Bill {
     let rng = Rng::new(seed);
     let mut bill = Bill::default();
@@ -97,7 +97,7 @@ fn save(s: &mut [u8], desk: u32, rule: Rule) -> Result<Done, u32> {
     }
 }
 
-/// The bill of both ledgers, as lines.
+/// The bill of both ledgers, as text.
 pub fn told(seed: u64, count: u32, desks: usize) -> String {
     let with = nights(seed, count, desks, Rule::Stale);
     let without = nights(seed, count, desks, Rule::LastSaveWins);

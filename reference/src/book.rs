@@ -1,5 +1,5 @@
-//! The plain book, for tests: a second, still plainer ledger, to which the sheet's calls are held.
-//! Document 01: 'The plain book', with requests 03 and 10; and both sheets' layouts.
+//! The plain book, for tests: a second and plainer ledger. Tests compare the sheet's calls with it. Document 01: 'The
+//! plain book', with requests 03 and 10; and the layouts of both sheets.
 
 use crate::keys;
 use std::collections::BTreeSet;
@@ -38,7 +38,7 @@ pub enum Call {
 }
 
 impl Place {
-    /// Record numbers have 16 bits where the key is an RSR stream's.
+    /// Record numbers have 16 bits if the key is an RSR stream's.
     fn modulus(&self) -> i64 {
         if self.key >= 1 << 42 {
             65_536
@@ -53,7 +53,7 @@ impl Book {
         Book { places: vec![None; 32], desks: vec![None; 8] }
     }
 
-    /// The row that enrol answers, else 0; or the refusal.
+    /// The row for an enrolment, else 0; or the refusal.
     pub fn call(&mut self, call: Call) -> Result<usize, u32> {
         match call {
             Call::Enrol(key, first) => self.enrol(key, first),
@@ -172,7 +172,7 @@ impl Book {
         self.laid_out_as(&NEW)
     }
 
-    /// Request 10's sheet, or document 01's.
+    /// The book laid out as request 10's sheet, or as document 01's.
     pub fn laid_out_as(&self, layout: &Layout) -> Vec<u8> {
         let mut s = Vec::new();
         let used = self.places.iter().flatten().count() as u32;
@@ -199,7 +199,7 @@ impl Book {
         s
     }
 
-    /// The book that a sheet says, if it is one: it is right exactly when it is this book laid out.
+    /// The book that a sheet holds, if it is a sheet: it is right exactly if this book's layout is the same bytes.
     pub fn of_sheet(s: &[u8]) -> Option<Book> {
         Book::of_sheet_as(&NEW, s)
     }

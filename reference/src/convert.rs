@@ -1,4 +1,4 @@
-//! Request 10: the old sheet, of document 01, made into a new one.
+//! Request 10: converts an old sheet, of document 01, to a new one.
 
 use crate::ledger::{self, is_sheet, DESK_PLACES, KEY, OPENED, ROWS_USED, ROW_NAMED, ROW_PLACES, SHEET, WORKED};
 use crate::record::number;
@@ -9,7 +9,7 @@ pub const OLD_ROW: usize = 140;
 pub const OLD_DESKS: usize = 4_504;
 pub const OLD_DESK: usize = 284;
 
-/// Makes `new` the sheet that the old one is, with its rows and open desks in their places.
+/// Makes `new` the new sheet of the old one, with the same rows and open desks at the same places.
 pub fn convert(old: &[u8], new: &mut [u8]) -> Result<(), u32> {
     if new.len() != SHEET {
         return Err(20);
@@ -19,8 +19,9 @@ pub fn convert(old: &[u8], new: &mut [u8]) -> Result<(), u32> {
     Ok(())
 }
 
-/// The old sheet's bytes in the new places, with the used words that its header's count asks for. The old sheet is right
-/// exactly when this is a right new one: each clause of the old rule is the clause of the new rule about the same bytes.
+/// The old sheet's bytes at the new places, with a used word in as many rows as its header counts. The old sheet is
+/// right exactly if this is a right new sheet, because each clause of the old rule is the new rule's clause about the
+/// same bytes.
 fn copied(old: &[u8]) -> Option<[u8; SHEET]> {
     let header = |i: usize| number(old, 4 * i, 4) as usize;
     if old.len() != OLD_SHEET
@@ -40,7 +41,7 @@ fn copied(old: &[u8]) -> Option<[u8; SHEET]> {
         let (head, copies) = desk.split_at(OPENED);
         let place = ledger::desk_place(d);
         new[place..place + OPENED].copy_from_slice(head);
-        // An open desk that names no used row makes the sheet wrong, whatever its copies say.
+        // An open desk that names no used row makes the sheet wrong, whatever its copies hold.
         let open = head[0] == 1 && (head[ROW_NAMED] as usize) < used;
         put_row(&mut new[place + OPENED..], open, &copies[..OLD_ROW]);
         put_row(&mut new[place + WORKED..], open, &copies[OLD_ROW..]);

@@ -1,4 +1,4 @@
-//! What the calls of a script met: which refusals, and of refused records which wrong field.
+//! What the calls of a script met: which refusals, and for refused records which wrong fields.
 
 use crate::ops;
 use crate::script::{self, Calls, Frame, BAD_FRAME};
@@ -6,7 +6,7 @@ use std::collections::BTreeMap;
 use std::io::{self, Write};
 use std::ops::RangeInclusive;
 
-/// The refusals that a random script of 2,000 calls has to meet; 17 is the listing program's alone.
+/// The refusals that a random script of 2,000 calls must meet. Only the listing program gives 17.
 const REFUSALS: &[RangeInclusive<u32>] = &[
     // Records and streams.
     1..=16,
@@ -29,10 +29,10 @@ const REFUSALS: &[RangeInclusive<u32>] = &[
     60..=60,
 ];
 
-/// The outcomes of records received that it has to meet.
+/// The outcomes of received records that it must meet.
 const OUTCOMES: [u32; 5] = [0, 12, 25, 28, 29];
 
-/// The wrong fields that it has to meet: the refusal, and the field's offset in the record.
+/// The wrong fields that it must meet: the refusal, and the field's offset in the record.
 const FIELDS: &[(u32, &[u64])] = &[
     (2, &[0]),
     (3, &[4]),
@@ -50,13 +50,13 @@ const FIELDS: &[(u32, &[u64])] = &[
 pub struct Coverage {
     bytes: usize,
     calls: usize,
-    /// By refusal, how often each op gave it; 0 where the call was accepted.
+    /// For each refusal, how often each op gave it; 0 is an accepted call.
     refusals: BTreeMap<u32, BTreeMap<u32, usize>>,
-    /// By refusal and offset in the record.
+    /// For each refusal and offset in the record, how often.
     fields: BTreeMap<(u32, u64), usize>,
-    /// By refusal, the walks and lists that a record behind the first one stopped.
+    /// For each refusal, how many walks and lists it stopped after at least one record.
     behind: BTreeMap<u32, usize>,
-    /// By outcome, the records received.
+    /// For each outcome, how many records were received with it.
     outcomes: BTreeMap<u32, usize>,
     bad_frame: bool,
 }
@@ -98,7 +98,7 @@ impl Coverage {
         self.behind.keys().copied()
     }
 
-    /// What it has to meet and has not.
+    /// What it must meet and has not met.
     pub fn missing(&self) -> Vec<String> {
         let refusals = REFUSALS.iter().cloned().flatten().filter(|number| !self.refusals.contains_key(number));
         let fields = FIELDS

@@ -1,13 +1,13 @@
-//! The sub-channel gain multiplier of an RSR record. Request 14, with sections 1.2 and 3.5 of source document 004: the
-//! newer edition has it where the older one's 16 reserved bytes start.
+//! The sub-channel gain multiplier of an RSR record. Request 14, with sections 1.2 and 3.5 of source document 004: in
+//! the newer edition it stands where the older edition's 16 reserved bytes start.
 
 use crate::record::{number, read_headers, Fields, Refused, RSR, SECONDARY};
 use crate::settings;
 
-/// Offset in the record; four bytes, handed out raw.
+/// Its offset in the record. The four bytes are given as they are.
 const GAIN: usize = SECONDARY + 208;
 
-/// None in the older edition.
+/// The multiplier; none in the older edition.
 pub fn gain(s: &[u8], edition: u32) -> Result<Option<u32>, Refused> {
     read_headers(s, RSR)?;
     match edition {
@@ -17,7 +17,7 @@ pub fn gain(s: &[u8], edition: u32) -> Result<Option<u32>, Refused> {
     }
 }
 
-/// The same with the edition that the settings have for the record's mission on its day.
+/// The same, for the edition that the settings have for the record's mission on its day.
 pub fn gain_by_settings(s: &[u8], settings_sheet: &[u8]) -> Result<Option<u32>, Refused> {
     let (record, fields) = read_headers(s, RSR)?;
     let Fields::Rsr(fields) = fields else { return Err(Refused::Number(15)) };

@@ -1,13 +1,14 @@
-//! The medium band record (Intermediate Data Record) of source document 001, read and written. Request 04.
+//! Reads and writes the medium band record (Intermediate Data Record) of source document 001. Request 04.
 
 pub const RECORD: usize = 5_056;
 pub const HEADER_WORDS: usize = 28;
 pub const SAMPLES: usize = 5_000;
 pub const HEADER: usize = 2 * HEADER_WORDS;
-/// What the length word says: the record's length in words of 16 bits.
+/// What the length word says: how many words of 16 bits the record has.
 pub const LENGTH_WORD: u16 = 2_528;
 
-/// Playback and sampling rates in samples a second, by code: the codes that words 10 and 11 list. Playback is the first three.
+/// Playback and sampling rates in samples per second, each with its code, as words 10 and 11 list them. The first
+/// three are playback rates.
 pub const RATES: [(u16, u32); 15] = [
     (0b10000, 50_000),
     (0b01000, 62_500),
@@ -27,7 +28,7 @@ pub const RATES: [(u16, u32); 15] = [
 ];
 pub const PLAYBACK_RATES: usize = 3;
 
-/// A code's rate, 0 where the code is not listed.
+/// The rate of each code; 0 if the code is not listed.
 const fn by_code(listed: usize) -> [u32; 32] {
     let mut rates = [0; 32];
     let mut i = 0;
@@ -41,16 +42,16 @@ const fn by_code(listed: usize) -> [u32; 32] {
 static PLAYBACK: [u32; 32] = by_code(PLAYBACK_RATES);
 static SAMPLING: [u32; 32] = by_code(RATES.len());
 
-/// An accepted record: its parts as they stand in the lent one, and the fields where the time tag is valid.
+/// An accepted record: its parts, which point into the lent record, and the fields if the time tag is valid.
 #[derive(Debug, PartialEq)]
 pub struct Idr<'a> {
     pub header: Header<'a>,
     pub fields: Option<Fields>,
-    /// The earlier of two in a word first.
+    /// Of the two samples in a word, the earlier comes first.
     pub samples: &'a [u8],
 }
 
-/// What document 001 defines, by word.
+/// The fields that document 001 defines, by word.
 #[derive(Clone, Copy, Debug, PartialEq)]
 pub struct Fields {
     // Words 1 to 5.
@@ -99,7 +100,7 @@ pub struct Time {
     pub microseconds: u32,
 }
 
-/// The 56 bytes of the 28 header words. Words count from 1, and bit 1 is the top bit of 16, as in the document.
+/// The 56 bytes of the 28 header words. Words count from 1, and bit 1 is the highest of 16, as in the document.
 #[derive(Clone, Copy, Debug, PartialEq)]
 pub struct Header<'a>(&'a [u8; HEADER]);
 
@@ -126,7 +127,7 @@ impl<'a> Header<'a> {
 
     /// Decimal digits of four bits each, and 20 bits of microseconds.
     fn time(self) -> Option<Time> {
-        // Day in hundreds, tens and units, hours, minutes and seconds in tens and units.
+        // The day in hundreds, tens and units; hours, minutes and seconds in tens and units.
         let digits = (self.word(6) as u64) << 20 | (self.word(7) as u64) << 4 | self.bits(8, 1, 4) as u64;
         let digit = |place: u32| (digits >> (4 * place) & 0xF) as u8;
         let pair = |place: u32| 10 * digit(place + 1) + digit(place);
@@ -137,7 +138,7 @@ impl<'a> Header<'a> {
             second: pair(0),
             microseconds: (self.bits(8, 5, 16) as u32) << 8 | self.bits(9, 1, 8) as u32,
         };
-        // Four bits over nine have the top one and one of the middle two.
+        // A digit over nine has its highest bit set, and one of the middle two.
         let decimal = digits & (digits << 1 | digits << 2) & 0x8_8888_8888 == 0;
         let in_range = (1..=366).contains(&time.day)
             && time.hour <= 23
@@ -147,13 +148,13 @@ impl<'a> Header<'a> {
         (decimal && in_range).then_some(time)
     }
 
-    /// A negative 24-bit number in two's complement: its size.
+    /// The size that a negative 24-bit number in two's complement stands for.
     fn block_size(self) -> Option<u32> {
         let stored = (self.bits(12, 9, 16) as u32) << 16 | self.word(13) as u32;
         (stored >= 1 << 23).then(|| (1 << 24) - stored)
     }
 
-    /// Refusals 51 to 54; the fields where the time tag is valid, else none.
+    /// Tests refusals 51 to 54. The fields if the time tag is valid, else none.
     fn read(self) -> Result<Option<Fields>, u32> {
         if self.word(3) != LENGTH_WORD {
             return Err(51);
@@ -210,7 +211,7 @@ pub fn read(s: &[u8]) -> Result<Idr<'_>, u32> {
     Ok(Idr { header, fields: header.read()?, samples })
 }
 
-/// Writes the record over the whole of `out`, with the reader's checks.
+/// Writes the record over the whole of `out`, with the reader's tests.
 pub fn write(words: &[u16], samples: &[u8], out: &mut [u8]) -> Result<(), u32> {
     if out.len() != RECORD || words.len() != HEADER_WORDS || samples.len() != SAMPLES {
         return Err(50);

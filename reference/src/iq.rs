@@ -1,10 +1,10 @@
-//! The samples of RSR records, unpacked and packed. Request 08, with sections 3.5 and 3.6 of source document 004: the data
-//! are words of 32 bits, quadrature (Q) in the upper half and in-phase (I) in the lower, in each half the earlier sample
-//! in the lower bits. Where a sample's bits are k in two's complement it stands for 2 k + 1.
+//! Unpacks and packs the samples of RSR records. Request 08, with sections 3.5 and 3.6 of source document 004: the
+//! data are words of 32 bits, with quadrature (Q) in the upper half and in-phase (I) in the lower, and in each half
+//! the earlier sample in the lower bits. A sample whose bits are k in two's complement stands for 2 k + 1.
 
 use crate::record::{data_part, number, read_headers, Refused, RSR, SECONDARY};
 
-/// Table 3-1: the sample sizes in bits, and for each the rates in thousands of samples a second.
+/// Table 3-1: the sample sizes in bits, and for each the rates in thousands of samples per second.
 pub const LISTED: [(u32, &[u32]); 5] = [
     (1, &[250, 500, 1_000, 2_000, 4_000, 8_000, 16_000]),
     (2, &[250, 500, 1_000, 2_000, 4_000, 8_000]),
@@ -26,17 +26,17 @@ fn judge_pair(size: u32, rate: u32) -> Result<(), u32> {
     }
 }
 
-/// How many numbers a word has: I and Q of each of its samples.
+/// How many numbers a word holds: I and Q of each of its samples.
 fn numbers_in_word(size: u32) -> usize {
     2 * (HALF / size) as usize
 }
 
-/// The size and the rate that an RSR record's header has.
+/// The sample size and rate in an RSR record's header.
 pub fn size_and_rate(s: &[u8]) -> (u32, u32) {
     (s[SIZE].into(), number(s, RATE, 2) as u32)
 }
 
-/// Unpacks a record's samples into the list, I before Q; answers how many numbers it has written.
+/// Unpacks a record's samples into the list, I before Q. Answers how many numbers it wrote.
 pub fn unpack(s: &[u8], list: &mut [i32]) -> Result<usize, Refused> {
     read_headers(s, RSR)?;
     let (size, rate) = size_and_rate(s);
@@ -68,13 +68,13 @@ fn unpack_words<const SIZE: u32, const NUMBERS: usize>(words: &[[u8; WORD]], lis
     }
 }
 
-/// Of the sample in the lowest bits.
+/// The value of the sample in the lowest bits.
 fn value<const SIZE: u32>(bits: u32) -> i32 {
     let unused = u32::BITS - SIZE;
     2 * ((bits << unused) as i32 >> unused) + 1
 }
 
-/// Packs numbers, I before Q, into bytes; answers how many it has written.
+/// Packs numbers, I before Q, into bytes. Answers how many bytes it wrote.
 pub fn pack(size: u32, rate: u32, numbers: &[i32], out: &mut [u8]) -> Result<usize, u32> {
     judge_pair(size, rate)?;
     let in_word = numbers_in_word(size);
@@ -96,11 +96,11 @@ pub fn pack(size: u32, rate: u32, numbers: &[i32], out: &mut [u8]) -> Result<usi
     Ok(length)
 }
 
-/// A code's value is odd, and less than 2^size away from zero.
+/// Whether each number is the value of a code: odd, and less than 2^size away from zero.
 fn all_have_codes(size: u32, numbers: &[i32]) -> bool {
     let bound = 1 << size;
     let has_none = |n: i32| n & 1 == 0 || (n.wrapping_add(bound) as u32) >= 2 * bound as u32;
-    // With no early way out.
+    // No early exit.
     !numbers.iter().fold(false, |none, n| none | has_none(*n))
 }
 

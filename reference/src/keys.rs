@@ -1,8 +1,8 @@
-//! Stream keys. Document 01: 'Stream key'; request 03: what a stream's record numbers are counted modulo; the parts of a key.
+//! Stream keys. Document 01: 'Stream key'; request 03: how many record numbers a stream has; and the parts of a key.
 
 use crate::record::{RSR, TELEMETRY};
 
-/// RSR keys start here, and take 32 bits from here on.
+/// RSR keys start here. There are 2^32 of them.
 pub const FIRST_RSR: u64 = 1 << 42;
 pub const PAST_RSR: u64 = FIRST_RSR + (1 << 32);
 
@@ -10,7 +10,7 @@ pub fn valid(key: u64) -> bool {
     key < FIRST_RSR || (FIRST_RSR..PAST_RSR).contains(&key)
 }
 
-/// What the record numbers of a stream are counted modulo: they have 32 bits in telemetry and 16 in RSR records.
+/// How many record numbers a stream has: 2^32 in telemetry, 2^16 in RSR.
 pub fn modulus(key: u64) -> u64 {
     if key < FIRST_RSR {
         1 << 32
@@ -19,7 +19,7 @@ pub fn modulus(key: u64) -> u64 {
     }
 }
 
-/// Whether a number is one that records of the stream can have.
+/// Whether records of the stream can have the number.
 pub fn is_number(key: u64, number: u32) -> bool {
     (number as u64) < modulus(key)
 }
@@ -42,17 +42,17 @@ pub fn rsr_key(spacecraft: u32, station: u32, receiver: u32, subchannel: u32) ->
     Ok(of_rsr(spacecraft, station, receiver, subchannel))
 }
 
-/// The key of numbers that are each within its field.
+/// The key of numbers that each fit their fields.
 pub(crate) fn of_telemetry(spacecraft: u32, source: u32, equipment: u32, stream: u32) -> u64 {
     ((spacecraft as u64) << 32) + ((source as u64) << 24) + ((equipment as u64) << 8) + stream as u64
 }
 
-/// The key of numbers that are each within its field.
+/// The key of numbers that each fit their fields.
 pub(crate) fn of_rsr(spacecraft: u32, station: u32, receiver: u32, subchannel: u32) -> u64 {
     FIRST_RSR + ((spacecraft as u64) << 24) + ((station as u64) << 16) + ((receiver as u64) << 8) + subchannel as u64
 }
 
-/// The kind of a stream, and its four numbers in the order in which a key is made of them.
+/// The kind of a stream, and its four numbers in the order of the call that makes the key.
 pub fn parts(key: u64) -> Result<(u32, [u32; 4]), u32> {
     if !valid(key) {
         return Err(22);

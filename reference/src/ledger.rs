@@ -1,6 +1,6 @@
 //! The ledger sheet. Document 01: 'The ledger sheet'; request 02: ticks are counted by words; request 03: RSR numbers
-//! have 16 bits; request 10: rows are struck and used again. In each call the sheet is judged first (20), then the
-//! refusals stand in the table's order. `trusted` has the same calls on a sheet that is known to be right.
+//! have 16 bits; request 10: rows are struck and used again. Each call first tests the sheet (20), then the other
+//! refusals in the order of the table. `trusted` has the same calls for a sheet that is known to be right.
 
 use crate::keys;
 use crate::record::number;
@@ -15,7 +15,7 @@ pub const DESK: usize = 292;
 pub const POSITIONS: u32 = 1_024;
 const TICK_WORDS: usize = 16;
 
-// Offsets in the header, a row and a desk. A row starts with its used word, a desk with 1 where it is open.
+// Offsets in the header, a row and a desk. A row starts with its used word. A desk starts with 1 if it is open.
 pub const ROWS_USED: usize = 4;
 pub const KEY: usize = 4;
 pub const FIRST: usize = 12;
@@ -71,7 +71,7 @@ fn ticks(row: &[u8]) -> &[u8] {
     &row[TICKS..ROW]
 }
 
-/// By words of four bytes, of which rows and desks are made.
+/// Whether all bytes are zero, by words of four bytes; rows and desks are made of these.
 fn all_zero<const LENGTH: usize>(s: &[u8; LENGTH]) -> bool {
     let (words, _) = s.as_chunks::<4>();
     words.iter().fold(0, |all, word| all | u32::from_ne_bytes(*word)) == 0
@@ -84,19 +84,19 @@ fn write_header(s: &mut [u8], used: usize) {
     }
 }
 
-/// Request 10's sheet, right as document 01 says: 'A sheet is right when'.
+/// Whether this is a right sheet of request 10, as document 01 says: 'A sheet is right when'.
 pub fn is_sheet(s: &[u8]) -> bool {
     s.len() == SHEET && header_right(s) && rows_right(s) && (0..DESK_PLACES).all(|d| desk_right(s, d))
 }
 
-/// But for the count of used rows, which is the rows' matter.
+/// The header's fixed numbers. `rows_right` tests the count of used rows.
 fn header_right(s: &[u8]) -> bool {
     let header = |i: usize| number(s, 4 * i, 4) as usize;
     header(0) == SHEET && header(2) == ROW_PLACES && header(3) == ROWS && header(4) == DESK_PLACES && header(5) == DESKS
 }
 
-/// Free rows are all zero; used ones, as many as the header counts, have valid, different keys and first numbers of
-/// their streams.
+/// Free rows are all zero. Used rows are as many as the header counts, with valid keys, all different, and first
+/// numbers of their streams.
 fn rows_right(s: &[u8]) -> bool {
     let mut keys = [0; ROW_PLACES];
     let mut used = 0;
@@ -119,7 +119,8 @@ fn all_different(keys: &mut [u64]) -> bool {
     keys.windows(2).all(|pair| pair[0] != pair[1])
 }
 
-/// Closed and all zero, or open with a used row, two zeros, and copies that carry its word, key and first number.
+/// The desk is closed and all zero; or it is open with a used row, two zeros, and copies with that row's used word,
+/// key and first number.
 fn desk_right(s: &[u8], d: usize) -> bool {
     let desk = desk(s, d);
     let named = desk[ROW_NAMED] as usize;
@@ -191,7 +192,7 @@ fn clear_desk(s: &mut [u8], desk: usize) {
     s[desk_place(desk)..][..DESK].fill(0);
 }
 
-/// Makes a fresh sheet; judges only the length.
+/// Makes a fresh sheet. Tests only the length.
 pub fn fresh(s: &mut [u8]) -> Result<(), u32> {
     if s.len() != SHEET {
         return Err(20);
@@ -224,7 +225,7 @@ pub fn enrol(s: &mut [u8], key: u64, first: u32) -> Result<usize, u32> {
     Ok(free)
 }
 
-/// Gives a row back: it is free again, and enrolments can use it.
+/// Strikes a row: it is free again, and enrolments can use it.
 pub fn strike(s: &mut [u8], r: u32) -> Result<(), u32> {
     judge_sheet(s)?;
     let r = judge_row(s, r)?;
@@ -246,7 +247,7 @@ pub fn open(s: &mut [u8], d: u32, r: u32) -> Result<(), u32> {
     trusted::open(s, d, r)
 }
 
-/// (n - first) modulo the stream's modulus, where n is a number of the stream and that is in the row.
+/// (n - first) modulo the stream's modulus, if n is a number of the stream and in the row.
 pub fn position(key: u64, first: u32, n: u32) -> Option<u32> {
     if !keys::is_number(key, n) {
         return None;
@@ -279,7 +280,7 @@ pub fn drop_desk(s: &mut [u8], desk: u32) -> Result<(), u32> {
     trusted::drop_desk(s, desk)
 }
 
-/// The calls that a record's visit is made of, on a sheet that is known to be right.
+/// The calls that a record's visit makes, on a sheet that is known to be right.
 pub mod trusted {
     use super::*;
 
@@ -303,7 +304,7 @@ pub mod trusted {
         Ok(())
     }
 
-    /// Changes one bit of the desk's worked copy; 29 and 30 are judged on that copy.
+    /// Changes one bit of the desk's worked copy. Tests 29 and 30 on that copy.
     pub fn set_tick(s: &mut [u8], desk: u32, n: u32, wanted: bool) -> Result<(), u32> {
         let desk = judge_open_desk(s, desk)?;
         let worked = &mut s[desk_place(desk) + WORKED..][..ROW];
@@ -340,7 +341,7 @@ pub mod trusted {
     }
 }
 
-/// Whether the row of an open desk is another than that desk opened.
+/// Whether the row of an open desk is no longer what the desk opened.
 fn is_stale(s: &[u8], d: usize) -> bool {
     let r = desk(s, d)[ROW_NAMED] as usize;
     row(s, r) != &desk(s, d)[OPENED..WORKED]
@@ -355,7 +356,7 @@ pub fn row_of(s: &[u8], r: u32) -> Result<(u64, u32), u32> {
     Ok((key(row(s, r)), first(row(s, r))))
 }
 
-/// The row that a desk has open, and whether a save would be stale now; none where the desk is closed.
+/// The row that a desk has open, and whether a save would be stale now; none if the desk is closed.
 pub fn desk_of(s: &[u8], d: u32) -> Result<Option<(usize, bool)>, u32> {
     judge_sheet(s)?;
     let d = judge_desk(d)?;
@@ -365,8 +366,8 @@ pub fn desk_of(s: &[u8], d: u32) -> Result<Option<(usize, bool)>, u32> {
     Ok(Some((desk(s, d)[ROW_NAMED] as usize, is_stale(s, d))))
 }
 
-/// How many ticks and how many unticks an open desk has not saved: the positions that it has ticked and had not when it
-/// opened the row, and the other way about.
+/// How many ticks and unticks an open desk has not saved: positions that are ticked in its worked copy and not in its
+/// opened one, and positions that are ticked in its opened copy and not in its worked one.
 pub fn unsaved(s: &[u8], d: u32) -> Result<(u32, u32), u32> {
     judge_sheet(s)?;
     let d = judge_open_desk(s, d)?;
@@ -390,7 +391,7 @@ pub fn report(s: &[u8], r: u32) -> Result<Report, u32> {
     Ok(report_row(row(s, r)))
 }
 
-/// The report of a row's bytes: the ticked positions are counted, and those unticked below the highest of them are missing.
+/// The report of a row's bytes. Counts the ticked positions; those unticked below the highest ticked one are missing.
 pub fn report_row(row: &[u8]) -> Report {
     let words = tick_words(row);
     let end = ticks_end(&words);
@@ -402,14 +403,15 @@ pub fn report_row(row: &[u8]) -> Report {
     Report { ticked, missing: end - ticked, lowest: lowest.map(|position| number_at(row, position)) }
 }
 
-/// The numbers of a row's missing records, in the order of their positions, to the start of the list; answers how many.
+/// Writes the numbers of a row's missing records to the start of the list, in the order of their positions. Answers
+/// how many.
 pub fn missing_numbers(s: &[u8], r: u32, list: &mut [u32]) -> Result<usize, u32> {
     judge_sheet(s)?;
     let r = judge_row(s, r)?;
     missing_in(row(s, r), list)
 }
 
-/// The same of a row's bytes; 60 where the list is too short.
+/// The same for a row's bytes. 60 if the list is too short.
 pub fn missing_in(row: &[u8], list: &mut [u32]) -> Result<usize, u32> {
     let words = tick_words(row);
     let end = ticks_end(&words);
@@ -431,7 +433,7 @@ pub fn missing_in(row: &[u8], list: &mut [u32]) -> Result<usize, u32> {
     Ok(count)
 }
 
-/// A word whose lowest so many bits are set, or all.
+/// A word whose lowest so many bits are set; all of them, for 64 or more.
 fn below(bits: u32) -> u64 {
     if bits < 64 {
         (1 << bits) - 1
@@ -449,7 +451,7 @@ fn tick_words(row: &[u8]) -> [u64; TICK_WORDS] {
     words
 }
 
-/// One past the highest ticked position; 0 where none is ticked.
+/// One more than the highest ticked position; 0 if none is ticked.
 fn ticks_end(words: &[u64; TICK_WORDS]) -> u32 {
     let last = words.iter().rposition(|word| *word != 0);
     last.map_or(0, |k| 64 * (k as u32 + 1) - words[k].leading_zeros())

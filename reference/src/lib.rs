@@ -1,7 +1,7 @@
-//! Documents 01 and 02 in plain Rust, apart from the proved library: the expected output of its programs, and the baseline of
-//! its benchmarks. See README.md.
+//! Documents 01 and 02 in plain Rust, written separately from the proved library. It gives the expected output of the
+//! library's programs and the baseline of its benchmarks. See README.md.
 
-// The calls, each module a section of document 01 or a request of document 02; and the programs' listings.
+// The calls, one module for each section of document 01 or request of document 02; and the programs' listings.
 pub mod convert;
 pub mod dates;
 pub mod gain;
@@ -18,13 +18,15 @@ pub mod season;
 pub mod settings;
 pub mod stream;
 pub mod tapes;
+pub mod texts;
 
-// What is done with them.
+// What uses the calls.
 pub mod agreed;
 pub mod bench;
 pub mod bill;
 pub mod coverage;
 pub mod files;
+pub mod host;
 pub mod make;
 pub mod nights;
 pub mod ops;

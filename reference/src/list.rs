@@ -6,11 +6,11 @@ use std::io::{self, Read, Write};
 pub const WINDOW: usize = 65_536;
 pub const HEADING: &str = "place length kind number";
 
-/// The bytes of the input that are in memory: those from `start` to `end`.
+/// The bytes of the input that are in memory, from `start` to `end`.
 pub(crate) struct Window<R> {
     input: R,
     bytes: Vec<u8>,
-    /// Moved on by who has done with a record.
+    /// Whoever has finished with a record moves it on.
     pub(crate) start: usize,
     end: usize,
     at_end: bool,
@@ -25,7 +25,7 @@ impl<R: Read> Window<R> {
         &self.bytes[self.start..self.end]
     }
 
-    /// Moves what is held to the front, and reads on until the window is full or the input ends.
+    /// Moves the held bytes to the front, and reads until the window is full or the input ends.
     fn refill(&mut self) -> io::Result<()> {
         self.bytes.copy_within(self.start..self.end, 0);
         self.end -= self.start;
@@ -41,7 +41,7 @@ impl<R: Read> Window<R> {
         Ok(())
     }
 
-    /// The record at the start of what is held; 1 and 6 are believed only when the window can hold no more.
+    /// The record at the start of the held bytes. Refusals 1 and 6 count only if the window can hold no more.
     pub(crate) fn record(&mut self) -> io::Result<Result<Record, Refused>> {
         let answer = read_in_window(self.held());
         if !self.at_end && matches!(answer, Err(Refused::Short { .. })) {
@@ -52,7 +52,7 @@ impl<R: Read> Window<R> {
     }
 }
 
-/// Read one, with 17 straight after 5.
+/// Read one, with 17 tested right after 5.
 pub fn read_in_window(s: &[u8]) -> Result<Record, Refused> {
     let layout = record::read_kind(s)?;
     let n = record::read_length(s, layout)?;
@@ -62,8 +62,8 @@ pub fn read_in_window(s: &[u8]) -> Result<Record, Refused> {
     record::read_blocks(s, layout, n)
 }
 
-/// Lists one stream. The outer failure is that of `out`, the inner one a read that failed:
-/// then the stop is not known, and no last line is written.
+/// Lists one stream. The outer error is of `out`, the inner one of a read. After an inner error the stop is not
+/// known, and no last line is written.
 pub fn list(input: impl Read, out: &mut impl Write) -> io::Result<io::Result<()>> {
     let mut window = Window::new(input);
     let mut place = 0u64;

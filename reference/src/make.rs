@@ -1,4 +1,4 @@
-//! What the random scripts, the samples and the benchmarks are made of: seeded numbers, decks, whole records.
+//! Parts of the random scripts, the samples and the benchmarks: seeded random numbers, decks, whole records.
 
 use crate::dates::{self, FIRST_YEAR, LAST_YEAR};
 use crate::record::{self, RSR, SECONDARY, SECONDARY_VALUE, TELEMETRY};
@@ -71,7 +71,7 @@ fn splitmix64(last: &mut u64) -> u64 {
     z ^ z >> 31
 }
 
-/// Deals each of its cases once in a random order, then shuffles again: no case is long left out.
+/// Deals each of its cases once, in random order, then shuffles again. So no case is left out for long.
 pub struct Deck<T> {
     cases: Vec<T>,
     dealt: usize,
@@ -99,7 +99,7 @@ pub fn put(s: &mut [u8], at: usize, width: usize, value: u64) {
     s[at..at + width].copy_from_slice(&value.to_be_bytes()[8 - width..]);
 }
 
-/// Writes a field of the secondary value, whose offset is that in the block.
+/// Writes a field of the secondary value. Its offset counts from the start of the block.
 pub fn put_secondary(secondary: &mut [u8], at: usize, width: usize, value: u64) {
     put(secondary, at - (SECONDARY_VALUE - SECONDARY), width, value);
 }
@@ -111,7 +111,7 @@ pub fn record(kind: u32, primary: [u8; 4], secondary: &[u8], data: &[u8]) -> Vec
     out
 }
 
-/// Random bytes in which every judged field is in range.
+/// Random bytes in which every field that is tested is in range.
 pub fn secondary(rng: &Rng, kind: u32) -> Vec<u8> {
     let layout = record::layout_of(kind).expect("one of the two kinds");
     let mut bytes = rng.bytes(layout.secondary_length as usize);

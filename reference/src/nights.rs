@@ -1,4 +1,4 @@
-//! The ledger's part of random scripts: nights of calls by eight desks, and sheets right and damaged.
+//! The ledger calls of random scripts: nights of calls by eight desks, and sheets, right and damaged.
 
 use crate::keys::{FIRST_RSR, PAST_RSR};
 use crate::ledger::{
@@ -10,7 +10,7 @@ use crate::random::Generator;
 use crate::script::{Frame, MOST_SHEET};
 
 const VALID_EDGES: [u64; 7] = [0, 1, 1 << 32, FIRST_RSR - 1, FIRST_RSR, FIRST_RSR + 1, PAST_RSR - 1];
-/// `new_key` does not give it but by chance.
+/// `new_key` gives this key only by chance.
 const KEY_OF_NO_OTHER: u64 = 1_000 << 32;
 const KEY_OF_NO_RSR: u64 = FIRST_RSR + (200 << 24);
 const BAD_KEYS: [u64; 7] = [PAST_RSR, PAST_RSR + 1, FIRST_RSR << 1, 1 << 63, u64::MAX, (1 << 48) + 5, u64::MAX - 1];
@@ -24,15 +24,15 @@ pub const BAD_DESKS: [u32; 6] =
 
 #[derive(Clone, Copy)]
 pub enum NightCase {
-    /// A few rows that many desks want: most saves meet another's.
+    /// A few rows that many desks use, so that most saves meet another's.
     Crowded,
-    /// Every row, and one enrolment more; rows struck and used again.
+    /// Every row used, and one enrolment more; rows are struck and used again.
     Full,
     /// Rows come and go.
     Strikes,
-    /// From a right sheet with ticks everywhere and desks in the middle of their work.
+    /// Starts from a right sheet with ticks everywhere and desks that have unsaved work.
     Underway,
-    /// Calls of any kind with little regard to the sheet.
+    /// Calls of any kind, with little regard to the sheet.
     Careless,
 }
 
@@ -48,14 +48,14 @@ pub const NIGHT_CASES: [NightCase; 9] = [
     NightCase::Careless,
 ];
 
-/// Short plays of two desks whose outcome turns on one rule.
+/// Short sequences of two desks' calls that turn on one rule.
 #[derive(Clone, Copy)]
 pub enum Piece {
-    /// The row was changed and changed back: the save is good.
+    /// The row was changed and changed back: the save is accepted.
     ChangedBack,
-    /// As many ticks as before, but others: the save is stale.
+    /// As many ticks as before, but other ones: the save is stale.
     SameCount,
-    /// The row's ends, and a gap after a run of ticks.
+    /// The ends of a row, and a gap after a run of ticks.
     Ends,
 }
 
@@ -64,7 +64,7 @@ pub const PIECES: [Piece; 3] = [Piece::ChangedBack, Piece::SameCount, Piece::End
 impl Generator {
     pub fn night(&mut self) {
         if self.calls.sheet.len() != SHEET {
-            // A fresh sheet cannot be made in it.
+            // The slice does not have a sheet's length, so `fresh` could not make one in it.
             self.emit(Frame { op: ops::NEW_SHEET, a: vec![0; SHEET], ..Frame::default() });
         }
         match self.nights.deal(&self.rng) {
@@ -110,7 +110,7 @@ impl Generator {
         }
     }
 
-    /// A sheet right or damaged, and calls on it.
+    /// A sheet, right or damaged, and calls on it.
     pub fn sheets(&mut self) {
         let case = self.sheets.deal(&self.rng);
         self.emit(Frame { op: ops::NEW_SHEET, a: sheet_case(&self.rng, case, true), ..Frame::default() });
@@ -167,7 +167,7 @@ impl Generator {
         }
     }
 
-    /// A row is not struck while a desk has it open; then it is no row, and enrolled again it has no ticks.
+    /// A row is not struck while a desk has it open. Struck, it is no row. Enrolled again, it has no ticks.
     fn struck_while_open(&mut self) {
         let x = self.rng.below(DESK_PLACES as u64) as u32;
         let row = self.row();
@@ -187,7 +187,7 @@ impl Generator {
         }
     }
 
-    /// An RSR stream, new or not, with a number that it cannot have.
+    /// Enrols an RSR stream, new or not, with a number that its records cannot have.
     fn enrol_too_wide(&mut self) {
         let view = self.view();
         let keys = ledger::used_rows(&view).map(|row| ledger::key(ledger::row(&view, row)));
@@ -201,7 +201,7 @@ impl Generator {
         });
     }
 
-    /// Calls that mostly have something to do on the sheet as it stands.
+    /// Calls, most of which have something to do on the sheet as it is.
     fn work(&mut self, calls: usize) {
         for _ in 0..calls {
             let no_rows = ledger::rows_used(&self.view()) == 0;
@@ -225,7 +225,7 @@ impl Generator {
         }
     }
 
-    /// One of the eight desks opens a row, or goes on with the one it has.
+    /// One of the eight desks opens a row, or goes on with the row that it has open.
     fn desk_work(&mut self) {
         let view = self.view();
         let x = self.rng.below(DESK_PLACES as u64) as u32;
@@ -243,7 +243,7 @@ impl Generator {
         self.emit(frame);
     }
 
-    /// A call of this op, with arguments good and bad.
+    /// A call of this op, with good or bad arguments.
     pub fn call(&mut self, op: u32) {
         let frame = match op {
             ops::MISSING_NUMBERS => return self.missing_list(),
@@ -266,7 +266,7 @@ impl Generator {
         self.emit(frame);
     }
 
-    /// The sheet, where it is one; else a fresh one, for the choice of numbers only.
+    /// The sheet, if it is one; else a fresh one, used only to choose numbers.
     pub fn view(&self) -> Vec<u8> {
         let mut view = self.calls.sheet.clone();
         if !ledger::is_sheet(&view) {
@@ -276,7 +276,7 @@ impl Generator {
         view
     }
 
-    /// A key: new, one that is there, or a bad one.
+    /// A key: new, enrolled already, or not valid.
     fn enrolment_key(&self) -> u64 {
         let view = self.view();
         let used: Vec<usize> = ledger::used_rows(&view).collect();
@@ -317,7 +317,8 @@ impl Generator {
         self.rng.pick(&used)
     }
 
-    /// A number for the desk's row: few different ones, so that many are already ticked; also the row's edges.
+    /// A number for the desk's row. There are few different ones, so that many are ticked already; some are at the
+    /// row's ends.
     fn number(&self, desk: u32) -> u32 {
         let view = self.view();
         let desk = desk as usize % DESK_PLACES;
@@ -328,7 +329,7 @@ impl Generator {
             11..=15 => rng.below(POSITIONS as u64) as u32,
             16 => rng.pick(&[POSITIONS - 2, POSITIONS - 1, 7, 8]),
             17 => rng.pick(&[POSITIONS, POSITIONS + 1, u32::MAX, 1 << 16, 1 << 31]),
-            // Right but for the upper 16 bits: no RSR stream has it.
+            // Right except for the upper 16 bits: no RSR stream has it.
             18 => return ledger::number_at(worked, rng.below(10) as u32) ^ rng.pick(&[1 << 16, 1 << 31, 0xFFFF_0000]),
             _ => return rng.pick(&[0, u32::MAX, 1 << 31, 65_535, 65_536, rng.word(), rng.word()]),
         };
@@ -368,7 +369,7 @@ pub fn first_number(rng: &Rng, key: u64) -> u32 {
     }
 }
 
-/// The same, or sometimes one that an RSR row cannot have.
+/// The same, or sometimes a number that an RSR row cannot have.
 fn any_first_number(rng: &Rng, key: u64) -> u32 {
     if rng.percent(20) {
         rng.pick(&BAD_RSR_FIRSTS)
@@ -379,7 +380,8 @@ fn any_first_number(rng: &Rng, key: u64) -> u32 {
 
 // Sheets.
 
-/// Any right sheet: rows with ticks of every sort, free ones between them, and desks closed or in the middle of their work.
+/// Any right sheet: rows with ticks of every kind, free rows between them, and desks that are closed or have unsaved
+/// work.
 fn right_sheet(rng: &Rng) -> Vec<u8> {
     let used = rng.pick(&[0, 1, 2, 3, 5, ROW_PLACES - 1, ROW_PLACES, ROW_PLACES]);
     let struck = rng.pick(&[0, 0, 1, 4]);
@@ -387,7 +389,7 @@ fn right_sheet(rng: &Rng) -> Vec<u8> {
     sheet_with(rng, used, struck, open)
 }
 
-/// The same with the used rows before all free ones.
+/// The same, with all used rows before the free ones.
 pub fn used_first_sheet(rng: &Rng) -> Vec<u8> {
     let used = rng.pick(&[0, 1, 2, 3, 5, ROW_PLACES - 1, ROW_PLACES]);
     let open = rng.pick(&[0, 20, 60, 100]);
@@ -399,7 +401,7 @@ pub fn full_sheet(rng: &Rng) -> Vec<u8> {
     sheet_with(rng, ROW_PLACES, 0, 100)
 }
 
-/// As many rows used, where there are as many places; and so many, enrolled among them, struck.
+/// A sheet with so many rows used, and so many more that were enrolled and struck.
 pub fn sheet_with(rng: &Rng, used: usize, struck: usize, open_percent: u64) -> Vec<u8> {
     let mut s = vec![0; SHEET];
     ledger::fresh(&mut s).expect("the length is right");
@@ -433,7 +435,7 @@ fn used_rows(s: &[u8]) -> Vec<usize> {
     ledger::used_rows(s).collect()
 }
 
-/// Ticks of every sort: none, all, any, and about the words' edges.
+/// Ticks of every kind: none, all, random, and near the ends of words.
 pub fn ticks(rng: &Rng) -> Vec<u8> {
     let length = ROW - TICKS;
     let any = || rng.index(POSITIONS as usize);
@@ -453,20 +455,20 @@ pub fn ticks(rng: &Rng) -> Vec<u8> {
     ticks
 }
 
-/// One or more for each clause of 'A sheet is right when'.
+/// At least one case for each clause of 'A sheet is right when'.
 #[derive(Clone, Copy)]
 pub enum SheetCase {
     Right,
     Length(usize),
-    /// A number of the header, but for the rows used.
+    /// A number of the header, except the count of used rows.
     Header(usize),
-    /// So many rows, and the header's number of them.
+    /// How many rows are used, and how many the header counts.
     RowsUsed(usize, u32),
     /// A used row's word.
     UsedWord(u32),
     KeyNotValid,
     KeyAtEdge,
-    /// A key, and a first number: of the stream or not.
+    /// A key, and a first number that the stream has or does not have.
     First(u64, u32),
     SameKeys,
     /// Offset in a free row.
@@ -478,7 +480,7 @@ pub enum SheetCase {
     DeskZero(usize),
     /// The row that an open desk names.
     DeskRow(u8),
-    /// The desk names a free row, and its copies are zero up to the ticks as that one, or have the used word.
+    /// The desk names a free row. Its copies are zero up to the ticks, as the row is, or they have the used word.
     DeskRowFree(bool),
     /// Offset of a byte of a copy's word, key or first number.
     Copy(usize),
@@ -518,7 +520,7 @@ pub fn sheet_cases() -> Vec<SheetCase> {
     cases
 }
 
-/// `holes`: with free rows between used ones.
+/// If `holes`, there are free rows between used ones.
 pub fn sheet_case(rng: &Rng, case: SheetCase, holes: bool) -> Vec<u8> {
     use SheetCase::*;
     let used = match case {
@@ -551,7 +553,7 @@ pub fn sheet_case(rng: &Rng, case: SheetCase, holes: bool) -> Vec<u8> {
         RowsUsed(_, said) => put(&mut s, ROWS_USED, 4, said as u64),
         UsedWord(word) => {
             put(&mut s, row, 4, word as u64);
-            // That the header counts one row too many is not to be the sheet's only fault.
+            // Mostly the count is lowered too; otherwise the count alone would make the sheet wrong.
             if rng.percent(70) {
                 put(&mut s, ROWS_USED, 4, rows.len() as u64 - 1);
             }

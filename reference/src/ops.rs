@@ -1,4 +1,4 @@
-//! The ops of call scripts by name; call-script.md says what each of them calls.
+//! The ops of call scripts by name. call-script.md says what each of them calls.
 
 pub const READ_ONE: u32 = 1;
 pub const SECONDARY_PART: u32 = 2;

@@ -1,5 +1,6 @@
-//! Records of one pass, for samples and benchmarks: spacecraft 177 over station 43 (Canberra), on the night of 29 August 2008, from 9:00 UTC
-//! on. Every field, judged or not, is what source documents 000 and 004 allow; `ranges` holds the stored samples to that.
+//! Records of one pass, for samples and benchmarks: spacecraft 177 over station 43 (Canberra), on the night of 29
+//! August 2008, from 9:00 UTC on. Source documents 000 and 004 allow the value of every field, whether the library
+//! tests it or not; `ranges` checks the stored samples.
 
 use crate::dates::{self, DAY_OF_1958};
 use crate::make::{self, put_secondary};
@@ -14,7 +15,7 @@ const PASS: u64 = 4_021;
 const SPACECRAFT: u64 = 177;
 const STATION: u64 = 43;
 
-/// Spacecraft telemetry that is not frame aligned; no mission's number; formatted by the station.
+/// Spacecraft telemetry that is not frame aligned; the number is no mission's; the station formatted it.
 const TELEMETRY_PRIMARY: [u8; 4] = [1, 7, 254, 0];
 const RSR_PRIMARY: [u8; 4] = [21, 4, 255, 0];
 
@@ -25,7 +26,7 @@ fn single(value: f32) -> u64 {
     value.to_bits().into()
 }
 
-/// "NaN" as document 004 spells it, where its receiver leaves a term out.
+/// "NaN" as document 004 spells it, for a term that its receiver leaves out.
 const NAN: u64 = 0x7FFF_FFFF_FFFF_FFFF;
 
 fn secondary<const LENGTH: usize>(fields: &[Put]) -> [u8; LENGTH] {
@@ -36,7 +37,8 @@ fn secondary<const LENGTH: usize>(fields: &[Put]) -> [u8; LENGTH] {
     value
 }
 
-/// A record of a virtual stream, received so many seconds after the pass began. Bytes that are not named are reserved, or not in use and zero.
+/// A record of a virtual stream, received so many seconds after the pass began. Bytes that have no field here are
+/// reserved, or not in use, and zero.
 pub fn telemetry(second: u64, stream: u64, number: u32, data: &[u8]) -> Vec<u8> {
     let day = dates::day_count(YEAR, DAY).expect("a date") - DAY_OF_1958;
     // Each stream gives the extended resolution in its own way: not at all, in microseconds, in tenths of them.
@@ -62,7 +64,8 @@ pub fn telemetry(second: u64, stream: u64, number: u32, data: &[u8]) -> Vec<u8> 
         (28, 1, 2),
         (30, 1, stream),
         (31, 1, stream),
-        // In lock: carrier, subcarrier, symbols; convolutional decoding. There is no array, frame synchronizer, Reed-Solomon or turbo decoder.
+        // Carrier, subcarrier and symbols are in lock; convolutional decoding. There is no array, frame synchronizer,
+        // Reed-Solomon or turbo decoder.
         (32, 2, 0b10_00_10_10_10_00_00_00),
         (34, 4, 8 * data.len() as u64),
         (38, 4, single(1_000.0)),
@@ -71,7 +74,8 @@ pub fn telemetry(second: u64, stream: u64, number: u32, data: &[u8]) -> Vec<u8> 
         (50, 4, single(-142.5)),
         // The frame synchronizer is bypassed.
         (58, 1, 1),
-        // Not in use, and within their ranges: a turbo decoder's processor, iterations, code rate and frame size.
+        // A turbo decoder's processor, iterations, code rate and frame size. They are not in use, and within their
+        // ranges.
         (65, 1, 1),
         (66, 1, 1),
         (68, 1, 1),
@@ -84,11 +88,12 @@ pub fn telemetry(second: u64, stream: u64, number: u32, data: &[u8]) -> Vec<u8> 
     make::record(TELEMETRY, TELEMETRY_PRIMARY, &secondary::<80>(&fields), data)
 }
 
-/// A second of a subchannel, so many seconds after the pass began: samples of 8 bits, 1,000 a second.
+/// One second of a subchannel, so many seconds after the pass began: samples of 8 bits, 1,000 per second.
 pub fn rsr(second: u64, subchannel: u64, number: u32, data: &[u8]) -> Vec<u8> {
     let of_day = BEGIN + second;
     let (intermediate, converter) = (8_100, 320);
-    // The oscillator takes the predicted frequency to zero: the two oscillators before it less that frequency.
+    // The oscillator brings the predicted frequency to zero: it is the sum of the two oscillators before it, less
+    // that frequency.
     let predicted = 8_418_750_000.0;
     let oscillator = 1_000_000.0 * (intermediate + converter) as f64 - predicted;
     let fields = [

@@ -1,5 +1,5 @@
-//! Request 09 as a property: what a desk has not saved is its own. Pairs of random nights on fresh sheets that are the same
-//! but for one desk's ticks and unticks, in which that desk makes no save.
+//! Request 09 as a property: what a desk has not saved is its own. Pairs of random nights on fresh sheets that differ
+//! only in one desk's ticks and unticks, and in which that desk makes no save.
 
 use crate::keys::{self, FIRST_RSR};
 use crate::ledger::{self, DESKS, DESK_PLACES, SHEET, WORKED};
@@ -19,7 +19,7 @@ enum Call {
     FirstGap,
 }
 
-/// What a call answers, in numbers: the refusal, or 0 and the rest.
+/// The numbers of a call's answer: the refusal, or 0 and the values.
 type Answer = [Option<u32>; 4];
 
 impl Call {
@@ -56,7 +56,7 @@ impl Call {
 
 const KEYS: [u64; 6] = [0, 7, FIRST_RSR - 1, FIRST_RSR, FIRST_RSR + 9, 1 << 50];
 
-/// Few desks, rows, streams and numbers, so that the calls meet.
+/// There are few desks, rows, streams and numbers, so that calls affect each other.
 fn desk(rng: &Rng) -> u32 {
     rng.below(if rng.percent(3) { 10 } else { 4 }) as u32
 }
@@ -65,7 +65,7 @@ fn row(rng: &Rng) -> u32 {
     rng.below(if rng.percent(3) { 40 } else { 3 }) as u32
 }
 
-/// About 0, where every row starts or passes.
+/// Numbers near 0, where every row starts or passes.
 fn record_number(rng: &Rng) -> u32 {
     rng.pick(&[0, 65_530, u32::MAX - 5]).wrapping_add(rng.below(12) as u32)
 }
@@ -111,7 +111,7 @@ fn nights(rng: &Rng, of: u32, with_saves: bool) -> [Vec<Call>; 2] {
     [one, other]
 }
 
-/// The answers of all calls but the desk's marks, and the sheet at the end.
+/// The answers of all calls except the desk's marks, and the sheet at the end.
 fn play(night: &[Call], of: u32) -> (Vec<Answer>, Vec<u8>) {
     let mut s = vec![0; SHEET];
     ledger::fresh(&mut s).expect("the length is right");
@@ -125,7 +125,7 @@ fn play(night: &[Call], of: u32) -> (Vec<Answer>, Vec<u8>) {
     (answers, s)
 }
 
-/// The same but for what the desk has worked on.
+/// Whether two sheets are the same except for what the desk has worked on.
 fn alike(one: &[u8], other: &[u8], of: u32) -> bool {
     let desks_alike = (0..DESK_PLACES).all(|desk| {
         let seen = if desk == of as usize { WORKED } else { ledger::DESK };
@@ -137,13 +137,13 @@ fn alike(one: &[u8], other: &[u8], of: u32) -> bool {
 #[derive(Debug, Default)]
 pub struct Tried {
     pub pairs: usize,
-    /// The desk's unsaved work differed at the end.
+    /// How many pairs differed at the end in the desk's unsaved work.
     pub differed: usize,
-    /// An answer, a row or another desk differed.
+    /// How many pairs differed in an answer, a row or another desk.
     pub told: usize,
 }
 
-/// With saves of that desk too, what it has worked on is told.
+/// Tries pairs of nights. If the desk also saves, others see what it worked on.
 pub fn try_pairs(seed: u64, pairs: usize, with_saves: bool) -> Tried {
     let rng = Rng::new(seed);
     let mut tried = Tried { pairs, ..Tried::default() };

@@ -1,5 +1,5 @@
-//! Random call scripts: scenes of a few calls each, dealt from a deck, so that every kind of call and of damage
-//! comes up soon. Ledger calls stand in nights.rs, those of later requests in random/.
+//! Random call scripts: scenes of a few calls each, dealt from a deck, so that every kind of call and of damage comes
+//! up soon. Ledger calls are in nights.rs, those of later requests in random/.
 
 use crate::dates::{FIRST_YEAR, LAST_YEAR};
 use crate::keys::{FIRST_RSR, PAST_RSR};
@@ -44,7 +44,7 @@ enum Scene {
     Settings,
 }
 
-/// How often each scene stands in the deck, a deck being some 300 calls; and the part of the papers that it is of.
+/// How often each scene is in the deck, which is some 300 calls; and the part of the papers that it belongs to.
 const SCENES: &[(Scene, usize, &str)] = &[
     (Scene::Records, 40, "records"),
     (Scene::Headers, 8, "records"),
@@ -65,7 +65,7 @@ const SCENES: &[(Scene, usize, &str)] = &[
     (Scene::Settings, 3, "settings"),
 ];
 
-/// The parts of which a script alone can be made.
+/// The parts of the papers from which a script can be made.
 pub fn parts() -> Vec<&'static str> {
     let mut parts: Vec<&str> = SCENES.iter().map(|(_, _, part)| *part).collect();
     parts.dedup();
@@ -74,7 +74,7 @@ pub fn parts() -> Vec<&'static str> {
 
 pub struct Generator {
     pub rng: Rng,
-    /// The sheet as it stands after the frames so far, so that nights can be played with an eye on it.
+    /// The sheet after the frames so far; nights choose their calls by it.
     pub calls: Calls,
     pub frames: Vec<Frame>,
     pub wanted: usize,
@@ -109,7 +109,7 @@ pub fn script(seed: u64, count: usize) -> Vec<Frame> {
     script_of(seed, count, None)
 }
 
-/// The same with calls of one part alone.
+/// The same, with calls of one part only.
 pub fn script_of(seed: u64, count: usize, part: Option<&str>) -> Vec<Frame> {
     let mut g = Generator {
         rng: Rng::new(seed),
@@ -150,7 +150,7 @@ pub fn script_of(seed: u64, count: usize, part: Option<&str>) -> Vec<Frame> {
     g.frames
 }
 
-/// The ops that are tried on sheets right and damaged.
+/// The ops that are tried on right and damaged sheets.
 fn sheet_ops() -> Vec<u32> {
     (ops::ENROL..=ops::STRIKE)
         .chain([ops::ROW, ops::DESK, ops::MISSING_NUMBERS, ops::RECEIVE, ops::REPLAY_ON])
@@ -188,7 +188,7 @@ impl Generator {
         }
     }
 
-    /// One record, whole or damaged: at least one call whose line has the refusal, and maybe others.
+    /// One record, whole or damaged: at least one call whose line has the refusal, and sometimes others.
     fn records(&mut self) {
         let (kind, damage) = self.damages.deal(&self.rng);
         let length = make::short_length(&self.rng);
@@ -209,7 +209,7 @@ impl Generator {
         }
     }
 
-    /// The record as a stream, mostly behind one or two good ones; its place and the stream.
+    /// The record in a stream, mostly after one or two good ones. Gives its place and the stream.
     fn behind_some(&self, record: &[u8]) -> (u64, Vec<u8>) {
         let mut stream = Vec::new();
         for _ in 0..self.rng.pick(&[0, 1, 1, 2]) {
@@ -221,7 +221,7 @@ impl Generator {
         (place, stream)
     }
 
-    /// Headers with one field (or more) at and around its bounds.
+    /// Headers with one field or more at or near its bounds.
     fn headers(&mut self) {
         for _ in 0..4 {
             let case = self.headers.deal(&self.rng);
@@ -259,7 +259,7 @@ impl Generator {
         }
     }
 
-    /// Lengths of the four lists about the number of records: equal, or one or all of them by chance.
+    /// Lengths of the four lists near the number of records: all equal, or one or all of them random.
     fn list_lengths(&mut self, records: usize) -> [u32; 4] {
         let rng = &self.rng;
         let near = (records as u32 + rng.pick(&[0, 0, 1, 2])).saturating_sub(rng.pick(&[0, 0, 1])).min(MOST_LIST);
@@ -273,7 +273,8 @@ impl Generator {
         lengths
     }
 
-    /// A place at a record, inside one, at the end or past it; also one that is a record's when cut to 32 bits.
+    /// A place at a record, inside one, at the end or past it; also a number that is a record's place when cut to 32
+    /// bits.
     fn place_in(&mut self, stream: &[u8], starts: &[usize]) -> u64 {
         let rng = &self.rng;
         let end = stream.len() as u64;
@@ -290,7 +291,7 @@ impl Generator {
         }
     }
 
-    /// The longest records; they are dear in bytes, so few.
+    /// The longest records. They take many bytes, so there are few.
     fn long(&mut self) {
         let case = self.longs.deal(&self.rng);
         let frame = long_case(&self.rng, case);
@@ -397,7 +398,7 @@ fn damaged(rng: &Rng, bytes: &mut Vec<u8>, kind: u32, damage: Damage) {
 
 const LABEL_LENGTHS: usize = 12;
 
-/// At and around the kind's bounds, and such as a shorter number would take for the right one.
+/// At and near the kind's bounds, and lengths that a shorter number would take for the right one.
 fn label_lengths(kind: u32, n: usize) -> [u64; LABEL_LENGTHS] {
     let layout = record::layout_of(kind).expect("one of the two kinds");
     let right = (n - LABEL) as u64;
@@ -425,7 +426,7 @@ fn block_fields(kind: u32) -> [usize; 8] {
 
 const FIELD_VALUES: usize = 6;
 
-/// Values near the right one, right but for the upper byte, or right for the other kind.
+/// Values near the right one, right except for the upper byte, or right for the other kind.
 fn damaged_field(rng: &Rng, bytes: &mut [u8], kind: u32, field: usize, value: usize) {
     let at = block_fields(kind)[field];
     let right = record::number(bytes, at, 2) as u16;
@@ -447,7 +448,7 @@ fn damaged_field(rng: &Rng, bytes: &mut [u8], kind: u32, field: usize, value: us
     put(bytes, at, 2, values[value] as u64);
 }
 
-// Headers about the bounds of each field.
+// Headers near the bounds of each field.
 
 #[derive(Clone, Copy)]
 enum HeaderCase {
@@ -455,7 +456,7 @@ enum HeaderCase {
     Field(usize, u64),
     /// The RSR year and day.
     Date(u64, u64),
-    /// A band of RSR, at this offset in the block.
+    /// A band of an RSR record, at this offset in the block.
     Band(usize, u8),
     Several,
     RsrNoise,
@@ -467,7 +468,7 @@ enum HeaderCase {
     Wanted(u32, u32),
 }
 
-/// Offset in the record, width, least and most of each judged RSR field but the bands.
+/// Offset in the record, width, least and greatest value of each RSR field that is tested, except the bands.
 const RANGES: [(usize, usize, u64, u64); 10] = [
     (PRIMARY_VALUE, 1, 21, 21),
     (PRIMARY_VALUE + 1, 1, 4, 4),
@@ -557,11 +558,11 @@ fn header_case(rng: &Rng, case: HeaderCase) -> Frame {
     Frame { op: ops::READ_HEADERS, x: wanted, a: bytes, ..Frame::default() }
 }
 
-// Keys at and beyond the widths.
+// Keys at and past the widths of their fields.
 
 #[derive(Clone, Copy)]
 enum KeyCase {
-    /// The parts of any key, valid or not; of one of `KEY_EDGES`.
+    /// The parts of any key, valid or not; and of one of `KEY_EDGES`.
     Parts,
     PartsOf(u64),
     Any(u32),
@@ -577,7 +578,7 @@ fn widths(op: u32) -> [u32; 4] {
     }
 }
 
-/// Keys at and about the ends of the two kinds.
+/// Keys at and near the ends of the two kinds.
 const KEY_EDGES: [u64; 10] =
     [0, u32::MAX as u64, 1 << 32, FIRST_RSR - 1, FIRST_RSR, FIRST_RSR + 1, PAST_RSR - 1, PAST_RSR, 1 << 63, u64::MAX];
 
@@ -623,7 +624,7 @@ enum WriteCase {
     Shorter,
     BadKind,
     SecondaryLength,
-    /// 14 and 13 both: the one higher in the table is given.
+    /// Both 14 and 13 hold: the call gives the one that is higher in the table.
     Both,
 }
 

@@ -1,5 +1,6 @@
-//! Every field of a record's header, and what source documents 000, 001 and 004 allow in it, judged by the library or not. Written from the papers
-//! and apart from `pass` and `tapes`, which make the samples; `tests/samples` holds each stored sample to it.
+//! Every field of a record's header, and what source documents 000, 001 and 004 allow in it, whether the library
+//! tests it or not. Written from the papers, and separately from `pass` and `tapes`, which make the samples;
+//! `tests/samples` checks each stored sample.
 //!
 //! Bits count from 1, the top bit of a byte, as the documents count them.
 
@@ -19,7 +20,7 @@ pub enum Rule {
 }
 use Rule::{Any, Between, Double, Is, Nan, OneOf, Single};
 
-/// Reserved, undefined or spare: zero (000, 1.5.2 g).
+/// Reserved, undefined or spare fields are zero (000, 1.5.2 g).
 const ZERO: Rule = Is(0);
 const FLAG: Rule = Any;
 
@@ -46,7 +47,7 @@ const fn bits(byte: usize, first: usize, last: usize, name: &'static str, rule: 
     Field { name, bit: 8 * byte + first - 1, width: last - first + 1, rule }
 }
 
-/// A run of bytes with all its fields, at its place in a record.
+/// A run of bytes at its place in a record, with all its fields.
 pub struct Block {
     pub section: &'static str,
     pub at: usize,
@@ -182,7 +183,7 @@ pub static TELEMETRY_BLOCKS: [Block; 5] = [
             bytes(69, 1, "code rate denominator", Between(1, 31)),
             bytes(70, 2, "turbo frame size", OneOf(&[1_784, 3_568, 7_136, 8_920])),
             bytes(72, 2, "decoder confidence", Any),
-            // Appendix A.1.1, of which `equipment_known` says the rest.
+            // Appendix A.1.1. `equipment_known` has the rest of it.
             bits(74, 1, 4, "equipment type", Between(0, 2)),
             bits(74, 5, 8, "reserved in equipment", ZERO),
             bytes(75, 1, "equipment number", Any),
@@ -406,7 +407,7 @@ fn allows(rule: &Rule, number: u128) -> bool {
     }
 }
 
-/// The same field, counted from the record's start.
+/// The bit at which a field begins, counted from the record's start.
 pub fn in_record(block: &Block, field: &Field) -> usize {
     8 * block.at + field.bit
 }
@@ -433,7 +434,7 @@ fn fields_out_of_range(blocks: &'static [Block], s: &[u8]) -> Vec<&'static str> 
     wrong
 }
 
-/// What a document says of several fields together: where it is said, in words, and whether it holds.
+/// A rule about several fields: where the document says it, the rule in words, and its test.
 pub type Together = (&'static str, &'static str, fn(&[u8]) -> bool);
 
 fn telemetry(s: &[u8], name: &str) -> u64 {
@@ -587,7 +588,7 @@ pub static TAPE_TOGETHER: [Together; 5] = [
     }),
 ];
 
-/// Which header a run of bytes is to have.
+/// The kind of header that a run of bytes must have.
 #[derive(Clone, Copy, Debug)]
 pub enum Kind {
     Telemetry,
@@ -621,7 +622,7 @@ impl Kind {
     }
 }
 
-/// What is not as the documents allow, in a whole record: fields by their names, then what holds of several.
+/// What the documents do not allow in a whole record: fields by name, then rules about several fields.
 pub fn wrong(kind: Kind, s: &[u8]) -> Vec<&'static str> {
     let mut wrong = fields_out_of_range(kind.blocks(), s);
     wrong.extend(kind.together().iter().filter(|(_, _, holds)| !holds(s)).map(|(_, words, _)| *words));

@@ -1,6 +1,6 @@
-//! The proved library, linked as a static library; only with the feature `rattle`. The archive named by the
-//! environment's HERNGANOW_LIB has to export these functions on numbers and slices (pointer and length), each with
-//! the answer that `Implementation` in bench.rs tells of.
+//! The proved library, linked as a static library; only with the feature `rattle`. The archive that the environment
+//! variable HERNGANOW_LIB names must export these functions on numbers and slices (pointer and length), each with the
+//! answer that `Implementation` in bench.rs describes.
 
 use crate::bench::Implementation;
 
@@ -17,9 +17,25 @@ extern "C" {
     fn bench_report(s: *const u8, length: usize, row: u32) -> u64;
     fn bench_count(s: *const u8, length: usize, row: u32) -> u64;
     fn bench_replay(t: *const u8, trace_length: usize, s: *mut u8, length: usize) -> u64;
+    fn bench_replay_on(t: *const u8, trace_length: usize, s: *mut u8, length: usize) -> u64;
+    fn bench_parts(key: u64) -> u64;
+    fn bench_row(s: *const u8, length: usize, row: u32) -> u64;
+    fn bench_desk(s: *const u8, length: usize, desk: u32) -> u64;
+    fn bench_unsaved(s: *const u8, length: usize, desk: u32) -> u64;
+    fn bench_missing(s: *const u8, length: usize, row: u32, list: *mut u32, count: usize) -> u64;
+    fn bench_receive(
+        s: *mut u8,
+        length: usize,
+        desk: u32,
+        stream: *const u8,
+        stream_length: usize,
+        list: *mut u32,
+        count: usize,
+    ) -> u64;
+    fn bench_season(s: *const u8, length: usize) -> u64;
 }
 
-// Each pointer is good for its length, which is all that the functions ask.
+// Each pointer is valid for its length, which is all that the functions require.
 pub const RATTLE: Implementation = Implementation {
     name: "rattle",
     read_headers: |s, wanted| unsafe { bench_read_headers(s.as_ptr(), s.len(), wanted) },
@@ -36,4 +52,14 @@ pub const RATTLE: Implementation = Implementation {
     report: |s, row| unsafe { bench_report(s.as_ptr(), s.len(), row) },
     count: |s, row| unsafe { bench_count(s.as_ptr(), s.len(), row) },
     replay: |t, s| unsafe { bench_replay(t.as_ptr(), t.len(), s.as_mut_ptr(), s.len()) },
+    replay_on: |t, s| unsafe { bench_replay_on(t.as_ptr(), t.len(), s.as_mut_ptr(), s.len()) },
+    parts: |key| unsafe { bench_parts(key) },
+    row: |s, row| unsafe { bench_row(s.as_ptr(), s.len(), row) },
+    desk: |s, desk| unsafe { bench_desk(s.as_ptr(), s.len(), desk) },
+    unsaved: |s, desk| unsafe { bench_unsaved(s.as_ptr(), s.len(), desk) },
+    missing: |s, row, list| unsafe { bench_missing(s.as_ptr(), s.len(), row, list.as_mut_ptr(), list.len()) },
+    receive: |s, desk, stream, list| unsafe {
+        bench_receive(s.as_mut_ptr(), s.len(), desk, stream.as_ptr(), stream.len(), list.as_mut_ptr(), list.len())
+    },
+    season: |s| unsafe { bench_season(s.as_ptr(), s.len()) },
 };

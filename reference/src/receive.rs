@@ -1,5 +1,5 @@
-//! A desk receives a stream. Each whole record is a visit of the desk: its row is found and opened, its number ticked, and
-//! the row saved; where the tick is refused the desk is dropped.
+//! A desk receives a stream. Each whole record is one visit of the desk: the desk finds and opens its row, ticks its
+//! number and saves the row. If the tick is refused, the desk drops the row.
 
 use crate::ledger::{self, trusted};
 use crate::record::{self, Fields, Record};
@@ -11,7 +11,7 @@ pub struct Received {
     pub ticked: u64,
 }
 
-/// The outcome of each record stands in the list: 0, 12, 25, 28 or 29.
+/// Writes the outcome of each record into the list: 0, 12, 25, 28 or 29.
 pub fn receive(s: &mut [u8], desk: u32, stream: &[u8], list: &mut [u32]) -> Result<Received, u32> {
     ledger::judge_sheet(s)?;
     ledger::judge_closed_desk(s, desk)?;

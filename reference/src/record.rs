@@ -1,5 +1,5 @@
-//! One record. Document 01: 'How a record nests' and 'Calls on records'; request 05: where a refused record is wrong;
-//! request 01: dates.
+//! One record. Document 01: 'How a record nests' and 'Calls on records'; request 05: which field of a refused record
+//! is wrong; request 01: dates.
 
 use crate::{dates, keys};
 
@@ -10,7 +10,7 @@ pub const RSR: u32 = 2;
 pub const AUTHORITY: [u8; 4] = *b"NJPL";
 pub const VERSION_AND_CLASS: [u8; 4] = *b"2I00";
 
-// Offsets in every record; the aggregation label stands behind the label.
+// Offsets in every record. The aggregation label follows the label.
 const VERSION: usize = 4;
 pub const DESCRIPTION: usize = 8;
 pub const LABEL_LENGTH: usize = 12;
@@ -98,11 +98,11 @@ fn array<const WIDTH: usize>(s: &[u8], at: usize) -> [u8; WIDTH] {
 /// A refusal of a record, with the second number that request 05 gives it.
 #[derive(Clone, Copy, Debug, PartialEq)]
 pub enum Refused {
-    /// 1 or 6, and how many bytes there were.
+    /// 1 or 6, and how many bytes the slice has.
     Short { number: u32, bytes: usize },
     /// 2 to 5 or 7 to 12, and the offset of the wrong field's first byte from the record's start.
     Field { number: u32, offset: usize },
-    /// One that has no second number.
+    /// A refusal without a second number.
     Number(u32),
 }
 
@@ -113,8 +113,8 @@ impl Refused {
         }
     }
 
-    /// The second number of a refused record that stands at this place of a stream: offsets count from the stream's
-    /// start, byte counts do not; 0 where there is none.
+    /// The second number for a refused record at this place of a stream. Offsets count from the stream's start; byte
+    /// counts do not change; 0 if there is none.
     pub fn detail(self, place: u64) -> u64 {
         match self {
             Refused::Short { bytes, .. } => bytes as u64,
@@ -124,7 +124,7 @@ impl Refused {
     }
 }
 
-/// What read one gives: the kind, N, and major, minor, mission, format.
+/// The answer of read one: the kind, N, and major, minor, mission, format.
 #[derive(Clone, Copy, Debug, PartialEq)]
 pub struct Record {
     pub kind: u32,
@@ -132,7 +132,7 @@ pub struct Record {
     pub primary: [u8; 4],
 }
 
-/// Refusals 1 to 4: the kind's layout.
+/// Tests refusals 1 to 4. Gives the kind's layout.
 #[inline(always)]
 pub fn read_kind(s: &[u8]) -> Result<&'static Layout, Refused> {
     if s.len() < LABEL {
@@ -151,7 +151,7 @@ pub fn read_kind(s: &[u8]) -> Result<&'static Layout, Refused> {
     }
 }
 
-/// Refusal 5: N.
+/// Tests refusal 5. Gives N.
 #[inline(always)]
 pub fn read_length(s: &[u8], layout: &Layout) -> Result<usize, Refused> {
     let label_length = u64::from_be_bytes(array(s, LABEL_LENGTH));
@@ -162,7 +162,7 @@ pub fn read_length(s: &[u8], layout: &Layout) -> Result<usize, Refused> {
     }
 }
 
-/// Refusals 6 to 11, of a record whose label was accepted.
+/// Tests refusals 6 to 11 of a record whose label is accepted.
 #[inline(always)]
 pub fn read_blocks(s: &[u8], layout: &Layout, n: usize) -> Result<Record, Refused> {
     if s.len() < n {
@@ -179,7 +179,7 @@ fn block_label(kind: u16, length: u16) -> u32 {
     (kind as u32) << 16 | length as u32
 }
 
-/// A block's label, type before length: each with the refusal where it is wrong.
+/// Tests a block's label, its type before its length; each comes with its refusal.
 #[inline(always)]
 fn judge_block(s: &[u8], at: usize, kind: (u32, u16), length: (u32, u16)) -> Result<(), Refused> {
     let found = u32::from_be_bytes(array(s, at));
@@ -195,7 +195,7 @@ fn judge_block(s: &[u8], at: usize, kind: (u32, u16), length: (u32, u16)) -> Res
 
 #[inline(always)]
 pub fn read_one(s: &[u8]) -> Result<Record, Refused> {
-    // Each kind by itself: the numbers of its layout are constants there.
+    // Each kind separately, so that the numbers of its layout are constants.
     match read_kind(s)?.kind {
         TELEMETRY => read_as(s, &TELEMETRY_LAYOUT),
         _ => read_as(s, &RSR_LAYOUT),
@@ -286,7 +286,7 @@ pub struct Rsr {
     pub day: u16,
     pub override_frequency: u64,
     pub key: u64,
-    /// Of year and day.
+    /// Computed from year and day.
     pub day_count: u32,
 }
 
@@ -317,7 +317,7 @@ pub fn read_fields(s: &[u8], record: &Record) -> Result<Fields, Refused> {
 const TELEMETRY_BLOCK: usize = 84;
 const RSR_BLOCK: usize = 224;
 
-/// 12, where the field at this offset of the record is not in its range.
+/// 12 if the field at this offset of the record is not in its range.
 fn judge_field(offset: usize, in_range: bool) -> Result<(), Refused> {
     if in_range {
         Ok(())
@@ -351,7 +351,7 @@ fn read_telemetry(block: &[u8; TELEMETRY_BLOCK]) -> Result<Telemetry, Refused> {
     })
 }
 
-/// 'RSR secondary', and the primary values that are judged; from the lowest offset up.
+/// 'RSR secondary', and the primary values that are tested, from the lowest offset up.
 fn read_rsr(primary: &[u8; 4], block: &[u8; RSR_BLOCK]) -> Result<Rsr, Refused> {
     let year = u16::from_be_bytes(array(block, 28));
     let day = u16::from_be_bytes(array(block, 30));

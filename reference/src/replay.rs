@@ -1,4 +1,4 @@
-//! A night's calls kept in a trace, and played again over a fresh sheet (request 11), or over the sheet as it stands.
+//! Replays a night's calls from a trace, over a fresh sheet (request 11) or over a sheet as it is.
 
 use crate::ledger::{self, SHEET};
 use crate::record::number;
@@ -14,7 +14,7 @@ pub const ANSWER: usize = 3;
 pub const NUMBER: usize = 4;
 pub const KEY: usize = 8;
 
-/// A call that a trace can have, by its number there.
+/// A call that a trace can hold.
 #[derive(Clone, Copy, Debug, PartialEq)]
 pub enum Call {
     Enrol { key: u64, first: u32 },
@@ -26,7 +26,7 @@ pub enum Call {
     Strike { row: u8 },
 }
 
-/// What a call answers: the refusal number or 0, and the row of an enrolment that was accepted, else 0.
+/// What a replay compares of an answer: the refusal number or 0, and the row of an accepted enrolment, else 0.
 #[derive(Clone, Copy, Debug, PartialEq)]
 pub struct Answer {
     pub number: u32,
@@ -58,8 +58,8 @@ pub enum Replayed {
     Differs(usize, Answer),
 }
 
-/// Makes the sheet fresh and plays the trace over it; the sheet is left as after the first call that answers otherwise than
-/// is written, or after the last.
+/// Makes the sheet fresh and replays the trace over it. Leaves the sheet as after the last call, or after the first
+/// call whose answer differs from the trace's.
 pub fn replay(trace: &[u8], s: &mut [u8]) -> Result<Replayed, u32> {
     if s.len() != SHEET {
         return Err(20);
@@ -69,7 +69,7 @@ pub fn replay(trace: &[u8], s: &mut [u8]) -> Result<Replayed, u32> {
     Ok(play(&entries, s))
 }
 
-/// Plays the trace over the sheet as it stands. Entries count from the trace's own first.
+/// Replays the trace over the sheet as it is. Entries count from the first of this trace.
 pub fn replay_on(trace: &[u8], s: &mut [u8]) -> Result<Replayed, u32> {
     ledger::judge_sheet(s)?;
     let entries = read_trace(trace)?;
@@ -86,7 +86,7 @@ fn play(entries: &[(Call, Answer)], s: &mut [u8]) -> Replayed {
     Replayed::Same
 }
 
-/// The calls and the answers written; 40 where the trace is not well formed.
+/// The calls and answers of a trace; 40 if the trace is not well formed.
 fn read_trace(trace: &[u8]) -> Result<Vec<(Call, Answer)>, u32> {
     let entries = entries(trace).ok_or(40u32)?;
     entries.iter().map(read_entry).collect::<Option<_>>().ok_or(40)
@@ -101,7 +101,7 @@ fn entries(trace: &[u8]) -> Option<&[[u8; ENTRY]]> {
     (right && entries.len() <= MOST_ENTRIES).then_some(entries)
 }
 
-/// The call and the answer written; none where what the call does not use is not zero, or there is no such call.
+/// The call and answer of an entry; none if there is no such call, or a field that it does not use is not zero.
 fn read_entry(entry: &[u8; ENTRY]) -> Option<(Call, Answer)> {
     let [call, desk, row, answer, ..] = *entry;
     let n = number(entry, NUMBER, 4) as u32;
@@ -120,7 +120,7 @@ fn read_entry(entry: &[u8; ENTRY]) -> Option<(Call, Answer)> {
     unused_is_zero.then_some((call, Answer { number: answer.into(), row }))
 }
 
-/// A log of calls with their answers as a trace.
+/// The trace of a log of calls with their answers.
 pub fn write_trace(log: &[(Call, Answer)]) -> Vec<u8> {
     let length = HEADER + ENTRY * log.len();
     let mut trace: Vec<u8> = [length, log.len(), HEADER].iter().flat_map(|word| (*word as u32).to_be_bytes()).collect();

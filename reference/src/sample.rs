@@ -11,9 +11,9 @@ const SEED: u64 = 1;
 
 pub struct Sample {
     pub name: &'static str,
-    /// Where and why its listing stops.
+    /// The last line of its listing: where and why it stops.
     pub last_line: &'static str,
-    /// What is to be seen, for samples/README.md.
+    /// What the sample shows, for samples/README.md.
     pub about: &'static str,
     pub(crate) make: fn() -> Vec<u8>,
 }
@@ -101,7 +101,7 @@ pub static SAMPLES: [Sample; 13] = [
     },
 ];
 
-/// Streams that the listing program is run on beside the samples.
+/// Streams on which the listing program is run besides the samples.
 pub static LISTED: [Sample; 5] = [
     Sample {
         name: "example",
@@ -178,7 +178,7 @@ pub static SHEETS: [Sample; 6] = [
     },
 ];
 
-/// Two streams that differ in bit 7 of the spacecraft's first byte alone.
+/// Two streams that differ only in bit 7 of the spacecraft's first byte.
 fn two_spacecraft() -> Vec<u8> {
     let mut s = vec![0; ledger::SHEET];
     let mut work = || -> Result<(), u32> {
@@ -197,7 +197,7 @@ fn two_spacecraft() -> Vec<u8> {
     s
 }
 
-/// A sheet with rows for virtual streams of one month's equipment: the first numbers ticked in each, but for some.
+/// A sheet with rows for virtual streams of one month's equipment. The first numbers of each are ticked, except some.
 fn month(equipment: u32, rows: &[(u32, u32)], left_out: &[(u32, u32)]) -> Vec<u8> {
     let mut s = vec![0; ledger::SHEET];
     let mut work = || -> Result<(), u32> {
@@ -216,8 +216,8 @@ fn month(equipment: u32, rows: &[(u32, u32)], left_out: &[(u32, u32)]) -> Vec<u8
     s
 }
 
-/// Two telemetry streams and one of RSR whose numbers pass 65,535. Desk 0 has work on the first that is not saved; desk 3
-/// has the third open.
+/// Two telemetry streams, and one of RSR whose numbers pass 65,535. Desk 0 has unsaved work on the first; desk 3 has
+/// the third open.
 pub(crate) fn night_sheet() -> Vec<u8> {
     let mut s = vec![0; ledger::SHEET];
     let keys = [keys::telemetry_key(177, 43, 2, 1), keys::telemetry_key(177, 43, 2, 2), keys::rsr_key(177, 43, 1, 2)];
@@ -239,7 +239,7 @@ pub(crate) fn night_sheet() -> Vec<u8> {
     s
 }
 
-/// Streams to unpack: the second record is spoilt but for the first stream.
+/// Streams to unpack. In all but the first, the second record is spoilt.
 pub static RSR_STREAMS: [Sample; 5] = [
     Sample {
         name: "rsr/tone",
@@ -274,17 +274,30 @@ pub static RSR_STREAMS: [Sample; 5] = [
     },
 ];
 
-/// A second of the tone, and the next one spoilt.
+/// What the samples program is run on besides.
+pub static UNPACKED: [Sample; 1] = [Sample {
+    name: "widest",
+    last_line: "",
+    about: "A record of the row of table 3-1 that has the most numbers: samples of 1 bit in 25,000 bytes, 200,000 numbers.",
+    make: || {
+        let mut record = pass::rsr(0, 1, 7, &Rng::new(SEED).bytes(25_000));
+        record[iq::SIZE] = 1;
+        put(&mut record, iq::RATE, 2, 4_000);
+        record
+    },
+}];
+
+/// One second of the tone, and the next one spoilt.
 fn behind_one(spoil: fn(&mut Vec<u8>)) -> Vec<u8> {
     let mut last = tone(1);
     spoil(&mut last);
     [tone(0), last].concat()
 }
 
-/// A second of a tone, so many seconds after it began.
+/// One second of a tone, so many seconds after it began.
 fn tone(second: u32) -> Vec<u8> {
     let turns = (0..1_000).map(|n| n + 1_000 * second as usize);
-    // A number is odd.
+    // Every number is odd.
     let numbers: Vec<i32> = turns.flat_map(|n| [cosine(n), cosine(n + 36)]).map(|c| c >> 1 << 1 | 1).collect();
     let mut data = [0; SECOND];
     iq::pack(8, 1, &numbers, &mut data).expect("every number has a code");
@@ -341,10 +354,10 @@ pub fn stored() -> impl Iterator<Item = &'static Sample> {
 }
 
 pub fn sample(name: &str) -> Option<Vec<u8>> {
-    stored().chain(&LISTED).find(|sample| sample.name == name).map(|sample| (sample.make)())
+    stored().chain(&LISTED).chain(&UNPACKED).find(|sample| sample.name == name).map(|sample| (sample.make)())
 }
 
-/// A telemetry record that is all zero but for its number.
+/// A telemetry record that is all zero except for its number.
 fn plain(number: u32, data: usize) -> Vec<u8> {
     let mut record = make::record(TELEMETRY, [0; 4], &[0; 80], &vec![0; data]);
     let (at, width) = record::number_field(TELEMETRY);
@@ -358,7 +371,7 @@ fn mixed() -> Vec<u8> {
     stream
 }
 
-/// The bytes of a second of 1,000 samples of 8 bits.
+/// How many bytes one second of 1,000 samples of 8 bits has.
 const SECOND: usize = 2_000;
 
 fn good_night() -> Vec<u8> {
@@ -387,14 +400,14 @@ fn spoilt(spoil: fn(&mut Vec<u8>)) -> Vec<u8> {
     [first.concat(), pass::telemetry(2, 1, 8, &rng.bytes(64)), last].concat()
 }
 
-/// The same, and a good record after it, which a listing does not reach.
+/// The same, and a good record after it, which the listing does not reach.
 fn stopped(spoil: fn(&mut Vec<u8>)) -> Vec<u8> {
     let mut stream = spoilt(spoil);
     stream.extend(pass::telemetry(4, 1, 10, &[]));
     stream
 }
 
-/// A data length is even.
+/// With a data length that is even.
 fn too_long() -> Vec<u8> {
     stopped(|r| {
         let data = Rng::new(SEED).bytes(list::WINDOW + 2 - TELEMETRY_LAYOUT.data_value);
@@ -402,7 +415,7 @@ fn too_long() -> Vec<u8> {
     })
 }
 
-/// A stream of whole records, of at least `bytes` bytes: the same some megabytes over and over.
+/// A stream of whole records, at least `bytes` bytes long. It repeats some megabytes.
 pub fn big(bytes: u64, out: &mut impl Write) -> io::Result<()> {
     let rng = Rng::new(SEED);
     let batch: Vec<Vec<u8>> = (0..2_000).map(|_| mixed_record(&rng)).collect();
@@ -422,7 +435,7 @@ pub fn big(bytes: u64, out: &mut impl Write) -> io::Result<()> {
     Ok(())
 }
 
-/// Lengths as they come in a night: short and framed telemetry, and RSR at several sample rates.
+/// A record of a length that is usual in a night: short or framed telemetry, or RSR at one of several sample rates.
 pub fn mixed_record(rng: &Rng) -> Vec<u8> {
     let number = rng.word() >> rng.below(32);
     let telemetry = |stream, data| pass::telemetry(0, stream, number, &rng.bytes(data));

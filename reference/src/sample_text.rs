@@ -2,34 +2,11 @@
 
 use crate::iq::unpack;
 use crate::list::Window;
+use crate::texts::text;
 use std::io::{self, Read, Write};
 
-/// What a refusal means, in the message of a stop.
-pub fn reason(number: u32) -> &'static str {
-    match number {
-        1 => "no whole label",
-        2 => "does not begin with NJPL",
-        3 => "version and class not 2I00",
-        4 => "kind of record not known",
-        5 => "length not one of its kind",
-        6 => "record cut off",
-        7 => "wrong type or length of the aggregation block",
-        8 => "wrong type or length of the primary block",
-        9 => "wrong type or length of the secondary block",
-        10 => "wrong type of the data block",
-        11 => "wrong length of the data block",
-        12 => "field out of range",
-        15 => "record of another kind",
-        17 => "record over 65536 bytes",
-        19 => "sample size and rate are not a listed pair",
-        34 => "data not in whole words of 4 bytes",
-        35 => "no room for the samples",
-        _ => "refused",
-    }
-}
-
-/// Writes the samples of every record: `I Q` a line, or raw as 32-bit little-endian integers, I before Q. The outer failure
-/// is that of `out`, the inner one a read that failed or a record that is refused: the samples so far are written.
+/// Writes the samples of every record: `I Q` on each line, or raw as 32-bit little-endian integers, I before Q. The
+/// outer error is of `out`; the inner one is of a read, or a refused record. The samples up to it are written.
 pub fn write_samples(input: impl Read, raw: bool, out: &mut impl Write) -> io::Result<io::Result<()>> {
     let mut window = Window::new(input);
     let mut place = 0u64;
@@ -43,7 +20,7 @@ pub fn write_samples(input: impl Read, raw: bool, out: &mut impl Write) -> io::R
             return Ok(Ok(()));
         }
         let unpacked = answer.and_then(|record| {
-            // A sample has at least one bit.
+            // A sample has at least one bit, so this is long enough.
             list.resize(8 * record.length, 0);
             unpack(window.held(), &mut list).map(|count| (record.length, count))
         });
@@ -51,7 +28,7 @@ pub fn write_samples(input: impl Read, raw: bool, out: &mut impl Write) -> io::R
             Ok(unpacked) => unpacked,
             Err(refused) => {
                 let (number, detail) = (refused.number(), refused.detail(place));
-                let stop = format!("stopped at byte {place}: {number} {detail} {}", reason(number));
+                let stop = format!("stopped at byte {place}: {number} {detail} {}", text(number));
                 return Ok(Err(io::Error::other(stop)));
             }
         };

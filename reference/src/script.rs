@@ -1,4 +1,4 @@
-//! Call scripts, as call-script.md says: frames in, one line a call out.
+//! Call scripts, as call-script.md describes them: reads frames, writes one line per call.
 
 use crate::record::{self, Fields, Record, Refused, Rsr, Telemetry};
 use crate::stream::{self, Cursor, Step, Stop};
@@ -52,7 +52,7 @@ impl Frame {
     }
 }
 
-/// The frame at the start of a script, and its length; none where the script ends inside it or a run is too long.
+/// The frame at the start of a script, and its length; none if the script ends inside it or a run is too long.
 pub fn read_frame(s: &[u8]) -> Option<(Frame, usize)> {
     if s.len() < HEADER {
         return None;
@@ -76,7 +76,7 @@ pub fn read_frame(s: &[u8]) -> Option<(Frame, usize)> {
     Some((frame, end))
 }
 
-/// Hands each frame with its line to `each`; after a bad frame, the line alone, and no more.
+/// Passes each frame with its line to `each`. After a bad frame it passes the line alone, and stops.
 pub fn run(script: &[u8], each: impl FnMut(Option<&Frame>, &str) -> io::Result<()>) -> io::Result<()> {
     run_on(&mut Calls::default(), script, each)
 }
@@ -98,11 +98,11 @@ pub fn run_on(
     Ok(())
 }
 
-/// The one sheet that the ledger calls of a script share, and the one settings sheet.
+/// The sheet that all ledger calls of a script share, and the settings sheet.
 pub struct Calls {
     pub sheet: Vec<u8>,
     pub settings: Vec<u8>,
-    /// How many records had which outcome when they were received; no line tells of one.
+    /// How many records were received with each outcome. No line of a script says this.
     pub outcomes: BTreeMap<u32, usize>,
 }
 
@@ -113,7 +113,7 @@ impl Default for Calls {
 }
 
 impl Calls {
-    /// The line of a call; none for a frame that is bad.
+    /// The line of a call; none for a bad frame.
     pub fn line(&mut self, f: &Frame) -> Option<String> {
         match f.op {
             ops::READ_ONE => Some(line_of_record(record::read_one(&f.a))),
@@ -141,7 +141,7 @@ impl Calls {
         }
     }
 
-    /// The crc of the whole sheet after the call ends each line.
+    /// Each line ends with the crc of the whole sheet after the call.
     fn ledger_line(&mut self, f: &Frame) -> Option<String> {
         let s = &mut self.sheet;
         let nothing = |_| String::new();
@@ -188,7 +188,7 @@ impl Calls {
     }
 }
 
-/// `none`, or the row, the ticks and the unticks that are not saved, and whether a save would be stale now.
+/// `none`, or the row, the unsaved ticks and unticks, and whether a save would be stale now.
 fn desk_words(s: &[u8], desk: u32) -> Result<String, u32> {
     let Some((row, stale)) = ledger::desk_of(s, desk)? else {
         return Ok(" none".to_string());
@@ -213,7 +213,7 @@ fn line_of_record(answer: Result<Record, Refused>) -> String {
     }
 }
 
-/// The number, and the offset in the record or the byte count, where one goes with it.
+/// The refusal's number and its second number, if it has one.
 fn refusal_words(refused: Refused) -> String {
     match refused {
         Refused::Short { number, bytes } => format!("{number} {bytes}"),
@@ -351,7 +351,7 @@ fn number_lists(f: &Frame) -> Option<String> {
     Some(line)
 }
 
-/// The refusal number in a call's line; 0 where there is none, and for parts, whose lines have no such word.
+/// The refusal number in a call's line; 0 if it has none, and for part calls, whose lines have no such number.
 pub fn refusal_in(op: u32, line: &str) -> u32 {
     let at = match op {
         ops::SECONDARY_PART | ops::DATA_PART => return 0,

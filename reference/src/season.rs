@@ -1,6 +1,7 @@
-//! The season's gap report, over up to 16 sheets laid one after another; and as a program's table. Request 13.
+//! The season's gap report over up to 16 sheets, one after another; and the program's table. Request 13.
 
 use crate::convert::{convert, OLD_SHEET};
+use crate::files::reason;
 use crate::ledger::{self, SHEET};
 use std::ffi::OsString;
 use std::io::{self, Write};
@@ -15,7 +16,7 @@ pub struct Counts {
 }
 
 impl Counts {
-    /// Missing per million of both together, rounded down; 0 where both are 0.
+    /// How many are missing per million of ticked and missing together, rounded down; 0 if both are 0.
     pub fn per_million(self) -> u32 {
         let both = u64::from(self.ticked) + u64::from(self.missing);
         (u64::from(self.missing) * 1_000_000).checked_div(both).unwrap_or(0) as u32
@@ -51,7 +52,7 @@ pub fn season(s: &[u8]) -> Result<Season, u32> {
     if !sheets.clone().all(ledger::is_sheet) {
         return Err(20);
     }
-    // No sheet has a key twice.
+    // A sheet has no key twice, so a key that is twice here is in two sheets.
     let mut keys: Vec<u64> = sheets.clone().flat_map(keys).collect();
     keys.sort_unstable();
     if keys.windows(2).any(|pair| pair[0] == pair[1]) {
@@ -78,7 +79,7 @@ fn keys(sheet: &[u8]) -> impl Iterator<Item = u64> + '_ {
 
 pub const HEADING: &str = "sheet rows ticked missing per-million";
 
-/// What a program refuses: the reason, with the file's name where one file is at fault.
+/// Why a program refuses: the reason, with the file's name if one file is at fault.
 pub type Refused = String;
 
 fn too_many() -> Refused {
@@ -89,7 +90,7 @@ fn not_a_sheet(name: &str) -> Refused {
     format!("{name}: not a ledger sheet (20)")
 }
 
-/// The table of the season whose sheets are in these files: name and bytes. Old sheets are converted first.
+/// The table of the season whose sheets are in these files, each with name and bytes. Old sheets are converted first.
 pub fn table(files: &[(String, Vec<u8>)]) -> Result<String, Refused> {
     if files.len() > MOST_SHEETS {
         return Err(too_many());
@@ -99,7 +100,7 @@ pub fn table(files: &[(String, Vec<u8>)]) -> Result<String, Refused> {
         let sheet = new_sheet(bytes).ok_or_else(|| not_a_sheet(name))?;
         sheets.extend(sheet);
     }
-    // Right sheets, not too many: 41 alone is left.
+    // The sheets are right and not too many, so only 41 is left.
     let season = season(&sheets).map_err(|_| "a stream stands in two of the sheets (41)".to_string())?;
     let mut text = format!("{HEADING}\n");
     let mut rows = 0;
@@ -128,13 +129,8 @@ fn new_sheet(bytes: &[u8]) -> Option<Vec<u8>> {
     convert(bytes, &mut sheet).ok().map(|()| sheet)
 }
 
-/// The system's reason, in its words alone.
-fn reason(error: &io::Error) -> String {
-    let said = error.to_string();
-    said.split(" (os error").next().unwrap_or(&said).to_string()
-}
-
-/// The files named, with their names: too many are refused before one is read, and then the first that is not there or is no sheet.
+/// The files named, with their names. Refuses too many files before it reads one; then the first that is not there or
+/// is no sheet.
 fn read_sheets(names: &[OsString]) -> Result<Vec<(String, Vec<u8>)>, Refused> {
     if names.len() > MOST_SHEETS {
         return Err(too_many());
@@ -149,7 +145,7 @@ fn read_sheets(names: &[OsString]) -> Result<Vec<(String, Vec<u8>)>, Refused> {
     Ok(files)
 }
 
-/// The table of the files named, or what is wrong on standard error. Answers whether all went well.
+/// Writes the table of the files named, or what is wrong to standard error. Answers whether all went well.
 pub fn report(names: &[OsString], out: &mut impl Write) -> io::Result<bool> {
     match read_sheets(names).and_then(|files| table(&files)) {
         Ok(text) => out.write_all(text.as_bytes()).map(|()| true),

@@ -1,4 +1,4 @@
-//! Mission settings: the receiver edition and the frame length expected, by mission and first valid day. Request 14.
+//! Mission settings: the receiver edition and the expected frame length, by mission and first day. Request 14.
 
 use crate::record::number;
 
@@ -42,7 +42,8 @@ fn settings(s: &[u8]) -> impl Iterator<Item = (u8, Setting)> + '_ {
     })
 }
 
-/// Header so; used entries first, with a known edition and zeros, no mission and day twice; unused ones all zero.
+/// The header is right; used entries come first, each with a known edition and zeros, no mission and day twice;
+/// unused entries are all zero.
 pub fn is_settings(s: &[u8]) -> bool {
     s.len() == SETTINGS && header_right(s) && entries_right(s)
 }
@@ -76,7 +77,7 @@ fn judge_settings(s: &[u8]) -> Result<(), u32> {
     }
 }
 
-/// Makes an empty settings sheet; judges only the length.
+/// Makes an empty settings sheet. Tests only the length.
 pub fn make_empty(s: &mut [u8]) -> Result<(), u32> {
     if s.len() != SETTINGS {
         return Err(43);
@@ -88,7 +89,7 @@ pub fn make_empty(s: &mut [u8]) -> Result<(), u32> {
     Ok(())
 }
 
-/// Adds a setting in the next place.
+/// Adds a setting in the first unused entry.
 pub fn add(s: &mut [u8], mission: u8, setting: Setting) -> Result<(), u32> {
     judge_settings(s)?;
     if !is_edition(setting.edition) {
@@ -110,7 +111,7 @@ pub fn add(s: &mut [u8], mission: u8, setting: Setting) -> Result<(), u32> {
     Ok(())
 }
 
-/// The mission's setting with the latest first day not after this one.
+/// The mission's setting with the latest first day on or before this one.
 pub fn ask(s: &[u8], mission: u8, day: u32) -> Result<Setting, u32> {
     judge_settings(s)?;
     let old_enough = settings(s).filter(|(of, setting)| *of == mission && setting.first_day <= day);

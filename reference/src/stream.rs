@@ -1,4 +1,4 @@
-//! Streams. Document 01: 'Walk' and 'The packing list'; request 05: where a stream's refused record is wrong.
+//! Streams. Document 01: 'Walk' and 'The packing list'; request 05: which field of a refused record is wrong.
 
 use crate::record::{read_one, record_number, Record, Refused};
 
@@ -8,7 +8,7 @@ pub struct Cursor {
     pub place: u64,
 }
 
-/// Each case with the cursor handed back: moved on where a record was found.
+/// Each case has the cursor: moved past the record if one was found, else unmoved.
 #[derive(Debug, PartialEq)]
 pub enum Step {
     Found(Record, Cursor),
@@ -30,13 +30,13 @@ impl Cursor {
     }
 }
 
-/// What a walk or a list answers.
+/// The answer of a walk or a list.
 #[derive(Debug, PartialEq)]
 pub struct Stop {
     pub count: u64,
     pub place: u64,
     pub number: u32,
-    /// The offset of the wrong field from the stream's start, or for 1 and 6 the bytes that were there; else 0.
+    /// The offset of the wrong field from the stream's start; for 1 and 6 how many bytes there are; else 0.
     pub detail: u64,
 }
 
@@ -51,11 +51,11 @@ pub struct Entry {
 }
 
 pub fn walk(s: &[u8]) -> Stop {
-    // A stream has fewer records than bytes: the free entries never end.
+    // A stream has fewer records than bytes, so there is always a free entry.
     go_over(s, s.len(), |_, _, _| {})
 }
 
-/// Of lists of unequal length the shortest counts.
+/// The shortest of the lists limits how many records they hold.
 pub fn number_lists(s: &[u8], places: &mut [u64], lengths: &mut [u64], kinds: &mut [u32], numbers: &mut [u32]) -> Stop {
     let free = places.len().min(lengths.len()).min(kinds.len()).min(numbers.len());
     go_over(s, free, |i, place, record| {
@@ -73,8 +73,8 @@ pub fn table(s: &[u8], entries: &mut [Entry]) -> Stop {
     })
 }
 
-/// Steps to the end, to a refused record, or to a whole record for which no entry is free (16). Hands each record found
-/// to `keep`, with its index and its place.
+/// Steps to the end, to a refused record, or to a whole record when no entry is free (16). Passes each record to
+/// `keep`, with its index and its place.
 #[inline]
 pub fn go_over(s: &[u8], free: usize, mut keep: impl FnMut(usize, usize, Record)) -> Stop {
     let mut cursor = Cursor { place: 0 };

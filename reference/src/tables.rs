@@ -1,5 +1,5 @@
-//! The table of entries has no call in scripts, so it is held to the number lists here; `table/` does the same for the
-//! proved library.
+//! Scripts have no call for the table of entries, so it is compared with the number lists here. `table/` does the
+//! same for the proved library.
 
 use crate::script::MOST_LIST;
 use crate::stream::{self, number_lists, Entry};
@@ -7,7 +7,7 @@ use crate::{ops, random};
 
 const STALE: Entry = Entry { place: 7, length: 7, kind: 7, number: 7 };
 
-/// Lends tables of several lengths for the streams of a random script; stops at the first difference.
+/// Lends tables of several lengths for the streams of a random script. Stops at the first difference.
 pub fn compare(seed: u64, count: usize) -> usize {
     let streams = random::script(seed, count).into_iter().filter(|frame| frame.op == ops::LIST_NUMBERS);
     let mut tried = 0;

@@ -1,4 +1,4 @@
-//! Tapes of medium band records, back to back: the listing of one, and samples. Request 04.
+//! Tapes of medium band records, one after the other: the listing of a tape, and samples. Request 04.
 
 use crate::idr::{self, Fields, Idr, HEADER_WORDS, LENGTH_WORD, RECORD, SAMPLES};
 use crate::sample::Sample;
@@ -18,8 +18,8 @@ pub fn reason(number: u32) -> &'static str {
     }
 }
 
-/// Lists one tape. The outer failure is that of `out`, the inner one a read that failed:
-/// then the stop is not known, and no last line is written.
+/// Lists one tape. The outer error is of `out`, the inner one of a read. After an inner error the stop is not known,
+/// and no last line is written.
 pub fn list(mut input: impl Read, out: &mut impl Write) -> io::Result<io::Result<()>> {
     let mut bytes = [0; RECORD];
     let mut place = 0u64;
@@ -41,7 +41,7 @@ pub fn list(mut input: impl Read, out: &mut impl Write) -> io::Result<io::Result
     }
 }
 
-/// Reads until the record is full or the input ends; answers how many bytes there are.
+/// Reads until the record is full or the input ends. Answers how many bytes it has.
 fn read_record(input: &mut impl Read, bytes: &mut [u8; RECORD]) -> io::Result<usize> {
     let mut length = 0;
     while length < RECORD {
@@ -55,7 +55,7 @@ fn read_record(input: &mut impl Read, bytes: &mut [u8; RECORD]) -> io::Result<us
     Ok(length)
 }
 
-/// What every record tells of itself, and where the time tag is valid the time and how the record was reduced.
+/// The line of a record: its numbers, and if the time tag is valid, the time and how the record was reduced.
 fn line(record: &Idr) -> String {
     let header = record.header;
     let origin =
@@ -126,7 +126,7 @@ fn behind_one(spoil: fn(&mut Vec<u8>)) -> Vec<u8> {
     tape
 }
 
-/// A record of day 238, 3:24 and so many seconds, whose time tag and sample count are valid.
+/// A record of day 238, 3:24 and so many seconds, with a valid time tag and sample count.
 fn tagged(number: u16, second: u16) -> Vec<u8> {
     let first_of_run = (number == 1) as u16;
     let mut words = header(number, second);
@@ -134,7 +134,7 @@ fn tagged(number: u16, second: u16) -> Vec<u8> {
     record(&words)
 }
 
-/// A record between two whole seconds: its words 6 to 28 are still those of the second before, and not valid.
+/// A record between two whole seconds. Its words 6 to 28 are those of the second before, and not valid.
 fn untagged(number: u16, second: u16) -> Vec<u8> {
     record(&header(number, second))
 }
@@ -160,7 +160,7 @@ fn header(number: u16, second: u16) -> [u16; HEADER_WORDS] {
 }
 
 fn record(words: &[u16]) -> Vec<u8> {
-    // A tone: up and down about the middle.
+    // A tone, up and down around the middle.
     let samples: Vec<u8> = (0..SAMPLES).map(|i| 96 + (i % 64).min(64 - i % 64) as u8 * 2).collect();
     let mut out = vec![0; RECORD];
     idr::write(words, &samples, &mut out).expect("a good header");

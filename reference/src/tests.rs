@@ -1,4 +1,4 @@
-//! Document 01's worked examples, and the calls held to plainer or other definitions of themselves.
+//! Document 01's worked examples, and calls compared with plainer or other definitions of themselves.
 
 use crate::book::{self, Book, Call};
 use crate::coverage::Coverage;
@@ -24,7 +24,7 @@ mod season;
 mod settings;
 mod strikes;
 
-/// A record written out by hand, from the paper's first table; `label_length` as given, the rest right.
+/// A record written by hand from the paper's first table. Its label length is as given, the rest is right.
 fn by_hand(kind: u32, label_length: u64, secondary: &[u8], data: &[u8]) -> Vec<u8> {
     let (description, aggregation, secondary_type, length) =
         if kind == TELEMETRY { (b"0800", 92u16, 78u16, 80u16) } else { (b"C997", 232, 104, 220) };
@@ -48,7 +48,7 @@ fn telemetry_by_hand(label_length: u64, data: &[u8]) -> Vec<u8> {
     by_hand(TELEMETRY, label_length, &[0; 80], data)
 }
 
-/// An RSR secondary value with every judged field in range.
+/// An RSR secondary value with every tested field in range.
 fn rsr_secondary() -> Vec<u8> {
     let mut value = vec![0; 220];
     value[14] = b'S';
@@ -167,7 +167,7 @@ fn p8_report() {
     assert_eq!(ledger::first_gap(&s), Ok(Some((3, 0))));
 }
 
-/// Reports on rows of every shape, position by position.
+/// Reports on rows of every shape, compared position by position.
 #[test]
 fn reports_are_those_of_the_positions() {
     let rng = Rng::new(6);
@@ -239,7 +239,7 @@ fn listing_example() {
     assert_eq!(listed(&s[..0]), "place length kind number\n0 0 0\n");
 }
 
-/// A reader that gives one byte at a time, and after `good` bytes fails.
+/// A reader that gives one byte at a time, and fails after `good` bytes.
 struct Slow<'a> {
     bytes: &'a [u8],
     good: usize,
@@ -273,7 +273,7 @@ fn listing_is_that_of_the_whole_stream() {
     expected += &format!("{} 17 0\n", entries[whole].place);
     assert_eq!(listed(&s[..]), expected);
     assert_eq!(listed(Slow { bytes: &s, good: usize::MAX }), expected);
-    // 17 stands before 6: the label alone is enough.
+    // 17 comes before 6: the label alone is enough.
     let label_only = &s[..entries[whole].place as usize + 20];
     assert_eq!(listed(label_only), expected);
 }
@@ -359,7 +359,7 @@ fn writer_refusals() {
     assert_eq!(record::write_one(2, [0; 4], &[0; 220], &[0; 40], &mut out), Ok(300));
 }
 
-/// The table's order: each damage is given although all later ones are there too. Type stands before length.
+/// The order of the table: each refusal is given although all later ones hold too. Type comes before length.
 #[test]
 fn the_higher_refusal_is_given() {
     let good = by_hand(RSR, 244, &rsr_secondary(), &[1, 2, 3, 4]);
@@ -522,12 +522,12 @@ fn walks_and_lists() {
     let stopped = stream::number_lists(&s, &mut places, &mut lengths, &mut kinds, &mut numbers);
     assert_eq!(stopped, stop(2, 382, 16, 0));
     assert_eq!((places, lengths, kinds, numbers), ([0, 120, 9], [120, 262], [1, 2, 9, 9], [0, 0, 9]));
-    // No entry is free, but no whole record stands there either.
+    // No entry is free, but there is no whole record either.
     assert_eq!(stream::table(&s[382..440], &mut []), stop(0, 0, 6, 58));
     assert_eq!(stream::table(&[], &mut []), stop(0, 0, 0, 0));
 }
 
-/// Request 12: an entry for each 120 bytes of the stream, or for each 260 where all is RSR, is enough; one less is not.
+/// Request 12: one entry for each 120 bytes of the stream, or for each 260 if all is RSR, is enough; one less is not.
 #[test]
 fn how_long_a_list_must_be() {
     let rng = Rng::new(12);
@@ -565,7 +565,7 @@ fn how_long_a_list_must_be() {
     assert!(full > 150);
 }
 
-/// The book's call that a frame makes, if it is one.
+/// The call of the book that a frame makes, if it makes one.
 fn call_of(f: &Frame) -> Option<Call> {
     match f.op {
         ops::ENROL => Some(Call::Enrol(f.key, f.x)),
@@ -579,7 +579,7 @@ fn call_of(f: &Frame) -> Option<Call> {
     }
 }
 
-/// Plays random scripts on the sheet and, from each fresh or right sheet on, on the plain book.
+/// Runs random scripts on the sheet and, from each fresh or right sheet on, on the plain book.
 #[test]
 fn the_ledger_is_the_book_laid_out() {
     let mut compared = 0;
@@ -596,7 +596,8 @@ fn the_ledger_is_the_book_laid_out() {
                     assert_eq!(ledger::is_sheet(&calls.sheet), book.is_some());
                 }
                 ops::FRESH if calls.sheet.len() == 6_968 => book = Some(Book::new()),
-                // What a replay leaves is held to the book in tests/replay.rs, and what a receive leaves in tests/receive.rs.
+                // tests/replay.rs compares what a replay leaves with the book, and tests/receive.rs what a receive
+                // leaves.
                 ops::REPLAY | ops::REPLAY_ON | ops::RECEIVE => book = Book::of_sheet(&calls.sheet),
                 ops::CONVERT => {
                     book = Book::of_sheet_as(&book::OLD, &f.a).filter(|_| f.z == 6_968);
@@ -632,7 +633,7 @@ fn the_ledger_is_the_book_laid_out() {
     assert!(compared > 5_000);
 }
 
-/// Request 09; and that the desk's saves have to be left out.
+/// Request 09; and that the law needs that the desk makes no save.
 #[test]
 fn what_is_not_saved_is_not_told() {
     let tried = privacy::try_pairs(1, 3_000, false);
@@ -650,8 +651,8 @@ fn a_fresh_sheet_judges_only_the_length() {
     assert_eq!(fresh(), Book::new().laid_out());
 }
 
-/// Every bit changed, of a fresh sheet, one with a desk open, one with every row used and desk open, and one with free rows
-/// between: right only where that is a book laid out.
+/// Changes every bit of a fresh sheet, of one with a desk open, of one with every row used and desk open, and of one
+/// with free rows between: the sheet is right only if it is the layout of a book.
 #[test]
 fn every_bit_of_a_sheet_counts() {
     let mut underway = one_row(1);

@@ -1,4 +1,5 @@
-//! Sample sheets that are none (20): for each clause of a right sheet, and each number that it names, one that is wrong there alone.
+//! Sample sheets that are not right (20): for each clause of a right sheet, and each number in it, a sheet that is
+//! wrong only there.
 
 use crate::keys::PAST_RSR;
 use crate::ledger::{self, desk_place, row_place, FIRST, KEY, OPENED, ROWS_USED, ROW_NAMED, TICKS, WORKED};
@@ -62,7 +63,7 @@ pub static SHEETS: [Sample; 19] = [
     }),
 ];
 
-/// The night's sheet with desk 3 closed, so that no desk has row 2 open; and what is done to it.
+/// The night's sheet with desk 3 closed, so that no desk has row 2 open; `spoil` then changes it.
 fn wrong(spoil: fn(&mut Vec<u8>)) -> Vec<u8> {
     let mut s = right();
     spoil(&mut s);

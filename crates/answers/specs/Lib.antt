@@ -1,4 +1,6 @@
--- What the contracts of `answers` cite.
+-- The definitions that contracts of `answers` cite.
+pub mod Dates
 pub mod Numbers
-pub mod Seasons
+pub mod Streams
+pub mod Tapes
 pub mod inner

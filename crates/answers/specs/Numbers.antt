@@ -1,9 +1,9 @@
--- Document 02, Req 06: the numbers of an answer. First the refusal's number or 0; behind it the answer's numbers as the papers order them,
--- those that Req 01 adds at their end. A none is all ones in each of its numbers, Px/No two's complement; zeros fill the rest. Assumes nothing.
+-- Document 02, Req 06: the numbers of an answer. First comes the refusal's number or 0, then the answer's numbers in the order of the papers, with
+-- those that Req 01 adds at their end. Each number of a none is all ones; Px/No is in two's complement; zeros fill the rest. Assumes nothing.
 -- The manual, docs/INTERFACE.md: "Calls from C".
 use Prim.Native.Nat.{ℕ, _-_}
-use mathlib.Core.Bool.{cond}
-use mathlib.Core.List.{List, [], _++_, map}
+use mathlib.Core.Bool.{Bool, cond}
+use mathlib.Core.List.{List, [], _∷_, _++_, map}
 use lib.Dec.{eqb}
 use lib.IntN.{ℤ, pos, negsuc}
 use lib.ListN.{length, getD, replicate}
@@ -17,7 +17,7 @@ numberCount = 32
 abbrev pub allOnes : ℕ
 allOnes = 18446744073709551615
 
--- A number below zero, of which the first is -1, has the bits that the numbers from 0 on have, each inverted.
+-- A negative number has the inverted bits of its distance from -1.
 abbrev pub twosComplement : ℤ → ℕ
 twosComplement (pos n) = n
 twosComplement (negsuc n) = allOnes - n
@@ -27,17 +27,31 @@ valueOf (number n) = n
 valueOf (signed z) = twosComplement z
 valueOf none = allOnes
 
--- The numbers of an answer's words, and zeros up to so many; and of an answer that is exported.
+-- The numbers of an answer's words, filled with zeros to n numbers; and to the 32 numbers of an exported answer.
 abbrev pub numbersIn : ℕ → List Word → List ℕ
 numbersIn size words = map valueOf words ++ replicate (size - length words) 0
 
 abbrev pub numbersOf : List Word → List ℕ
 numbersOf words = numbersIn numberCount words
 
--- The words of an answer that no none stands in.
+-- The words of an answer without a none.
 abbrev pub plain : List ℕ → List Word
 plain words = map number words
 
--- The words of an answer that, accepted, has so many numbers: those of a none, which the ledger's words leave out, stand last.
+-- The words of an answer that has n numbers if it is accepted. The ledger's words leave a none out; here it fills the last of the n.
 abbrev pub withNone : ℕ → List ℕ → List Word
 withNone size words = plain words ++ cond (eqb (getD words 0 0) 0) (replicate (size - length words) none) []
+
+-- The words of a call that is never refused: 0, and what it answers; a number; a test, 1 where it holds; a part of a lent slice, by the place
+-- where it starts and its length.
+abbrev pub given : List ℕ → List Word
+given numbers = plain (0 ∷ numbers)
+
+abbrev pub counted : ℕ → List Word
+counted n = given (n ∷ [])
+
+abbrev pub flagged : Bool → List Word
+flagged holds = given (cond holds 1 0 ∷ [])
+
+abbrev pub placed : (start : ℕ) (part : List ℕ) → List Word
+placed start part = given (start ∷ length part ∷ [])

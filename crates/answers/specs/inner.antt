@@ -1,2 +1,3 @@
+pub mod Dates
 pub mod Numbers
-pub mod Seasons
+pub mod Parts

@@ -1,43 +1,47 @@
-// The numbers of an answer, for whoever exports, prints or times it (document 02, Req 06): the refusal's number, or 0 and the answer's
-// numbers in the papers' order; zeros behind them. Most answers have a few numbers, which are handed out without the zeros.
-pub mod agreements;
-pub mod ledgers;
-pub mod nights;
+// The numbers of an answer, for crates that export, print or time it (document 02, Req 06): the refusal's number, or 0 and the answer's numbers in
+// the order of the papers, then zeros. Most answers have a few numbers; these are given without the zeros.
 pub mod places;
 pub mod receivers;
+pub mod record_parts;
 pub mod records;
-pub mod seasons;
+pub mod setting;
 pub mod streams;
 pub mod tapes;
 
+use dates::CountAnswer;
 use dates::DateAnswer;
 use keys::KeyAnswer;
 use keys::KeyParts;
+use refusal_words::Text;
 use refusals::Refusal;
 use sfdu::Fault;
 use sfdu::nesting;
+ghost use mathlib.Core.Bool.{cond};
 ghost use mathlib.Core.List.{[], _∷_};
+ghost use mathlib.Core.Path.{_≡_};
 ghost use Rattle.refusals.specs.Table.{numberOf};
 ghost use Rattle.sfdu.specs.Read.{faultWords};
 ghost use Rattle.dates.specs.Answers as Dates;
 ghost use Rattle.keys.specs.Words as Keys;
-ghost use Rattle.answers.specs.Numbers.{plain};
+ghost use Rattle.refusal_words.specs.Written as Texts;
+ghost use Rattle.answers.specs.Numbers.{plain, counted, flagged};
+ghost use Rattle.answers.specs.inner.Dates.{countWords};
 ghost use Rattle.answers.specs.inner.Numbers.{Few, Numbers};
 
-// How many numbers an answer has, and how many bytes each.
+// How many numbers an answer has, how many bytes each number has, and how many bytes an answer has.
 pub const NUMBERS: usize = 32;
 
 pub const NUMBER: usize = 8;
 
 pub const ANSWER: usize = NUMBER * NUMBERS;
 
-// How many numbers the longest answer but read headers' and the season's has.
+// The most numbers that an answer has, except those of read headers and the season.
 pub const FEW: usize = 4;
 
 // Each number of a none: all its bits are ones.
 pub const NONE: u64 = 18446744073709551615;
 
-// A refusal that no number goes with.
+// A refusal without a second number.
 pub fn refused(why: Refusal) -> [u64; FEW]
     ensures { λ r. ⌜ Few r (plain (numberOf why ∷ [])) ⌝ }
 {
@@ -46,7 +50,16 @@ pub fn refused(why: Refusal) -> [u64; FEW]
     numbers
 }
 
-// A refusal of a record, and the offset or the count that goes with it.
+// 0 and one number.
+pub fn count(n: u64) -> [u64; FEW]
+    ensures { λ r. ⌜ Few r (counted n) ⌝ }
+{
+    let mut numbers = [0u64; FEW];
+    numbers[places::COUNT] = n;
+    numbers
+}
+
+// A refusal of a record, and its second number.
 pub fn wrong(fault: Fault) -> [u64; FEW]
     ensures { λ r. ⌜ Few r (plain (faultWords fault)) ⌝ }
 {
@@ -55,6 +68,20 @@ pub fn wrong(fault: Fault) -> [u64; FEW]
     numbers[places::REFUSAL] = refusals::number(refusal) as u64;
     numbers[places::FAULT] = fault.at as u64;
     numbers
+}
+
+// A refusal's text: how many bytes it has.
+pub fn text(answer: Text) -> [u64; FEW]
+    ensures { λ r. ⌜ Few r (plain (Texts.wordsOf answer)) ⌝ }
+{
+    match answer {
+        Text::Bytes(n) => {
+            let mut numbers = [0u64; FEW];
+            numbers[places::TEXT_LENGTH] = n as u64;
+            numbers
+        }
+        Text::Refused(why) => refused(why),
+    }
 }
 
 pub fn key(answer: KeyAnswer) -> [u64; FEW]
@@ -68,6 +95,43 @@ pub fn key(answer: KeyAnswer) -> [u64; FEW]
         }
         KeyAnswer::Refused(why) => refused(why),
     }
+}
+
+// 1 for true, 0 for false.
+pub(crate) fn flag(holds: bool) -> u64
+    ensures { λ r. ⌜ r ≡ cond holds 1 0 ⌝ }
+{
+    if holds {
+        return 1;
+    }
+    0
+}
+
+// Whether a key is one that a stream can have.
+pub fn key_valid(holds: bool) -> [u64; FEW]
+    ensures { λ r. ⌜ Few r (flagged holds) ⌝ }
+{
+    let mut numbers = [0u64; FEW];
+    numbers[places::KEY_VALID] = flag(holds);
+    numbers
+}
+
+// A day count, or a none.
+pub fn day_count(answer: CountAnswer) -> [u64; FEW]
+    ensures { λ r. ⌜ Few r (countWords answer) ⌝ }
+{
+    match answer {
+        CountAnswer::Day(n) => counted_day(n as u64),
+        CountAnswer::NotADate => counted_day(NONE),
+    }
+}
+
+fn counted_day(n: u64) -> [u64; FEW]
+    ensures { λ r. ⌜ Few r (counted n) ⌝ }
+{
+    let mut numbers = [0u64; FEW];
+    numbers[places::DAY_COUNT] = n;
+    numbers
 }
 
 pub fn date(answer: DateAnswer) -> [u64; FEW]
@@ -84,7 +148,7 @@ pub fn date(answer: DateAnswer) -> [u64; FEW]
     }
 }
 
-// A refusal that no number goes with, among all numbers of an answer.
+// A refusal without a second number, as all 32 numbers of an answer.
 pub fn refused_alone(why: Refusal) -> [u64; NUMBERS]
     ensures { λ r. ⌜ Numbers r (plain (numberOf why ∷ [])) ⌝ }
 {
@@ -93,7 +157,7 @@ pub fn refused_alone(why: Refusal) -> [u64; NUMBERS]
     numbers
 }
 
-// A key taken apart: its kind and its four numbers.
+// The parts of a key: its kind and its four numbers.
 pub fn parts(answer: KeyParts) -> [u64; NUMBERS]
     ensures { λ r. ⌜ Numbers r (plain (Keys.partsWords answer)) ⌝ }
 {
@@ -126,8 +190,8 @@ pub fn parts(answer: KeyParts) -> [u64; NUMBERS]
     }
 }
 
-// Five numbers behind the 0.
-pub(crate) fn five(a: u64, b: u64, c: u64, d: u64, e: u64) -> [u64; NUMBERS]
+// 0 and five numbers.
+pub fn five(a: u64, b: u64, c: u64, d: u64, e: u64) -> [u64; NUMBERS]
     ensures { λ r. ⌜ Numbers r (plain (0 ∷ a ∷ b ∷ c ∷ d ∷ e ∷ [])) ⌝ }
 {
     let mut numbers = [0u64; NUMBERS];

@@ -1,4 +1,4 @@
-// The numbers of what the calls on RSR records answer: the gain multiplier, samples.
+// The numbers of the answers of the calls on RSR records: the gain multiplier, samples.
 use crate::FEW;
 use crate::NONE;
 use crate::places;

@@ -1,4 +1,4 @@
-// The numbers of what reading headers finds.
+// The numbers of the answer of read headers.
 use crate::NONE;
 use crate::NUMBERS;
 use crate::places;
@@ -46,7 +46,7 @@ pub fn headers(found: sfdu_headers::Headers) -> [u64; NUMBERS]
     }
 }
 
-// A refusal, and the offset or the count that goes with it.
+// A refusal, and its second number.
 pub(crate) fn wrong(fault: Fault) -> [u64; NUMBERS]
     ensures { λ r. ⌜ Numbers r (plain (faultWords fault)) ⌝ }
 {
@@ -66,7 +66,7 @@ fn band(band: sfdu_headers::Band) -> u64
     }
 }
 
-// In two's complement of 64 bits.
+// A signed number in two's complement of 64 bits.
 fn two(z: i8) -> u64
     ensures { λ r. ⌜ r ≡ valueOf (signed z) ⌝ }
 {
@@ -82,7 +82,7 @@ fn expected(signal: sfdu_headers::RsrSignal) -> u64
     two(signal.expected)
 }
 
-// What both kinds begin with, and all that reading one record finds.
+// The first numbers of both kinds, which are also the whole answer of read one.
 pub fn record(kind: Kind, size: usize, primary: Primary) -> [u64; NUMBERS]
     ensures { λ r. ⌜ r ≡ numbersOf (number 0 ∷ number (kindNumber kind) ∷ number size ∷ map number (primaryWords primary)) ⌝ }
 {

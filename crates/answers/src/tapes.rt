@@ -1,191 +1,222 @@
-// The numbers of what reading a medium band record finds, as a line of a call script has them: more than an exported answer has, and without
-// the tape type, for which that line has no place.
+// The numbers of a medium band record. It has more fields than an answer has numbers, so two calls give them.
+use crate::FEW;
 use crate::NONE;
+use crate::NUMBERS;
 use crate::places;
 ghost use mathlib.Core.Path.{_≡_};
 ghost use mathlib.Core.List.{[], _∷_};
+ghost use lib.ListN.{replicate};
 ghost use lib.Seq.{sets};
-ghost use Rattle.idr.specs.declared.Read.the-variants.{Untagged};
-ghost use Rattle.idr.specs.Read.{originWords, timeWords, recorderWords, reductionWords, statusWords};
-ghost use Rattle.answers.specs.Numbers.{numbersIn, withNone};
-ghost use Rattle.answers.specs.inner.Numbers.{without, lineWords, tapeCount, countNumber};
+ghost use Rattle.idr.specs.Read.{wordsOf, originWords, timeWords, recorderWords, reductionWords, statusWords};
+ghost use Rattle.idr.specs.Rules.{outcomeNumber};
+ghost use Rattle.answers.specs.Numbers.{plain};
+ghost use Rattle.answers.specs.Tapes as Fields;
+ghost use Rattle.answers.specs.inner.Numbers.{Few, Numbers, countNumber};
 
-// How many numbers they are.
-pub const FIELDS: usize = 34;
+// The answer of a call that only writes.
+pub fn outcome(answer: idr::Outcome) -> [u64; FEW]
+    ensures { λ r. ⌜ Few r (plain (outcomeNumber answer ∷ [])) ⌝ }
+{
+    match answer {
+        idr::Outcome::Accepted => [0u64; FEW],
+        idr::Outcome::Refused(why) => crate::refused(why),
+    }
+}
 
-// Where each of them stands, behind the refusal's number or 0.
-pub const FIRST: usize = 1;
-
-pub const SOURCE_ERROR: usize = 2;
-
-pub const TAPE: usize = 3;
-
-pub const NUMBER: usize = 4;
-
-pub const SPACECRAFT: usize = 5;
-
-pub const STATION: usize = 6;
-
-pub const DRA_TAPE: usize = 7;
-
-pub const DAY: usize = 8;
-
-pub const HOUR: usize = 9;
-
-pub const MINUTE: usize = 10;
-
-pub const SECOND: usize = 11;
-
-pub const MICROS: usize = 12;
-
-pub const INPUT: usize = 13;
-
-pub const PPS_ABSENT: usize = 14;
-
-pub const CLOCK_UNSYNCED: usize = 15;
-
-pub const RECORDER_B: usize = 16;
-
-pub const MICROS_ABNORMAL: usize = 17;
-
-pub const TRACK_SYNCED: usize = 18;
-
-pub const PLAYBACK: usize = 19;
-
-pub const SAMPLING: usize = 20;
-
-pub const BYPASS: usize = 21;
-
-pub const DECIMATION: usize = 22;
-
-pub const PPS_TRACK: usize = 23;
-
-pub const TIME_TRACK: usize = 24;
-
-pub const CHANNEL: usize = 25;
-
-pub const BLOCK: usize = 26;
-
-pub const REDUCED_DAY: usize = 27;
-
-pub const REDUCED_SECOND: usize = 28;
-
-pub const OVERFLOW: usize = 29;
-
-pub const PPS_UNSYNCED: usize = 30;
-
-pub const BIT_SLIP: usize = 31;
-
-pub const COUNTER: usize = 32;
-
-pub const COUNT: usize = 33;
-
-pub fn record(found: idr::Read) -> [u64; FIELDS]
-    ensures { λ r. ⌜ r ≡ numbersIn tapeCount (withNone tapeCount (lineWords found)) ⌝ }
+// The record's source, its time tag and the recorder.
+pub fn origin(found: idr::Read) -> [u64; NUMBERS]
+    ensures { λ r. ⌜ Numbers r (Fields.origin (wordsOf found)) ⌝ }
 {
     match found {
         idr::Read::Tagged {
             origin,
             time,
             recorder,
-            reduction,
-            status,
-            count,
-        } => {
-            let timed = with_time(with_origin([0u64; FIELDS], origin), time);
-            let reduced = with_reduction(with_recorder(timed, recorder), reduction);
-            with_count(with_status(reduced, status), count)
-        }
-        idr::Read::Untagged => untagged(),
-        idr::Read::Refused(why) => {
-            let mut numbers = [0u64; FIELDS];
-            numbers[places::REFUSAL] = refusals::number(why) as u64;
-            numbers
-        }
+            reduction: _,
+            status: _,
+            count: _,
+        } => with_recorder(
+            with_time(with_origin([0u64; NUMBERS], origin), time),
+            recorder,
+        ),
+        idr::Read::Untagged => no_origin(),
+        idr::Read::Refused(why) => crate::refused_alone(why),
     }
 }
 
-// No field is given.
-fn untagged() -> [u64; FIELDS]
-    ensures { λ r. ⌜ r ≡ numbersIn tapeCount (withNone tapeCount (lineWords Untagged)) ⌝ }
+// A medium band record: how it was reduced, and how many samples it has.
+pub fn reduction(found: idr::Read) -> [u64; NUMBERS]
+    ensures { λ r. ⌜ Numbers r (Fields.reduction (wordsOf found)) ⌝ }
 {
-    let mut numbers = [NONE; FIELDS];
-    numbers[places::REFUSAL] = 0;
+    match found {
+        idr::Read::Tagged {
+            origin: _,
+            time: _,
+            recorder: _,
+            reduction,
+            status,
+            count,
+        } => with_count(
+            with_status(with_reduction([0u64; NUMBERS], reduction), status),
+            count,
+        ),
+        idr::Read::Untagged => no_reduction(),
+        idr::Read::Refused(why) => crate::refused_alone(why),
+    }
+}
+
+// The numbers of a record whose time tag is not valid: 0, nones for the fields, then zeros.
+fn no_origin() -> [u64; NUMBERS]
+    ensures { λ r. ⌜ r ≡ sets (replicate 32 0) 1 (replicate 19 18446744073709551615) ⌝ }
+{
+    [
+        0,
+        NONE,
+        NONE,
+        NONE,
+        NONE,
+        NONE,
+        NONE,
+        NONE,
+        NONE,
+        NONE,
+        NONE,
+        NONE,
+        NONE,
+        NONE,
+        NONE,
+        NONE,
+        NONE,
+        NONE,
+        NONE,
+        NONE,
+        0,
+        0,
+        0,
+        0,
+        0,
+        0,
+        0,
+        0,
+        0,
+        0,
+        0,
+        0,
+    ]
+}
+
+fn no_reduction() -> [u64; NUMBERS]
+    ensures { λ r. ⌜ r ≡ sets (replicate 32 0) 1 (replicate 15 18446744073709551615) ⌝ }
+{
+    [
+        0,
+        NONE,
+        NONE,
+        NONE,
+        NONE,
+        NONE,
+        NONE,
+        NONE,
+        NONE,
+        NONE,
+        NONE,
+        NONE,
+        NONE,
+        NONE,
+        NONE,
+        NONE,
+        0,
+        0,
+        0,
+        0,
+        0,
+        0,
+        0,
+        0,
+        0,
+        0,
+        0,
+        0,
+        0,
+        0,
+        0,
+        0,
+    ]
+}
+
+fn with_origin(begun: [u64; NUMBERS], origin: idr::Origin) -> [u64; NUMBERS]
+    ensures { λ r. ⌜ r ≡ sets begun 1 (originWords origin) ⌝ }
+{
+    let mut numbers = begun;
+    numbers[places::TAPE_FIRST] = origin.first as u64;
+    numbers[places::TAPE_SOURCE_ERROR] = origin.source_error as u64;
+    numbers[places::TAPE_TYPE] = origin.tape_type as u64;
+    numbers[places::TAPE_TAPE] = origin.tape as u64;
+    numbers[places::TAPE_NUMBER] = origin.number as u64;
+    numbers[places::TAPE_SPACECRAFT] = origin.spacecraft as u64;
+    numbers[places::TAPE_STATION] = origin.station as u64;
+    numbers[places::TAPE_DRA_TAPE] = origin.dra_tape as u64;
     numbers
 }
 
-fn with_origin(begun: [u64; FIELDS], origin: idr::Origin) -> [u64; FIELDS]
-    ensures { λ r. ⌜ r ≡ sets begun 1 (without 2 (originWords origin)) ⌝ }
+fn with_time(begun: [u64; NUMBERS], time: idr::Time) -> [u64; NUMBERS]
+    ensures { λ r. ⌜ r ≡ sets begun 9 (timeWords time) ⌝ }
 {
     let mut numbers = begun;
-    numbers[FIRST] = origin.first as u64;
-    numbers[SOURCE_ERROR] = origin.source_error as u64;
-    numbers[TAPE] = origin.tape as u64;
-    numbers[NUMBER] = origin.number as u64;
-    numbers[SPACECRAFT] = origin.spacecraft as u64;
-    numbers[STATION] = origin.station as u64;
-    numbers[DRA_TAPE] = origin.dra_tape as u64;
+    numbers[places::TAPE_DAY] = time.day as u64;
+    numbers[places::TAPE_HOUR] = time.hour as u64;
+    numbers[places::TAPE_MINUTE] = time.minute as u64;
+    numbers[places::TAPE_SECOND] = time.second as u64;
+    numbers[places::TAPE_MICROS] = time.micros as u64;
     numbers
 }
 
-fn with_time(begun: [u64; FIELDS], time: idr::Time) -> [u64; FIELDS]
-    ensures { λ r. ⌜ r ≡ sets begun 8 (timeWords time) ⌝ }
+fn with_recorder(begun: [u64; NUMBERS], recorder: idr::Recorder) -> [u64; NUMBERS]
+    ensures { λ r. ⌜ r ≡ sets begun 14 (recorderWords recorder) ⌝ }
 {
     let mut numbers = begun;
-    numbers[DAY] = time.day as u64;
-    numbers[HOUR] = time.hour as u64;
-    numbers[MINUTE] = time.minute as u64;
-    numbers[SECOND] = time.second as u64;
-    numbers[MICROS] = time.micros as u64;
+    numbers[places::TAPE_INPUT] = recorder.input as u64;
+    numbers[places::TAPE_PPS_ABSENT] = recorder.pps_absent as u64;
+    numbers[places::TAPE_CLOCK_UNSYNCED] = recorder.clock_unsynced as u64;
+    numbers[places::TAPE_RECORDER_B] = recorder.recorder_b as u64;
+    numbers[places::TAPE_MICROS_ABNORMAL] = recorder.micros_abnormal as u64;
+    numbers[places::TAPE_TRACK_SYNCED] = recorder.track_synced as u64;
     numbers
 }
 
-fn with_recorder(begun: [u64; FIELDS], recorder: idr::Recorder) -> [u64; FIELDS]
-    ensures { λ r. ⌜ r ≡ sets begun 13 (recorderWords recorder) ⌝ }
+fn with_reduction(begun: [u64; NUMBERS], reduction: idr::Reduction) -> [u64; NUMBERS]
+    ensures { λ r. ⌜ r ≡ sets begun 1 (reductionWords reduction) ⌝ }
 {
     let mut numbers = begun;
-    numbers[INPUT] = recorder.input as u64;
-    numbers[PPS_ABSENT] = recorder.pps_absent as u64;
-    numbers[CLOCK_UNSYNCED] = recorder.clock_unsynced as u64;
-    numbers[RECORDER_B] = recorder.recorder_b as u64;
-    numbers[MICROS_ABNORMAL] = recorder.micros_abnormal as u64;
-    numbers[TRACK_SYNCED] = recorder.track_synced as u64;
+    numbers[places::TAPE_PLAYBACK] = reduction.playback as u64;
+    numbers[places::TAPE_SAMPLING] = reduction.sampling as u64;
+    numbers[places::TAPE_BYPASS] = reduction.bypass as u64;
+    numbers[places::TAPE_DECIMATION] = reduction.decimation as u64;
+    numbers[places::TAPE_PPS_TRACK] = reduction.pps_track as u64;
+    numbers[places::TAPE_TIME_TRACK] = reduction.time_track as u64;
+    numbers[places::TAPE_CHANNEL] = reduction.channel as u64;
+    numbers[places::TAPE_BLOCK] = reduction.block as u64;
     numbers
 }
 
-fn with_reduction(begun: [u64; FIELDS], reduction: idr::Reduction) -> [u64; FIELDS]
-    ensures { λ r. ⌜ r ≡ sets begun 19 (reductionWords reduction) ⌝ }
+fn with_status(begun: [u64; NUMBERS], status: idr::Status) -> [u64; NUMBERS]
+    ensures { λ r. ⌜ r ≡ sets begun 9 (statusWords status) ⌝ }
 {
     let mut numbers = begun;
-    numbers[PLAYBACK] = reduction.playback as u64;
-    numbers[SAMPLING] = reduction.sampling as u64;
-    numbers[BYPASS] = reduction.bypass as u64;
-    numbers[DECIMATION] = reduction.decimation as u64;
-    numbers[PPS_TRACK] = reduction.pps_track as u64;
-    numbers[TIME_TRACK] = reduction.time_track as u64;
-    numbers[CHANNEL] = reduction.channel as u64;
-    numbers[BLOCK] = reduction.block as u64;
+    numbers[places::TAPE_REDUCED_DAY] = status.day as u64;
+    numbers[places::TAPE_REDUCED_SECOND] = status.second as u64;
+    numbers[places::TAPE_OVERFLOW] = status.overflow as u64;
+    numbers[places::TAPE_PPS_UNSYNCED] = status.pps_unsynced as u64;
+    numbers[places::TAPE_BIT_SLIP] = status.bit_slip as u64;
+    numbers[places::TAPE_COUNTER] = status.counter as u64;
     numbers
 }
 
-fn with_status(begun: [u64; FIELDS], status: idr::Status) -> [u64; FIELDS]
-    ensures { λ r. ⌜ r ≡ sets begun 27 (statusWords status) ⌝ }
+fn with_count(begun: [u64; NUMBERS], count: idr::Count) -> [u64; NUMBERS]
+    ensures { λ r. ⌜ r ≡ sets begun 15 (countNumber count ∷ []) ⌝ }
 {
     let mut numbers = begun;
-    numbers[REDUCED_DAY] = status.day as u64;
-    numbers[REDUCED_SECOND] = status.second as u64;
-    numbers[OVERFLOW] = status.overflow as u64;
-    numbers[PPS_UNSYNCED] = status.pps_unsynced as u64;
-    numbers[BIT_SLIP] = status.bit_slip as u64;
-    numbers[COUNTER] = status.counter as u64;
-    numbers
-}
-
-fn with_count(begun: [u64; FIELDS], count: idr::Count) -> [u64; FIELDS]
-    ensures { λ r. ⌜ r ≡ sets begun 33 (countNumber count ∷ []) ⌝ }
-{
-    let mut numbers = begun;
-    numbers[COUNT] = count_number(count);
+    numbers[places::TAPE_COUNT] = count_number(count);
     numbers
 }
 

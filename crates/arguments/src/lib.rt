@@ -1,5 +1,5 @@
-// The arguments of a program: whether they ask for files alone, for help, or for an option that it does not have; and the files that
-// they name. (Proved safe and ending; what is answered is tried by the programs' own runs.)
+// The arguments of a program: whether they ask for files only, for help, or for an option that the program does not have; and the files that they
+// name. (Proved: it is safe and ends. Its answers are tested by running the programs.)
 ghost use Rattle.io.specs.Counts.{Counts};
 
 pub enum Asked {
@@ -8,50 +8,50 @@ pub enum Asked {
     Unknown,
 }
 
-// A file that an argument names: its descriptor, below 0 where it could not be opened, and how long its name is.
+// A file that an argument names: its descriptor, which is below 0 if it could not be opened, and the length of its name.
 pub struct Opened {
     pub fd: i32,
     pub size: usize,
 }
 
-// No option: it is too short for one.
+// No program has this option: a single '-' is too short for one.
 const NO_OPTION: [u8; 1] = *b"-";
 
-fn is_word(word: &[u8], other: &[u8]) -> bool {
-    if word.len() != other.len() {
+fn is_text(argument: &[u8], other: &[u8]) -> bool {
+    if argument.len() != other.len() {
         return false;
     }
-    octets::is_same(word, 0, other, 0, other.len())
+    octets::is_same(argument, 0, other, 0, other.len())
 }
 
-// A word that begins with '-' and has more behind it is an option.
-fn asked_by(word: &[u8], own: &[u8]) -> Asked {
-    if word.len() < 2 {
+// What an argument asks for. It is an option if it begins with '-' and is longer than that.
+fn asked_by(argument: &[u8], own: &[u8]) -> Asked {
+    if argument.len() < 2 {
         return Asked::Files;
     }
-    if word[0] != b'-' {
+    if argument[0] != b'-' {
         return Asked::Files;
     }
-    if is_word(word, own) {
+    if is_text(argument, own) {
         return Asked::Files;
     }
-    if is_word(word, b"--help") {
+    if is_text(argument, b"--help") {
         return Asked::Help;
     }
     Asked::Unknown
 }
 
 fn asked_at(i: usize, own: &[u8]) -> Asked {
-    let mut word = io::buffer();
-    let n = os::arg(i, &mut word);
-    asked_by(&word[..n], own)
+    let mut argument = io::buffer();
+    let n = os::arg(i, &mut argument);
+    asked_by(&argument[..n], own)
 }
 
-// Whether argument i is that word.
+// Whether argument i is these bytes.
 pub fn is_at(i: usize, other: &[u8]) -> bool {
-    let mut word = io::buffer();
-    let n = os::arg(i, &mut word);
-    is_word(&word[..n], other)
+    let mut argument = io::buffer();
+    let n = os::arg(i, &mut argument);
+    is_text(&argument[..n], other)
 }
 
 // The first option among the arguments.
@@ -59,7 +59,7 @@ pub fn first_option(count: usize) -> Asked {
     first_option_but(count, &NO_OPTION)
 }
 
-// The first that is not the program's own.
+// The first option among the arguments that is not the program's own.
 pub fn first_option_but(count: usize, own: &[u8]) -> Asked {
     let mut i = 1;
     while i < count {
@@ -78,12 +78,12 @@ pub fn first_option_but(count: usize, own: &[u8]) -> Asked {
     Asked::Files
 }
 
-// How many of the arguments are that word.
-pub fn how_many(count: usize, word: &[u8]) -> usize {
+// How many of the arguments are these bytes.
+pub fn how_many(count: usize, argument: &[u8]) -> usize {
     let mut found = 0;
     let mut i = 1;
     while i < count {
-        if is_at(i, word) {
+        if is_at(i, argument) {
             found += 1;
         }
         i += 1;
@@ -91,7 +91,7 @@ pub fn how_many(count: usize, word: &[u8]) -> usize {
     found
 }
 
-// Opens the file that argument i names, and puts its name at the start of `path`. Where it cannot it says so on standard error.
+// Opens the file that argument i names, and copies its name to the start of `path`. If it cannot open the file, it says so on standard error.
 pub fn open_at(i: usize, path: &mut [u8]) -> Opened
     ensures { λ r. ⌜ Counts (r .size) (now (path .exit)) ⌝ }
 {

@@ -1,7 +1,7 @@
-// Calls whose answers are a few numbers: these, one on the other.
-use answers::agreements;
-use answers::ledgers;
+// Calls whose answers are a few numbers. Each gives the exclusive or of them.
 use answers::receivers;
+use answers::setting;
+use ledger_answers::ledgers;
 use ledger_season::SheetCounts;
 ghost use mathlib.Core.Path.{_≡_};
 ghost use Rattle.keys.specs.Key.{telemetryKeyCall};
@@ -13,7 +13,7 @@ ghost use Rattle.ledger_season.specs.Season.{season, countsWords};
 ghost use Rattle.answers.specs.Numbers.{numbersOf, plain};
 ghost use Rattle.bench.specs.inner.Digest.{fewOnto, countsOnto, seasonOnto};
 
-fn onto(numbers: [u64; answers::FEW]) -> u64
+pub(crate) fn onto(numbers: [u64; answers::FEW]) -> u64
     ensures { λ r. ⌜ r ≡ fewOnto numbers ⌝ }
 {
     numbers[0] ^ (numbers[1] ^ (numbers[2] ^ numbers[3]))
@@ -35,7 +35,7 @@ pub extern "C" fn bench_telemetry_key(
 pub extern "C" fn bench_settings_ask(s: &[u8], mission: u8, day: u32) -> u64
     ensures { λ r. ⌜ r ≡ fewOnto (numbersOf (plain (onSheet (ask mission day) (now (s .entry)) .0))) ⌝ }
 {
-    onto(agreements::asked(settings::ask(s, mission, day)))
+    onto(setting::asked(settings::ask(s, mission, day)))
 }
 
 #[no_mangle]
@@ -49,7 +49,7 @@ pub extern "C" fn bench_settings_add(
     ensures { λ r. ⌜ r ≡ fewOnto (numbersOf (plain (onSheet (add mission edition day frame) (now (s .entry)) .0))) ⌝ }
     ensures { λ _. ⌜ now (s .exit) ≡ onSheet (add mission edition day frame) (now (s .entry)) .1 ⌝ }
 {
-    onto(agreements::answer(settings::add(s, mission, edition, day, frame)))
+    onto(setting::answer(settings::add(s, mission, edition, day, frame)))
 }
 
 #[no_mangle]
@@ -67,7 +67,7 @@ pub extern "C" fn bench_convert(old: &[u8], new: &mut [u8]) -> u64
     onto(ledgers::answer(ledger_convert::convert(old, new)))
 }
 
-// How many sheets the season has and its counts in all, one on the other.
+// The exclusive or of the season's number of sheets and its counts in all.
 #[no_mangle]
 pub extern "C" fn bench_season(s: &[u8]) -> u64
     ensures { λ r. ⌜ r ≡ seasonOnto (season (now (s .entry))) ⌝ }

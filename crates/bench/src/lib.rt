@@ -1,8 +1,10 @@
-// The calls that `reference bench` times, for its Rust program to link: numbers, and slices as a pointer and a length.
-pub mod calendar;
+// The calls that `reference bench` times. Its Rust program links them; it passes numbers, and slices as a pointer and a length.
+pub mod date;
 pub mod few;
+pub mod received;
 pub mod replays;
 pub mod samples;
+pub mod sheets;
 pub mod tapes;
 
 use ledger_sheet as sheet;
@@ -21,12 +23,12 @@ ghost use Rattle.ledger_model.specs.Step.{Tick, Untick, Ask, RowReport};
 ghost use Rattle.ledger_layout.specs.Layout.{call, onSheet};
 ghost use Rattle.bench.specs.inner.Digest.{xorOf, flag, counts, counted};
 
-// The first word of an accepted answer, and what adds nothing to a number.
+// The first word of an accepted answer; and the number that changes nothing.
 const ACCEPTED: u64 = 0;
 
 const NOTHING: u64 = 0;
 
-// Every number of the answer goes into the one number, so that every field is read.
+// Uses every number of the answer, so that every field is read.
 #[no_mangle]
 pub extern "C" fn bench_read_headers(s: &[u8], wanted: u32) -> u64
     ensures { λ r. ⌜ r ≡ xorOf (numbersOf (readHeaders wanted (now (s .entry)))) ⌝ }
@@ -35,8 +37,8 @@ pub extern "C" fn bench_read_headers(s: &[u8], wanted: u32) -> u64
     xor_of(answers::records::headers(found))
 }
 
-// The numbers one on the other, from the last.
-fn xor_of(numbers: [u64; answers::NUMBERS]) -> u64
+// The exclusive or of the numbers, from the last.
+pub(crate) fn xor_of(numbers: [u64; answers::NUMBERS]) -> u64
     ensures { λ r. ⌜ r ≡ xorOf numbers ⌝ }
 {
     let mut all = NOTHING;
@@ -96,7 +98,7 @@ pub extern "C" fn bench_report(s: &[u8], row: u32) -> u64
     reported(ledger::row_report(s, row))
 }
 
-// The counting alone: the report of a row of a slice that has a sheet's length, without the sheet's check.
+// The counting alone: the report of a row of a slice that has a sheet's length. Does not check the sheet.
 #[no_mangle]
 pub extern "C" fn bench_count(s: &[u8], row: u32) -> u64
     ensures { λ r. ⌜ r ≡ counted (now (s .entry)) row ⌝ }

@@ -1,7 +1,7 @@
-// A trace played again.
+// The replay of a trace.
 use ledger_replay::Replayed;
 ghost use mathlib.Core.Path.{_≡_};
-ghost use Rattle.ledger_replay.specs.Replay.{replayedWords, replayOn};
+ghost use Rattle.ledger_replay.specs.Replay.{replayedWords, replayOn, replayOnSheet};
 ghost use Rattle.bench.specs.inner.Digest.{sumOf};
 
 #[no_mangle]
@@ -9,6 +9,14 @@ pub extern "C" fn bench_replay(t: &[u8], s: &mut [u8]) -> u64
     ensures { λ r. ⌜ (r ≡ sumOf (replayOn (now (t .entry)) (now (s .entry)) .0)) × (now (s .exit) ≡ replayOn (now (t .entry)) (now (s .entry)) .1) ⌝ }
 {
     said(ledger_replay::replay(t, s))
+}
+
+#[no_mangle]
+pub extern "C" fn bench_replay_on(t: &[u8], s: &mut [u8]) -> u64
+    ensures { λ r. ⌜ r ≡ sumOf (replayOnSheet (now (t .entry)) (now (s .entry)) .0) ⌝ }
+    ensures { λ _. ⌜ now (s .exit) ≡ replayOnSheet (now (t .entry)) (now (s .entry)) .1 ⌝ }
+{
+    said(ledger_replay::replay_on(t, s))
 }
 
 fn said(answer: Replayed) -> u64

@@ -1,4 +1,4 @@
-// The samples of a record, unpacked, and numbers packed.
+// Unpacks the samples of a record, and packs samples.
 ghost use mathlib.Core.Path.{_≡_};
 ghost use Rattle.sfdu_samples.specs.Calls.{wordsOf, unpacking, packing};
 ghost use Rattle.bench.specs.inner.Digest.{tallied};

@@ -1,4 +1,4 @@
-// The medium band record, read.
+// Reads a medium band record.
 ghost use mathlib.Core.Path.{_≡_};
 ghost use mathlib.Core.List.{_++_, map};
 ghost use Rattle.sfdu_headers.specs.Words.{number};
@@ -7,7 +7,7 @@ ghost use Rattle.bench.specs.inner.Digest.{onto, digest};
 use crate::ACCEPTED;
 use crate::NOTHING;
 
-// Every word of the answer goes into the number, so that every field is read.
+// Uses every word of the answer, so that every field is read.
 #[no_mangle]
 pub extern "C" fn bench_read_tape(s: &[u8]) -> u64
     ensures { λ r. ⌜ r ≡ digest (map number (readRecord (now (s .entry)))) ⌝ }

@@ -1,9 +1,9 @@
-// The call of a frame, by its op. Where the frame is bad its line has no words.
+// Makes the call of a frame, by its op. The line of a bad frame has no words.
 use crate::receives;
 use crate::seasons;
 use crate::sheets;
-use call_lines::Frame;
-use call_lines::ops;
+use call_script_text::Frame;
+use call_script_text::ops;
 
 pub(crate) fn call(
     f: Frame,
@@ -38,7 +38,7 @@ pub(crate) fn call(
 fn on_bytes(f: Frame, a: &[u8], b: &[u8], out: &mut [u8], at: usize) -> usize {
     let op = f.op;
     match op {
-        ops::UNPACK | ops::PACK | ops::GAIN => call_lines::samples::line(f, a, out, at),
-        _ => call_lines::on_bytes(f, a, b, out, at),
+        ops::UNPACK | ops::PACK | ops::GAIN => call_script_text::samples::line(f, a, out, at),
+        _ => call_script_text::on_bytes(f, a, b, out, at),
     }
 }

@@ -1,5 +1,5 @@
-// A frame of the script on standard input.
-use call_lines::Frame;
+// Reads a frame of the script on standard input.
+use call_script_text::Frame;
 use octets::numbers;
 
 const HEADER: usize = 40;
@@ -24,7 +24,7 @@ const LENGTH_A_AT: usize = KEY_AT + KEY;
 
 const LENGTH_B_AT: usize = LENGTH_A_AT + NUMBER;
 
-// The most bytes of the two runs that stand behind the header.
+// How many bytes the two runs behind the header have at most.
 const MOST_A: usize = 131072;
 
 const MOST_B: usize = 66000;
@@ -39,11 +39,12 @@ pub enum Next {
     Frame(Frame),
 }
 
-// Reads a frame, its two runs to the start of `runs`, one behind the other.
+// Reads a frame, and its two runs to the start of `runs`, one after the other.
 pub(crate) fn read(runs: &mut [u8]) -> Next {
     let mut header = [0u8; HEADER];
-    let piece = turns::read_full(libc::STDIN_FILENO, &mut header);
-    if piece.failed {
+    let piece = streaming::read_full(libc::STDIN_FILENO, &mut header);
+    let said = piece.said;
+    if streaming::has_failed(said) {
         return Next::Failed;
     }
     if piece.got == 0 {
@@ -69,7 +70,7 @@ fn read_header(header: &[u8; HEADER]) -> Frame {
     }
 }
 
-// The frame, where its runs are not too long, there is room for them and they come.
+// The frame, if its runs are not too long, have room, and can be read.
 fn read_runs(runs: &mut [u8], f: Frame) -> Next {
     let a = f.a;
     let b = f.b;
@@ -83,8 +84,9 @@ fn read_runs(runs: &mut [u8], f: Frame) -> Next {
     if runs.len() < n {
         return Next::Bad;
     }
-    let piece = turns::read_full(libc::STDIN_FILENO, &mut runs[..n]);
-    if piece.failed {
+    let piece = streaming::read_full(libc::STDIN_FILENO, &mut runs[..n]);
+    let said = piece.said;
+    if streaming::has_failed(said) {
         return Next::Failed;
     }
     if piece.got < n {
@@ -93,7 +95,7 @@ fn read_runs(runs: &mut [u8], f: Frame) -> Next {
     Next::Frame(f)
 }
 
-// The first n bytes of s, or all where it has fewer.
+// The first n bytes of s; all of s if it has fewer.
 pub(crate) fn first(s: &[u8], n: usize) -> &[u8] {
     if s.len() < n {
         return s;
@@ -101,7 +103,7 @@ pub(crate) fn first(s: &[u8], n: usize) -> &[u8] {
     &s[..n]
 }
 
-// What stands behind the first n bytes of s, or all where it has fewer.
+// The bytes behind the first n of s; all of s if it has fewer.
 pub(crate) fn behind(s: &[u8], n: usize) -> &[u8] {
     if s.len() < n {
         return s;

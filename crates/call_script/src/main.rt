@@ -3,40 +3,36 @@ ghost use Prim.Native.Nat.{_<_};
 
 mod calls;
 mod frame;
-mod missions;
 mod receives;
 mod seasons;
+mod setting;
 mod sheets;
 
 use arguments::Asked;
-use call_lines::Frame;
-use call_lines::line;
-use call_lines::ops;
+use call_script_text::Frame;
+use call_script_text::line;
+use call_script_text::ops;
 use frame::Next;
 
-// The most bytes of the sheet, of the settings and of the text.
+// The lengths of the buffers of the sheet, the settings and the text.
 const MOST_SHEET: usize = 8192;
 
 const MOST_SETTINGS: usize = 1024;
 
 const MOST_TEXT: usize = 65536;
 
-// Text is written once there is more of it than this: then there is room for the longest line.
+// Text is written once there is more of it than this. Then there is room for the longest line.
 const ENOUGH: usize = 32768;
 
 const LINE_END: u8 = b'\n';
 
-// A proved loop has to end, and nothing says that a script does: so the loop counts its frames down, from 2^47, which no run uses
-// up.
-const FRAMES: u64 = 140737488355328;
-
-// The lengths of the sheet and of the settings, each the first bytes of its room.
+// The lengths of the sheet and of the settings. Each is the first bytes of its buffer.
 struct Lengths {
     sheet: usize,
     settings: usize,
 }
 
-// Where a run stands: what it keeps, the length of the text not yet written, and whether it goes on.
+// The state of a run: the lengths, how much text is not written yet, and whether the run goes on.
 struct State {
     kept: Lengths,
     text: usize,
@@ -81,7 +77,7 @@ fn run(runs: &mut [u8], sheet: &mut [u8], settings: &mut [u8], out: &mut [u8]) {
         text: 0,
         on: true,
     };
-    let mut frames = FRAMES;
+    let mut frames = streaming::TURNS;
     while 0 < frames {
         s = turn(runs, sheet, settings, out, s);
         frames = frames_left(s, frames);
@@ -89,7 +85,7 @@ fn run(runs: &mut [u8], sheet: &mut [u8], settings: &mut [u8], out: &mut [u8]) {
     flush(out, s);
 }
 
-// One frame, its line, and the text written once there is enough of it.
+// One frame: makes its line, and writes the text once there is enough of it.
 fn turn(runs: &mut [u8], sheet: &mut [u8], settings: &mut [u8], out: &mut [u8], s: State) -> State {
     let next = take_frame(runs, sheet, settings, out, s);
     end_line(out, s.text, next.text);
@@ -99,7 +95,7 @@ fn turn(runs: &mut [u8], sheet: &mut [u8], settings: &mut [u8], out: &mut [u8], 
     flush(out, next)
 }
 
-// The last space of a line, if it has words, becomes its end.
+// Ends a line: replaces its last space, if it has words, by a line end.
 fn end_line(out: &mut [u8], at: usize, end: usize) {
     if end <= at {
         return;
@@ -110,7 +106,7 @@ fn end_line(out: &mut [u8], at: usize, end: usize) {
     }
 }
 
-// How many frames more may be read: none once the run has ended.
+// How many more frames may be read; 0 once the run has ended.
 fn frames_left(s: State, frames: u64) -> u64
     requires { ⌜ 0 < frames ⌝ }
     ensures { λ r. ⌜ r < frames ⌝ }
@@ -194,10 +190,10 @@ fn line_of(
     if f.op < ops::NEW_SETTINGS {
         return calls::call(f, a, b, sheet, kept.sheet, out, at);
     }
-    missions::call(f, a, settings, kept.settings, out, at)
+    setting::call(f, a, settings, kept.settings, out, at)
 }
 
-// What is kept after a frame.
+// The lengths after a frame.
 fn kept_after(f: Frame, kept: Lengths) -> Lengths {
     let op = f.op;
     match op {
@@ -217,7 +213,7 @@ fn kept_after(f: Frame, kept: Lengths) -> Lengths {
     }
 }
 
-// Writes the text that is laid out. A run whose text cannot be written ends.
+// Writes the text in the buffer. If it cannot, the run ends.
 fn flush(out: &[u8], s: State) -> State {
     let is_written = io::write_all(libc::STDOUT_FILENO, frame::first(out, s.text));
     if !is_written {

@@ -1,23 +1,23 @@
-// The lines of the calls on the ledger sheet that are lent a list too: a row's missing numbers, and records received.
-use answers::ledgers;
-use answers::streams;
-use call_lines::Frame;
-use call_lines::crc;
-use call_lines::line;
-use call_lines::ops;
+// The lines of the calls on the ledger sheet that are also lent a list: missing numbers, and receive.
+use call_script_text::Frame;
+use call_script_text::crc;
+use call_script_text::line;
+use call_script_text::ops;
+use ledger_answers::ledgers;
+use ledger_answers::streams;
 
-// The most numbers of the list, and what it holds before.
+// The longest list, and what it holds before the call.
 const MOST_NUMBERS: usize = 1100;
 
 const FILL: u32 = 7;
 
-// How many numbers the answers have where they are accepted.
+// How many numbers an accepted answer has.
 const MISSING: usize = 2;
 
 const RECEIVED: usize = 6;
 
-// A call on the sheet, which is the first n bytes of its room. The crcs of the whole list and of the whole sheet end its line. No words where
-// the list is to be too long.
+// Makes a call on the sheet, which is the first n bytes of its buffer. The line ends with the crcs of the whole list and of the whole sheet. No words
+// if the list would be too long.
 pub(crate) fn line(
     f: Frame,
     a: &[u8],

@@ -1,14 +1,14 @@
 // The line of the season's report.
 use answers::places;
-use answers::seasons;
-use call_lines::line;
+use call_script_text::line;
+use ledger_answers::seasons;
 use ledger_season::SeasonReport;
 use ledger_season::SheetCounts;
 
-// How many numbers the season in all has, where it is accepted.
+// How many numbers an accepted season has in all.
 const IN_ALL: usize = 8;
 
-// Those of each sheet stand between the count of sheets and the counts in all.
+// Writes the season's line. The numbers of each sheet stand between the count of sheets and the counts in all.
 pub(crate) fn season(a: &[u8], out: &mut [u8], at: usize) -> usize {
     let report = ledger_season::season(a);
     let answer = report.answer;

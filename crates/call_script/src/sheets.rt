@@ -1,15 +1,15 @@
 // The lines of the calls on the ledger sheet.
-use answers::ledgers;
-use answers::nights;
 use answers::places;
-use call_lines::Frame;
-use call_lines::crc;
-use call_lines::line;
-use call_lines::ops;
+use call_script_text::Frame;
+use call_script_text::crc;
+use call_script_text::line;
+use call_script_text::ops;
+use ledger_answers::ledgers;
+use ledger_answers::replays;
 use ledger_replay::Replayed;
 use ledger_sheet::Answer;
 
-// How many numbers the answers have where they are accepted.
+// How many numbers an accepted answer has.
 const DONE: usize = 1;
 
 const ROW: usize = 2;
@@ -24,17 +24,17 @@ const DESK_ROW: usize = 2;
 
 const REPLAYED: usize = 4;
 
-// The sheet becomes the bytes of a.
+// Makes the sheet the bytes of a.
 pub(crate) fn new_sheet(a: &[u8], room: &mut [u8], out: &mut [u8], at: usize) -> usize {
     if room.len() < a.len() {
         return at;
     }
     bytes::copy(a, room);
-    let end = line::number(out, at, call_lines::ACCEPTED);
+    let end = line::number(out, at, call_script_text::ACCEPTED);
     line::number(out, end, crc::crc(a) as u64)
 }
 
-// The old sheet a converted into n bytes, which become the sheet.
+// Converts the old sheet a into n bytes, which become the sheet.
 pub(crate) fn converted(a: &[u8], room: &mut [u8], n: usize, out: &mut [u8], at: usize) -> usize {
     if room.len() < n {
         return at;
@@ -52,11 +52,11 @@ pub(crate) fn converted(a: &[u8], room: &mut [u8], n: usize, out: &mut [u8], at:
 
 fn fill(s: &mut [u8]) {
     for i in 0..s.len() {
-        s[i] = call_lines::FILL;
+        s[i] = call_script_text::FILL;
     }
 }
 
-// The trace t played again over a fresh sheet, or over the sheet as it stands. The sheet is the first n bytes of its room.
+// Replays the trace t over a fresh sheet, or over the sheet as it is. The sheet is the first n bytes of its buffer.
 pub(crate) fn replayed(
     op: u32,
     t: &[u8],
@@ -69,7 +69,7 @@ pub(crate) fn replayed(
         return at;
     }
     let s = &mut room[..n];
-    let answer = nights::replayed(play(op, t, s));
+    let answer = replays::replayed(play(op, t, s));
     let end = line::told_or(out, at, answer, REPLAYED, places::ENTRY, b"same");
     line::number(out, end, crc::crc(s) as u64)
 }
@@ -81,7 +81,7 @@ fn play(op: u32, t: &[u8], s: &mut [u8]) -> Replayed {
     ledger_replay::replay(t, s)
 }
 
-// A call on the sheet, which is the first n bytes of its room. The crc of the whole sheet after the call ends its line.
+// Makes a call on the sheet, which is the first n bytes of its buffer. The line ends with the crc of the whole sheet after the call.
 pub(crate) fn on_sheet(f: Frame, room: &mut [u8], n: usize, out: &mut [u8], at: usize) -> usize {
     if room.len() < n {
         return at;
@@ -104,7 +104,7 @@ fn call(f: Frame, s: &mut [u8], out: &mut [u8], at: usize) -> usize {
     }
 }
 
-// The calls that say no more than whether they are done.
+// The calls that give no values.
 fn change(f: Frame, s: &mut [u8]) -> Answer {
     let op = f.op;
     match op {
@@ -144,7 +144,7 @@ fn desk(s: &[u8], desk: u32, out: &mut [u8], at: usize) -> usize {
     let answer = ledgers::desk(ledger::desk(s, desk));
     let end = line::told_or(out, at, answer, DESK_ROW, places::DESK_ROW, b"none");
     let unsaved = ledgers::unsaved(ledger::unsaved(s, desk));
-    if unsaved[places::REFUSAL] != call_lines::ACCEPTED {
+    if unsaved[places::REFUSAL] != call_script_text::ACCEPTED {
         return end;
     }
     let ticks = line::number(out, end, unsaved[places::UNSAVED_TICKS]);

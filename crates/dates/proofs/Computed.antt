@@ -1,5 +1,5 @@
--- The day number of a new year, computed: 365 days a year and the leap years, which are those of four years less those of a hundred
--- and more those of four hundred. Assumes nothing.
+-- The day count of 1 January, computed: 365 days for each year, and one for each leap year. The leap years are every fourth year, less every
+-- hundredth, plus every four hundredth. Assumes nothing.
 use Prim.Native.Nat.{ℕ, zero, suc, _+_, _*_, _-_, _/_, _%_, _<_, _≤_}
 use native.Mathlib.Nat.{div-add-mod', div-eq-of-lt-le, mod-lt}
 use native.Mathlib.Omega.{arith}

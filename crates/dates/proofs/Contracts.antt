@@ -1,4 +1,4 @@
--- The laws of dates are of the functions' contracts: `date_of` and `new_years` ask nothing of a caller, and promise what the laws speak of.
+-- The laws of dates hold of the functions' contracts: `date_of` and `new_years` require nothing of a caller, and promise what the laws use.
 -- Assumes nothing.
 use mathlib.Core.Bool.{true}
 use mathlib.Core.Path.{_≡_, sym}

@@ -1,4 +1,4 @@
--- Laws of dates: the new years grow by the years' lengths, a day count and its date give each other, and where a day count lies.
+-- Laws of dates: how the counts of 1 January grow, that a day count and its date determine each other, and in which year a day count lies.
 -- Assumes nothing.
 use Prim.Native.Nat.{ℕ, zero, suc, _+_, _-_, _<_, _≤_}
 use native.Mathlib.Nat.{add-zero, le-refl}

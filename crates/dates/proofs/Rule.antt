@@ -1,5 +1,5 @@
--- The table's rule, proved at all entries by one test that antt computes: the first is 0, and each other a year's length above the one
--- before. Assumes nothing.
+-- The rule of the table of new years, proved for all entries by one test that antt computes: the first entry is 0, and each other one is a year's
+-- length above the one before. Assumes nothing.
 use Prim.Native.Nat.{ℕ, zero, suc, _+_, _-_, _<_}
 use native.Mathlib.Nat.{add-zero, zero-add, add-suc, suc-add, le-of-suc-le-suc, not-suc-le-zero}
 use native.Mathlib.Omega.{arith}

@@ -1,4 +1,4 @@
--- What holds of all dates and counts; proved in proofs/Laws.antt. Assumes nothing.
+-- What holds of all dates and day counts. proofs/Laws.antt proves it. Assumes nothing.
 -- The manual, docs/INTERFACE.md: "Dates".
 use Prim.Native.Nat.{ℕ, _+_, _<_, _≤_}
 use mathlib.Core.Bool.{true}
@@ -8,15 +8,15 @@ use Rattle.dates.specs.declared.DateAnswer.{DateAnswer}
 use Rattle.dates.specs.Calendar.{lastCount, newYear, isDate, dayCount, dateOf}
 use Rattle.dates.specs.Answers.{wordsOf}
 
--- Going back undoes the day count of every date.
+-- The date of a date's day count is that date.
 abbrev pub BackFromCount : Type 0
 BackFromCount = (year day : ℕ) → isDate year day ≡ true → dateOf (dayCount year day) ≡ 0 ∷ year ∷ day ∷ []
 
--- And the other way round: what going back gives is a date, and its day count is the count.
+-- If a count has a date, that is a date of the calendar, and its day count is the count.
 abbrev pub ForthFromBack : Type 0
 ForthFromBack = (count year day : ℕ) → dateOf count ≡ 0 ∷ year ∷ day ∷ [] → (isDate year day ≡ true) × (dayCount year day ≡ count)
 
--- The date of a count.
+-- A count has a date: `dateOf` gives it, it is a date of the calendar, and its day count is the count.
 pub record Dated (count : ℕ) : Type 0 where
   pub year : ℕ
   pub day : ℕ
@@ -24,21 +24,21 @@ pub record Dated (count : ℕ) : Type 0 where
   pub date : isDate year day ≡ true
   pub forth : dayCount year day ≡ count
 
--- Every count to the last day of 3000 has one; any other is refused.
+-- Every count up to the last day of 3000 has a date; `dateOf` refuses every other.
 abbrev pub EveryCount : Type 0
 EveryCount = (count : ℕ) → count ≤ lastCount → Dated count
 
 abbrev pub RefusedPast : Type 0
 RefusedPast = (count : ℕ) → lastCount < count → dateOf count ≡ 33 ∷ []
 
--- Request 01's own numbers: 1 January 1958, and that of the last year.
+-- Two numbers that request 01 gives: 1 January 1958, and 1 January 3000.
 abbrev pub NewYear1958 : Type 0
 NewYear1958 = newYear 1958 ≡ 21184
 
 abbrev pub NewYear3000 : Type 0
 NewYear3000 = newYear 3000 ≡ 401767
 
--- A telemetry record has 16 bits of days from 1 January 1958: with that day's number they are a count that has a date.
+-- A telemetry record counts its days from 1 January 1958 in 16 bits. Every such day has a date.
 abbrev pub Since1958 : Type 0
 Since1958 = (days : ℕ) → days < 65536 → Dated (newYear 1958 + days)
 

@@ -1,4 +1,4 @@
-// Day counts: a year and a day of the year to a count of days from 1 January 1900, and back (document 02, Req 01).
+// Day counts: from a year and a day of the year to the days since 1 January 1900, and back (document 02, Req 01).
 use refusals::Refusal;
 ghost use mathlib.Core.Path.{_≡_};
 ghost use Prim.Native.Nat.{_≤_, _+_};
@@ -17,23 +17,23 @@ const FIRST_YEAR: u16 = 1900;
 
 const LAST_YEAR: u16 = 3000;
 
-// The last day of the last year.
+// The day count of the last day of the last year.
 const LAST_COUNT: u32 = 402131;
 
 const YEAR_DAYS: u32 = 365;
 
-// The leap years from year 1 to 1899, by the rule.
+// How many leap years there are from year 1 to year 1899.
 const LEAPS_TO_1899: u32 = 460;
 
-// The calendar repeats after so many years, which have so many days.
+// The calendar repeats every 400 years, which have 146,097 days.
 const CYCLE_YEARS: u32 = 400;
 
 const CYCLE_DAYS: u32 = 146097;
 
-// A new year comes at most so many four-hundredths of a day before the cycle's mean would have it.
+// A 1 January comes at most this many four-hundredths of a day earlier than the cycle's mean year would put it.
 const EARLY: u32 = 496;
 
-// A year of the table, and its entry: the day number of its 1 January.
+// A year, and its entry in the table: the day count of its 1 January.
 struct TableYear {
     year: u16,
     start: u32,
@@ -49,14 +49,13 @@ pub enum DateAnswer {
     Refused(Refusal),
 }
 
-// The table of new years: entry i is the day number of 1 January of the year 1900 + i.
+// The table of new years: entry i is the day count of 1 January of the year 1900 + i.
 pub fn new_years() -> [u32; YEARS]
     ensures { λ r. ⌜ NewYears r ⌝ }
 {
     NEW_YEARS
 }
 
-// Whether a year has 366 days.
 pub fn is_leap(year: u16) -> bool
     ensures { λ r. ⌜ r ≡ isLeap year ⌝ }
 {
@@ -69,36 +68,35 @@ pub fn is_leap(year: u16) -> bool
     year % 400 == 0
 }
 
-// How many days a year has.
 pub fn days_in(year: u16) -> u16
     ensures { λ r. ⌜ r ≡ yearLength year ⌝ }
 {
     if is_leap(year) { 366 } else { 365 }
 }
 
-// Whether a year is one of the table's.
+// Whether the table has the year.
 pub fn is_year(year: u16) -> bool
     ensures { λ r. ⌜ r ≡ isYear year ⌝ }
 {
     (FIRST_YEAR <= year) & (year <= LAST_YEAR)
 }
 
-// Whether a day, counted from 1, is one of the year's.
+// Whether the year has the day. Days count from 1.
 pub fn is_day(year: u16, day: u16) -> bool
     ensures { λ r. ⌜ r ≡ isDay year day ⌝ }
 {
     (1 <= day) & (day <= days_in(year))
 }
 
-// Whether a year and a day of the year are a date of the table's years.
+// Whether a year and a day of the year are a date, and the table has the year.
 pub fn is_date(year: u16, day: u16) -> bool
     ensures { λ r. ⌜ r ≡ isDate year day ⌝ }
 {
     is_year(year) & is_day(year, day)
 }
 
-// The day number of a year's 1 January, computed, which is quicker than reading the table's entry: day counts are made for every record.
-// Each year has 365 days, and the leap years one more.
+// The day count of 1 January of a year: 365 days for each year, and one more for each leap year. Computing it is quicker than reading the table, and
+// read headers needs it for every RSR record.
 fn new_year(year: u16) -> u32
     requires { ⌜ (firstYear ≤ year) × (year ≤ lastYear) ⌝ }
     ensures { λ r. ⌜ r ≡ newYear year ⌝ }
@@ -108,7 +106,7 @@ fn new_year(year: u16) -> u32
     (year - FIRST_YEAR) as u32 * YEAR_DAYS + leaps
 }
 
-// The day count of a date. It computes: read headers calls it for every RSR record. It is no public call, for it refuses without a number.
+// The day count of a date. It is no public call: the papers give its refusal no number.
 pub fn day_count(year: u16, day: u16) -> CountAnswer
     ensures { λ r. ⌜ r ≡ countOf year day ⌝ }
 {
@@ -119,7 +117,7 @@ pub fn day_count(year: u16, day: u16) -> CountAnswer
     CountAnswer::Day(count)
 }
 
-// The table's year i and its entry.
+// The year 1900 + i and its entry in the table.
 fn year_at(table: &[u32; YEARS], i: usize) -> TableYear
     requires { ⌜ NewYears (now table) × (firstYear + i ≤ lastYear) ⌝ }
     ensures { λ r. ⌜ (r .year ≡ firstYear + i) × (r .start ≡ newYear (r .year)) ⌝ }
@@ -130,8 +128,8 @@ fn year_at(table: &[u32; YEARS], i: usize) -> TableYear
     }
 }
 
-// The year that a day count falls in: a search of the table of new years, by interpolation. The cycle's mean leads to the year or to the
-// one after it, and one comparison with the entry there decides. The last day of 3000 leads to 3001, which has no entry.
+// The year that a day count falls in. The cycle's mean year gives the year sought or the one after it, and a comparison with the table's entry
+// decides which. The last day of 3000 gives 3001, which has no entry.
 fn year_of(count: u32) -> TableYear
     requires { ⌜ count ≤ lastCount ⌝ }
     ensures { λ r. ⌜ Within (r .year) count × (r .start ≡ newYear (r .year)) ⌝ }
@@ -148,7 +146,7 @@ fn year_of(count: u32) -> TableYear
     year_at(&table, i)
 }
 
-// The date of a day count; refused past the last day of 3000.
+// The date of a day count. Refuses a count past the last day of 3000.
 pub fn date_of(count: u32) -> DateAnswer
     ensures { λ r. ⌜ wordsOf r ≡ dateOf count ⌝ }
 {

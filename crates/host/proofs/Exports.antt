@@ -27,9 +27,10 @@ pub written : {r : ℕ} {out numbers : List ℕ} {words : List Word} (promised :
 unfolding exported
 written promised answer h e n w = rw (eq-eqb _ _ h, w .0, w .1, n, e)
 
--- Of a call that promises numbers; and of one that promises numbers and a sheet, which it leaves as it is.
-pub written-as : {r : ℕ} {out numbers words : List ℕ} (read : List ℕ → List Word) (promised answer : List ℕ) → length answer ≡ answerSize
-    → words ≡ promised → numbers ≡ numbersOf (read words) → Written r out numbers → (r, out) ≡ exported (read promised) answer
+-- Of a call that promises numbers, or one number, or a test; and of one that promises numbers and a sheet, which it leaves as it is.
+pub written-as : {A : Type 0} {r : ℕ} {out numbers : List ℕ} {found : A} (read : A → List Word) (promised : A) (answer : List ℕ)
+    → length answer ≡ answerSize → found ≡ promised → numbers ≡ numbersOf (read found) → Written r out numbers
+    → (r, out) ≡ exported (read promised) answer
 written-as read promised answer h e = written (read promised) answer h (ap read e)
 
 pub written-asked : {S : Type 0} {r : ℕ} {out numbers words : List ℕ} {left : S} (read : List ℕ → List Word) (promised : List ℕ × S) (answer : List ℕ)

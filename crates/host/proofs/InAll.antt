@@ -16,7 +16,7 @@ use Rattle.ledger_season.specs.Season.{answerNumber, countsWords, sheetsWords, 
 use Rattle.ledger_season.specs.declared.SheetCounts.{SheetCounts}
 use Rattle.ledger_season.specs.declared.SeasonGap.{SeasonGap}
 use Rattle.ledger_season.specs.declared.SeasonReport.{SeasonReport}
-use Rattle.answers.specs.inner.Seasons.{inAllWords}
+use Rattle.ledger_answers.specs.inner.Seasons.{inAllWords}
 use Rattle.host.specs.Seasons.{inAllOf}
 
 -- the words of the sheets cut out

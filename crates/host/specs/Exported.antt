@@ -1,5 +1,5 @@
--- Document 02, Req 06: what an exported call returns and leaves, from the words that the library's call promises. A refusal is written
--- too; 38, for an answer's slice of another length than 256, comes before everything and writes nothing. Assumes nothing.
+-- Document 02, Req 06: what an exported call returns and writes, from the words that the library's call promises. A refusal is written too. If the
+-- answer's slice does not have 256 bytes, the call returns 38 before anything else and writes nothing. Assumes nothing.
 -- The manual, docs/INTERFACE.md: "Calls from C".
 use Prim.Native.Nat.{ℕ}
 use mathlib.Core.Bool.{cond}
@@ -12,22 +12,22 @@ use Rattle.sfdu_headers.specs.Words.{Word}
 use Rattle.answers.specs.Numbers.{numbersOf, plain}
 use Rattle.host.specs.Answer.{answerSize, answerBytes}
 
--- The number that is returned: the first of the answer's.
+-- The returned number: the first number of the answer.
 abbrev pub returned : List Word → ℕ
 returned words = getD (numbersOf words) 0 0
 
--- A call that changes nothing: what is returned, and the answer's slice.
+-- A call that changes nothing: the returned number, and the answer's slice after the call.
 unfoldable pub exported : (words : List Word) (answer : List ℕ) → ℕ × List ℕ
 exported words answer = cond (eqb (length answer) answerSize) (returned words, answerBytes (numbersOf words)) (numberOf AnswerLength, answer)
 
--- A call that changes what it is lent (a slice, or a pair of slices), and promises numbers, of which `read` makes the words of its answer, and what
--- is lent as it is left: what is returned, the answer's slice, and what is lent.
+-- A call that changes what it is lent, which is a slice or a pair of slices. `read` turns the promised numbers into words. The result is the returned
+-- number, the answer's slice, and what is lent, after the call.
 unfoldable pub exportedAs : {Lent : Type 0} (read : List ℕ → List Word) (promised : Lent → List ℕ × Lent) (answer : List ℕ) (lent : Lent)
     → ℕ × List ℕ × Lent
 exportedAs read promised answer lent =
     let words = read (promised lent .0) in
     cond (eqb (length answer) answerSize) (returned words, answerBytes (numbersOf words), promised lent .1) (numberOf AnswerLength, answer, lent)
 
--- Where none of the words is a none.
+-- The same for a call whose words have no none.
 abbrev pub exportedOn : {Lent : Type 0} (promised : Lent → List ℕ × Lent) (answer : List ℕ) (lent : Lent) → ℕ × List ℕ × Lent
 exportedOn promised answer lent = exportedAs plain promised answer lent

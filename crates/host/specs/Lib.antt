@@ -1,4 +1,4 @@
--- What the contracts of `host` cite.
+-- The definitions that contracts of `host` cite.
 pub mod Exported
 pub mod Received
 pub mod Seasons

@@ -1,4 +1,4 @@
--- A stream received, as a call that changes a pair of slices: the list, and the sheet. Assumes nothing.
+-- Receive as a call that changes a pair of slices: the list and the sheet. Assumes nothing.
 -- The manual, docs/INTERFACE.md: "Calls from C".
 use Prim.Native.Nat.{ℕ}
 use mathlib.Core.List.{List}

@@ -6,7 +6,7 @@ ghost use Rattle.sfdu_gain.specs.Gain.{gaining, agreedGain};
 ghost use Rattle.sfdu_samples.specs.Calls.{unpacking, packing};
 ghost use Rattle.host.specs.Exported.{exported, exportedOn};
 
-// The gain multiplier of a record of an edition.
+// The gain multiplier of a record, for an edition.
 #[no_mangle]
 pub extern "C" fn hernganow_gain(record: &[u8], edition: u32, answer: &mut [u8]) -> u32
     ensures { λ r. ⌜ (r, now (answer .exit)) ≡ exported (gaining edition (now («record» .entry))) (now (answer .entry)) ⌝ }
@@ -18,7 +18,7 @@ pub extern "C" fn hernganow_gain(record: &[u8], edition: u32, answer: &mut [u8])
     write::write_few(answer, receivers::gain(found))
 }
 
-// With the edition that the mission's agreement has on the record's day.
+// The gain multiplier, for the edition of the mission's agreement on the record's day.
 #[no_mangle]
 pub extern "C" fn hernganow_agreed_gain(settings: &[u8], record: &[u8], answer: &mut [u8]) -> u32
     ensures { λ r. ⌜ (r, now (answer .exit)) ≡ exported (agreedGain (now (settings .entry)) (now («record» .entry))) (now (answer .entry)) ⌝ }
@@ -30,7 +30,7 @@ pub extern "C" fn hernganow_agreed_gain(settings: &[u8], record: &[u8], answer: 
     write::write_few(answer, receivers::gain(found))
 }
 
-// The samples of a record, I and Q in turn, at the start of the list.
+// Unpacks the samples of a record, I before Q, to the start of the list.
 #[no_mangle]
 pub extern "C" fn hernganow_unpack(record: &[u8], list: &mut [i32], answer: &mut [u8]) -> u32
     ensures { λ r. ⌜ (r, now (answer .exit), now (list .exit)) ≡ exportedOn (unpacking (now («record» .entry))) (now (answer .entry)) (now (list .entry)) ⌝ }
@@ -42,7 +42,7 @@ pub extern "C" fn hernganow_unpack(record: &[u8], list: &mut [i32], answer: &mut
     write::write_few(answer, receivers::samples(found))
 }
 
-// The data part of samples, at the start of the slice.
+// Packs samples into a data part, at the start of the slice.
 #[no_mangle]
 pub extern "C" fn hernganow_pack(
     size: u32,

@@ -1,16 +1,14 @@
 // The ledger sheet.
 use crate::write;
-use answers::ledgers;
-use answers::streams;
+use ledger_answers::ledgers;
+use ledger_answers::streams;
 ghost use mathlib.Core.Path.{_≡_};
-ghost use mathlib.Core.Bool.{cond};
-ghost use mathlib.Core.List.{[], _∷_};
 ghost use Rattle.ledger_sheet.specs.Sheet.{right};
 ghost use Rattle.ledger_model.specs.Step.{Enrol, Ask, Find, RowReport, FirstGap, RowStream, DeskState, Unsaved, Open, Tick, Untick, Save, Drop, Strike};
 ghost use Rattle.ledger_layout.specs.Layout.{call, onSheet, freshOn};
 ghost use Rattle.ledger_convert.specs.Convert.{convertOn};
 ghost use Rattle.ledger_missing.specs.Missing.{missingOn};
-ghost use Rattle.answers.specs.Numbers.{plain, withNone};
+ghost use Rattle.answers.specs.Numbers.{plain, withNone, flagged};
 ghost use Rattle.host.specs.Exported.{exported, exportedOn};
 ghost use Rattle.host.specs.Received.{received};
 
@@ -92,7 +90,7 @@ pub extern "C" fn hernganow_untick(
     write::write_few(answer, ledgers::answer(found))
 }
 
-// Saves what a desk has worked on.
+// Saves a desk's worked copy.
 #[no_mangle]
 pub extern "C" fn hernganow_save(sheet: &mut [u8], desk: u32, answer: &mut [u8]) -> u32
     ensures { λ r. ⌜ (r, now (answer .exit), now (sheet .exit)) ≡ exportedOn (onSheet (call (Save desk))) (now (answer .entry)) (now (sheet .entry)) ⌝ }
@@ -128,7 +126,7 @@ pub extern "C" fn hernganow_strike(sheet: &mut [u8], row: u32, answer: &mut [u8]
     write::write_few(answer, ledgers::answer(found))
 }
 
-// Reports on a row: ticked, missing, and the lowest missing number or none.
+// Reports on a row: how many are ticked, how many are missing, and the lowest missing number or none.
 #[no_mangle]
 pub extern "C" fn hernganow_row_report(sheet: &[u8], row: u32, answer: &mut [u8]) -> u32
     ensures { λ r. ⌜ (r, now (answer .exit)) ≡ exported (withNone 4 (onSheet (call (Ask (RowReport row))) (now (sheet .entry)) .0)) (now (answer .entry)) ⌝ }
@@ -152,7 +150,7 @@ pub extern "C" fn hernganow_first_gap(sheet: &[u8], answer: &mut [u8]) -> u32
     write::write_few(answer, ledgers::gap(found))
 }
 
-// Makes the slice a new sheet of an old one.
+// Makes a new sheet from an old one.
 #[no_mangle]
 pub extern "C" fn hernganow_convert(old: &[u8], sheet: &mut [u8], answer: &mut [u8]) -> u32
     ensures { λ r. ⌜ (r, now (answer .exit), now (sheet .exit)) ≡ exportedOn (convertOn (now (old .entry))) (now (answer .entry)) (now (sheet .entry)) ⌝ }
@@ -164,10 +162,10 @@ pub extern "C" fn hernganow_convert(old: &[u8], sheet: &mut [u8], answer: &mut [
     write::write_few(answer, ledgers::answer(found))
 }
 
-// Whether the slice is a ledger sheet: 1 or 0.
+// Whether the slice is a right sheet: 1 or 0.
 #[no_mangle]
 pub extern "C" fn hernganow_is_sheet(sheet: &[u8], answer: &mut [u8]) -> u32
-    ensures { λ r. ⌜ (r, now (answer .exit)) ≡ exported (plain (0 ∷ cond (right (now (sheet .entry))) 1 0 ∷ [])) (now (answer .entry)) ⌝ }
+    ensures { λ r. ⌜ (r, now (answer .exit)) ≡ exported (flagged (right (now (sheet .entry)))) (now (answer .entry)) ⌝ }
 {
     if answer.len() != answers::ANSWER {
         return write::unwritten();
@@ -212,7 +210,7 @@ pub extern "C" fn hernganow_unsaved(sheet: &[u8], desk: u32, answer: &mut [u8]) 
     write::write_few(answer, ledgers::unsaved(found))
 }
 
-// The missing numbers of a row, at the start of the list.
+// Writes the missing numbers of a row to the start of the list.
 #[no_mangle]
 pub extern "C" fn hernganow_missing_numbers(
     sheet: &[u8],
@@ -230,7 +228,7 @@ pub extern "C" fn hernganow_missing_numbers(
     write::write_few(answer, ledgers::missing(found))
 }
 
-// Receives a stream at a desk: each whole record is a visit, whose outcome stands in the list.
+// Receives a stream at a desk. Each whole record makes a visit, and its outcome is written into the list.
 #[no_mangle]
 pub extern "C" fn hernganow_receive(
     sheet: &mut [u8],

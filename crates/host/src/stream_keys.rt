@@ -1,8 +1,8 @@
 // Stream keys.
 use crate::write;
 ghost use mathlib.Core.Path.{_≡_};
-ghost use Rattle.keys.specs.Key.{telemetryKeyCall, rsrKeyCall, partsCall};
-ghost use Rattle.answers.specs.Numbers.{plain};
+ghost use Rattle.keys.specs.Key.{telemetryKeyCall, rsrKeyCall, partsCall, validKey};
+ghost use Rattle.answers.specs.Numbers.{plain, flagged};
 ghost use Rattle.host.specs.Exported.{exported};
 
 // The key of a telemetry stream.
@@ -51,4 +51,16 @@ pub extern "C" fn hernganow_parts(key: u64, answer: &mut [u8]) -> u32
     }
     let found = keys::parts(key);
     write::write(answer, answers::parts(found))
+}
+
+// Whether a key is valid: 1 or 0.
+#[no_mangle]
+pub extern "C" fn hernganow_key_valid(key: u64, answer: &mut [u8]) -> u32
+    ensures { λ r. ⌜ (r, now (answer .exit)) ≡ exported (flagged (validKey key)) (now (answer .entry)) ⌝ }
+{
+    if answer.len() != answers::ANSWER {
+        return write::unwritten();
+    }
+    let found = keys::valid(key);
+    write::write_few(answer, answers::key_valid(found))
 }

@@ -1,4 +1,4 @@
-// An answer's numbers, written into the slice that a host in C lends for them: the inner functions of its calls.
+// Writes an answer's numbers into the slice that a C program lends for them. The exported calls use these functions.
 use refusals::Refusal;
 ghost use mathlib.Core.Path.{_≡_};
 ghost use Prim.Native.Nat.{_-_, _*_, _<_, _≤_, _^_};
@@ -12,10 +12,10 @@ ghost use Rattle.answers.specs.inner.Numbers.{fewCount};
 ghost use Rattle.host.specs.Answer.{answerSize, numberSize, answerBytes};
 ghost use Rattle.host.specs.inner.Written.{Written};
 
-// The bytes of a few numbers.
+// How many bytes a few numbers have.
 const FEW_BYTES: usize = answers::NUMBER * answers::FEW;
 
-// What a call returns that was lent an answer's slice of another length.
+// What a call returns if the answer's slice does not have 256 bytes.
 pub fn unwritten() -> u32
     ensures { λ r. ⌜ r ≡ numberOf AnswerLength ⌝ }
 {

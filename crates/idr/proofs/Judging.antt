@@ -1,4 +1,4 @@
--- What a list of refusals decides, by its verdict; a record that is accepted. Assumes nothing.
+-- What the verdict of a list of refusals says; and what holds of an accepted record. Assumes nothing.
 use Prim.Native.Nat.{ℕ, _<_}
 use native.Mathlib.Omega.{arith}
 use mathlib.Core.Bool.{Bool, true, false, and-true}

@@ -22,7 +22,7 @@ use Rattle.idr.specs.Words.{header, headerCount, recordSize, samplesAt, 
 use Rattle.idr.specs.Fields.{tagged, fieldsOf}
 use Rattle.idr.specs.Rules.{wordRules}
 
--- ---- what an answer says: 0 and the fields, 0 alone where the time tag is not valid, or the refusal's number
+-- ---- the words of an answer: 0 and the fields; 0 alone if the time tag is not valid; or the refusal's number
 
 abbrev pub originWords : Origin → List ℕ
 originWords f =
@@ -61,7 +61,7 @@ DifferentReads = (a b : Read) → wordsOf a ≡ wordsOf b → a ≡ b
 abbrev pub readRules : List ℕ → List (Rule ℕ)
 readRules s = (50 when not (eqb (length s) recordSize)) ∷ wordRules (header s)
 
--- What is given of accepted header words.
+-- The answer for header words that are accepted.
 abbrev pub givenOf : List ℕ → List ℕ
 givenOf w = 0 ∷ cond (tagged w) (fieldsOf w) []
 
@@ -71,14 +71,14 @@ readRecord s = judge (λ n. n ∷ []) (readRules s) (givenOf (header s))
 unfoldable pub accepts : List ℕ → Bool
 accepts s = noneApplies (readRules s)
 
--- The samples: where they start and what they are; the empty part at the record's start where it is refused.
+-- The samples: where they start, and their bytes. If the record is refused, the empty part at its start.
 unfoldable pub samplesStart : List ℕ → ℕ
 samplesStart s = cond (accepts s) samplesAt 0
 
 unfoldable pub samplesPart : List ℕ → List ℕ
 samplesPart s = cond (accepts s) (part s samplesAt samplesSize) []
 
--- The header words, into a lent list; a refusal leaves it whole.
+-- Copies the header words into a lent list. A refusal leaves the list unchanged.
 unfoldable pub readWords : (s list : List ℕ) → List ℕ × List ℕ
 readWords s list =
     judge (λ n. (n ∷ [], list))

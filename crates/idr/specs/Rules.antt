@@ -1,4 +1,4 @@
--- Document 02, Req 04: refusals 51 to 54 of header words w, in order. Assumes nothing.
+-- Document 02, Req 04: refusals 51 to 54 of the header words w, in order. Assumes nothing.
 -- The manual, docs/INTERFACE.md: "Medium band tapes".
 use mathlib.Core.Path.{_≡_}
 use Prim.Native.Nat.{ℕ}
@@ -13,7 +13,7 @@ use Rattle.idr.specs.declared.Outcome.the-variants.{Accepted, Refused}
 use Rattle.idr.specs.Words.{recordWords, wordOf}
 use Rattle.idr.specs.Fields.{tagged, digit, digitCount, day, hour, minute, second, micros, playback, sampling, blockStored}
 
--- The number of an answer that gives nothing more: 0, or the refusal's.
+-- The number of an outcome: 0, or the refusal's number.
 abbrev pub outcomeNumber : Outcome → ℕ
 outcomeNumber Accepted = 0
 outcomeNumber (Refused r) = numberOf r
@@ -33,7 +33,7 @@ isClock day hour minute second micros =
 unfoldable pub isTime : List ℕ → Bool
 isTime w = areDigits w && isClock (day w) (hour w) (minute w) (second w) (micros w)
 
--- Both codes are listed.
+-- Both rate codes are listed.
 unfoldable pub areRates : List ℕ → Bool
 areRates w = not (eqb (playback w) 0) && not (eqb (sampling w) 0)
 

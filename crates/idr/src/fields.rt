@@ -1,4 +1,4 @@
-// The fields of header words. Document 001, words 1 to 28.
+// The fields of the header words (document 001, words 1 to 28).
 ghost use mathlib.Core.Path.{_≡_};
 ghost use Prim.Native.Nat.{_<_};
 ghost use lib.ListN.{length};
@@ -9,18 +9,18 @@ ghost use Rattle.idr.specs.Read.{originWords, timeWords, recorderWords, 
 use crate as idr;
 use crate::words;
 
-// The time's digits: from word 6 on, four to a word.
+// The digits of the time tag begin at word 6, four to a word.
 const TIME_WORD: usize = 6;
 
 const DIGITS: usize = 4;
 
 const DIGIT_BITS: usize = 4;
 
-// What the first of the microseconds' two parts counts.
+// The weight of the microseconds' upper part.
 const MICROS_UPPER: u32 = 256;
 
-// A rate's code: the lower three bits are the tape's speed, 0 the slowest, and each speed doubles the rate; the upper two choose among
-// the three rates of the slowest tape.
+// A rate's code. The lower three bits are the tape's speed: 0 is the slowest, and each step doubles the rate. The upper two bits choose one of the
+// three rates of the slowest tape.
 const SPEEDS: u16 = 8;
 
 const LAST_SPEED: u32 = 4;
@@ -33,7 +33,7 @@ const RATE_STEP: u32 = 12500;
 
 const MOST_DECIMATION: u16 = 8;
 
-// The block size counts down from here: 2^24.
+// 2^24. The stored block size is this number less the block size.
 const BLOCK_END: u32 = 16777216;
 
 pub(crate) fn is_tagged(w: &[u16]) -> bool
@@ -50,7 +50,7 @@ fn is_counted(w: &[u16]) -> bool
     words::field(w, 1, 4, 4) == 1
 }
 
-// Digit k of the time, from 0.
+// Digit k of the time tag; k counts from 0.
 pub(crate) fn digit_at(w: &[u16], k: usize) -> u16
     requires { ⌜ (length (now w) ≡ headerCount) × (k < digitCount) ⌝ }
     ensures { λ r. ⌜ (r ≡ digit (now (w .entry)) k) × (r < 16) ⌝ }
@@ -79,7 +79,7 @@ pub(crate) fn time_of(w: &[u16]) -> idr::Time
     }
 }
 
-// The playback rates are the sampling rates of the slowest tape.
+// The playback rates are the sampling rates of the slowest tape speed.
 pub(crate) fn playback_rate(code: u16) -> u32
     requires { ⌜ code < 32 ⌝ }
     ensures { λ r. ⌜ r ≡ rateIn playbackRates code ⌝ }
@@ -112,7 +112,7 @@ fn decimation(code: u16) -> u16
     MOST_DECIMATION - code
 }
 
-// The block size as it is stored, in 24 bits.
+// The block size as stored, in 24 bits.
 pub(crate) fn block_stored(w: &[u16]) -> u32
     requires { ⌜ length (now w) ≡ headerCount ⌝ }
     ensures { λ r. ⌜ (r ≡ blockStored (now (w .entry))) × (r < 16777216) ⌝ }
@@ -190,7 +190,7 @@ fn count_of(w: &[u16]) -> idr::Count
     idr::Count::Unknown
 }
 
-// What is given of accepted header words.
+// The answer for header words that are accepted.
 pub(crate) fn given(w: &[u16]) -> idr::Read
     requires { ⌜ length (now w) ≡ headerCount ⌝ }
     ensures { λ r. ⌜ wordsOf r ≡ givenOf (now (w .entry)) ⌝ }

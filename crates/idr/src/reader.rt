@@ -1,4 +1,4 @@
-// The reader's calls on a lent record.
+// The reader's calls on a record.
 ghost use denote.Ref.{ptr};
 ghost use mathlib.Core.List.{[], _∷_};
 ghost use mathlib.Core.Path.{_≡_};
@@ -16,7 +16,7 @@ use crate::rules;
 use crate::words;
 use refusals::Refusal;
 
-// The fields of a record.
+// Reads the fields of a record.
 pub fn read_record(s: &[u8]) -> Read
     ensures { λ r. ⌜ wordsOf r ≡ readRecord (now (s .entry)) ⌝ }
 {
@@ -28,7 +28,7 @@ pub fn read_record(s: &[u8]) -> Read
     read_header(&w)
 }
 
-// The same by the header words.
+// Reads the fields of a record from its header words.
 fn read_header(w: &[u16]) -> Read
     requires { ⌜ length (now w) ≡ headerCount ⌝ }
     ensures { λ r. ⌜ wordsOf r ≡ judge (λ n. n ∷ []) (wordRules (now (w .entry))) (givenOf (now (w .entry))) ⌝ }
@@ -40,7 +40,7 @@ fn read_header(w: &[u16]) -> Read
     }
 }
 
-// Whether the record is refused, and why.
+// Whether the record is accepted, or else the refusal.
 fn judge_record(s: &[u8]) -> Outcome
     ensures { λ r. ⌜ outcomeNumber r ≡ verdict (readRules (now (s .entry))) ⌝ }
 {
@@ -52,7 +52,7 @@ fn judge_record(s: &[u8]) -> Outcome
     rules::judge_words(&w)
 }
 
-// The samples, that very part of the record; the empty part at its start where it is refused.
+// The samples: that part of the record itself. If the record is refused, the empty part at its start.
 pub fn samples(s: &[u8]) -> &[u8]
     ensures { λ r. ⌜ (now r ≡ samplesPart (now (s .entry))) × (ptr r .0 ≡ ptr (s .entry) .0)
         × (ptr r .1 ≡ ptr (s .entry) .1 + samplesStart (now (s .entry))) ⌝ }
@@ -64,7 +64,7 @@ pub fn samples(s: &[u8]) -> &[u8]
     }
 }
 
-// The header words of a record, into a lent list of 28; a refusal leaves it whole.
+// Copies the header words of a record into a lent list of 28. A refusal leaves the list unchanged.
 pub fn read_words(s: &[u8], list: &mut [u16]) -> Outcome
     ensures { λ r. ⌜ (outcomeNumber r ∷ [], now (list .exit)) ≡ readWords (now (s .entry)) (now (list .entry)) ⌝ }
 {

@@ -1,4 +1,4 @@
-// The refusals of header words, in order, for the reader and the writer.
+// The refusals of header words, in order. The reader and the writer use them.
 ghost use mathlib.Core.Path.{_≡_};
 ghost use lib.ListN.{length};
 ghost use Rattle.refusals.specs.Judge.{verdict};
@@ -12,7 +12,7 @@ use crate::fields;
 use crate::words;
 use refusals::Refusal;
 
-// The length word, word 3, and what it says.
+// The index of the length word (word 3), and the value it must have.
 const LENGTH_WORD: usize = 2;
 
 const RECORD_WORDS: u16 = 2528;
@@ -29,10 +29,10 @@ const LAST_SECOND: u16 = 59;
 
 const LAST_MICRO: u32 = 999999;
 
-// The lowest negative number of 24 bits, as it is stored.
+// The lowest negative number of 24 bits, as stored.
 const LEAST_BLOCK: u32 = 8388608;
 
-// Whether header words make a record: how many they are, and the rules that follow.
+// Tests header words that a caller lends: how many they are, and then the rules.
 pub fn judge(w: &[u16]) -> Outcome
     ensures { λ r. ⌜ outcomeNumber r ≡ verdict (lentRules (now (w .entry))) ⌝ }
 {
@@ -42,7 +42,7 @@ pub fn judge(w: &[u16]) -> Outcome
     judge_words(w)
 }
 
-// The rules on as many words as a header has.
+// Tests the rules of header words.
 pub(crate) fn judge_words(w: &[u16]) -> Outcome
     requires { ⌜ length (now w) ≡ headerCount ⌝ }
     ensures { λ r. ⌜ outcomeNumber r ≡ verdict (wordRules (now (w .entry))) ⌝ }
@@ -95,7 +95,7 @@ fn is_clock(t: Time) -> bool
         & (t.micros <= LAST_MICRO)
 }
 
-// Whether both rates are listed.
+// Whether both rate codes are listed.
 fn are_rates(w: &[u16]) -> bool
     requires { ⌜ length (now w) ≡ headerCount ⌝ }
     ensures { λ r. ⌜ r ≡ areRates (now (w .entry)) ⌝ }

@@ -1,4 +1,4 @@
-// Words and bits of a record.
+// The words of a record and their bits.
 use crate as idr;
 use octets::numbers;
 ghost use mathlib.Core.Path.{_≡_};
@@ -8,10 +8,10 @@ ghost use Rattle.idr.specs.Words.{wordBits, headerCount, samplesAt, bits
 
 const BITS: usize = 16;
 
-// What one in the upper half of a long number counts.
+// The weight of the upper half of a long number.
 const UPPER: u32 = 65536;
 
-// Bits `first` to `last` of a word, counted from 1 at the top.
+// Bits `first` to `last` of a word. Bits count from 1; bit 1 is the highest.
 fn bits_of(x: u16, first: usize, last: usize) -> u16
     requires { ⌜ (1 ≤ first) × (first ≤ last) × (last ≤ wordBits) ⌝ }
     ensures { λ r. ⌜ (r ≡ bits x first last) × (r < 2 ^ (last + 1 - first)) ⌝ }
@@ -20,7 +20,7 @@ fn bits_of(x: u16, first: usize, last: usize) -> u16
     ((x as u32 >> (BITS - last)) % (1u32 << width)) as u16
 }
 
-// The same of word k.
+// Bits `first` to `last` of word k. Words count from 1.
 pub(crate) fn field(w: &[u16], k: usize, first: usize, last: usize) -> u16
     requires { ⌜ (1 ≤ k) × (k ≤ length (now w)) × (1 ≤ first) × (first ≤ last) × (last ≤ wordBits) ⌝ }
     ensures { λ r. ⌜ (r ≡ fieldOf (now (w .entry)) k first last) × (r < 2 ^ (last + 1 - first)) ⌝ }

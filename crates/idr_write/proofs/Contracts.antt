@@ -1,5 +1,5 @@
--- The round trip is of the functions' contracts: the writer, the reader and the part call ask nothing of a caller, and promise what the
--- round trip speaks of. `a` is the arguments, r the answer, e the arguments at exit. Assumes nothing.
+-- The round trip holds of the functions' contracts: the writer, the reader and the part call require nothing of a caller, and promise what the round
+-- trip uses. `a` is the arguments, r the answer, e the arguments at exit. Assumes nothing.
 use Prim.Native.Nat.{ℕ, _+_, _<_}
 use mathlib.Core.List.{[], _∷_}
 use mathlib.Core.Path.{_≡_, sym, ap, _∙_}

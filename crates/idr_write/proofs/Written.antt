@@ -1,4 +1,4 @@
--- The bytes of header words: how many they are, and how they grow by a word; the call where the lengths are right. Assumes nothing.
+-- The bytes of header words: how many they are, and what one more word adds; and the call if the lengths are right. Assumes nothing.
 use Prim.Native.Nat.{ℕ, _+_, _*_, _<_}
 use native.Mathlib.Numerals.{add-one}
 use native.Mathlib.Omega.{arith}

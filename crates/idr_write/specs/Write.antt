@@ -10,12 +10,12 @@ use Rattle.octets.specs.Octets.{bytesOf}
 use Rattle.idr.specs.Words.{wordSize, headerCount, samplesSize, recordSize}
 use Rattle.idr.specs.Rules.{wordRules}
 
--- The bytes of words, the upper one first.
+-- The bytes of words, upper byte first.
 unfoldable pub wordBytes : List ℕ → List ℕ
 wordBytes [] = []
 wordBytes (x ∷ w) = bytesOf wordSize x ++ wordBytes w
 
--- The lent record is 5,056 bytes, the words are 28 and the samples 5,000.
+-- The caller lends a record of 5,056 bytes, 28 words and 5,000 samples.
 unfoldable pub areLengths : (words samples out : List ℕ) → Bool
 areLengths words samples out =
     eqb (length out) recordSize && eqb (length words) headerCount && eqb (length samples) samplesSize
@@ -23,7 +23,7 @@ areLengths words samples out =
 abbrev pub writeRules : (words samples out : List ℕ) → List (Rule ℕ)
 writeRules words samples out = (50 when not (areLengths words samples out)) ∷ wordRules words
 
--- The answer and what the lent record holds after it: the words and the samples; a refusal leaves it whole.
+-- The answer, and the lent record after the call: the words and the samples. A refusal leaves the record unchanged.
 unfoldable pub writeRecord : (words samples out : List ℕ) → List ℕ × List ℕ
 writeRecord words samples out =
     judge (λ n. (n ∷ [], out)) (writeRules words samples out) (0 ∷ [], wordBytes words ++ samples)

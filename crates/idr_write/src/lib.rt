@@ -1,4 +1,4 @@
-// The writer: a record from its header words and its samples.
+// The writer: makes a record from its header words and its samples.
 ghost use mathlib.Core.List.{[], _∷_, _++_};
 ghost use mathlib.Core.Path.{_≡_};
 ghost use Prim.Native.Nat.{_≤_};
@@ -11,7 +11,7 @@ use idr::Outcome;
 use octets::numbers;
 use refusals::Refusal;
 
-// Writes the record that has these header words and samples; a refusal leaves `out` whole.
+// Writes the record that has these header words and samples. A refusal leaves `out` unchanged.
 pub fn write_record(words: &[u16], samples: &[u8], out: &mut [u8]) -> Outcome
     ensures { λ r. ⌜ (outcomeNumber r ∷ [], now (out .exit)) ≡ writeRecord (now (words .entry)) (now (samples .entry)) (now (out .entry)) ⌝ }
 {

@@ -1,4 +1,4 @@
--- Laws of stream keys: which are valid, that a made key is, that a key names one stream, and that its parts are that stream. Assumes nothing.
+-- Laws of stream keys: which are valid, that a made key is valid, that a key names one stream, and that its parts are that stream's. Assumes nothing.
 use Prim.Native.Nat.{ℕ, zero, _*_, _+_, _^_, _/_, _%_, _-_, _<_, _≤_}
 use native.Mathlib.Nat.{add-zero, mod-eq-of-lt, div-eq-of-lt, mul-add-div-right, mul-add-mod-self-right}
 use native.Mathlib.Omega.{arith}

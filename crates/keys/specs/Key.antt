@@ -1,5 +1,5 @@
--- Document 01, "Stream key": how a key is made of a stream's four numbers, which keys are valid, what the two calls that make one
--- answer, and what the call that takes one apart answers. Assumes nothing.
+-- Document 01, "Stream key": the key of a stream's four numbers, which keys are valid, and the answers of three calls: the two that make a key, and
+-- the one that gives a key's parts. Assumes nothing.
 -- The manual, docs/INTERFACE.md: "Stream key".
 use Prim.Native.Nat.{ℕ, _+_, _*_, _-_, _/_, _%_, _^_}
 use mathlib.Core.Bool.{Bool, cond, not, _&&_, _||_}
@@ -19,11 +19,11 @@ rsrStart = 2 ^ 42
 abbrev pub rsrEnd : ℕ
 rsrEnd = rsrStart + 2 ^ 32
 
--- An RSR key: a byte each of subchannel, receiver, station and spacecraft, above 2^42.
+-- An RSR key: 2^42, and above it a byte each of subchannel, receiver, station and spacecraft.
 abbrev pub rsrKey : (spacecraft station receiver subchannel : ℕ) → ℕ
 rsrKey spacecraft station receiver subchannel = rsrStart + spacecraft * 2 ^ 24 + station * 2 ^ 16 + receiver * 2 ^ 8 + subchannel
 
--- The valid keys: telemetry's, below 2^42, and RSR's, the 2^32 next ones.
+-- The valid keys: telemetry keys are below 2^42, RSR keys are the next 2^32 numbers.
 abbrev pub isTelemetryKey : ℕ → Bool
 isTelemetryKey key = ltb key rsrStart
 
@@ -33,7 +33,7 @@ isRsrKey key = leb rsrStart key && ltb key rsrEnd
 unfoldable pub validKey : ℕ → Bool
 validKey key = isTelemetryKey key || isRsrKey key
 
--- Whether a number is no wider than a field of so many bits.
+-- Whether a number fits a field of this many bits.
 abbrev pub fits : (bits number : ℕ) → Bool
 fits bits number = ltb number (2 ^ bits)
 
@@ -41,7 +41,7 @@ fits bits number = ltb number (2 ^ bits)
 abbrev pub telemetryFits : (spacecraft source equipment stream : ℕ) → Bool
 telemetryFits spacecraft source equipment stream = fits 10 spacecraft && fits 8 source && fits 16 equipment && fits 8 stream
 
--- RSR's: 8 bits of each.
+-- RSR's widths: 8 bits each.
 abbrev pub rsrFits : (spacecraft station receiver subchannel : ℕ) → Bool
 rsrFits spacecraft station receiver subchannel = fits 8 spacecraft && fits 8 station && fits 8 receiver && fits 8 subchannel
 
@@ -49,7 +49,7 @@ rsrFits spacecraft station receiver subchannel = fits 8 spacecraft && fits 8 sta
 abbrev pub made : List (Rule ℕ) → (key : ℕ) → List ℕ
 made rules key = judge (λ n. n ∷ []) rules (0 ∷ key ∷ [])
 
--- The two calls: the key, or 22 where a number does not fit its field.
+-- The two calls that make a key. They answer 22 if a number does not fit its field.
 unfoldable pub telemetryKeyCall : (spacecraft source equipment stream : ℕ) → List ℕ
 telemetryKeyCall spacecraft source equipment stream =
     made
@@ -66,7 +66,7 @@ rsrKeyCall spacecraft station receiver subchannel =
 abbrev pub telemetryParts : (key : ℕ) → List ℕ
 telemetryParts key = key / 2 ^ 32 ∷ key / 2 ^ 24 % 2 ^ 8 ∷ key / 2 ^ 8 % 2 ^ 16 ∷ key % 2 ^ 8 ∷ []
 
--- Those of an RSR key that lies so far above the lowest one.
+-- The four numbers of the RSR key rsrStart + above.
 abbrev pub rsrParts : (above : ℕ) → List ℕ
 rsrParts above = above / 2 ^ 24 ∷ above / 2 ^ 16 % 2 ^ 8 ∷ above / 2 ^ 8 % 2 ^ 8 ∷ above % 2 ^ 8 ∷ []
 
@@ -77,7 +77,7 @@ telemetryKind = 1
 abbrev pub rsrKind : ℕ
 rsrKind = 2
 
--- A key taken apart: its kind, and the four numbers in the order of the call that makes it; 22 where it is no stream's.
+-- The call that gives a key's parts: its kind, then its four numbers in the order of the call that makes the key; 22 for a key that is not valid.
 unfoldable pub partsCall : (key : ℕ) → List ℕ
 partsCall key =
     judge (λ n. n ∷ []) ((22 when not (validKey key)) ∷ [])

@@ -1,5 +1,5 @@
--- What is to be known of every key and every stream; proved in proofs/Laws.antt. Assumes nothing.
--- The manual, docs/INTERFACE.md: "Stream keys".
+-- What holds of every key and every stream. proofs/Laws.antt proves it. Assumes nothing.
+-- The manual, docs/INTERFACE.md: "Stream key".
 use Prim.Native.Nat.{ℕ}
 use mathlib.Core.Bool.{true}
 use mathlib.Core.List.{[], _∷_}
@@ -7,20 +7,20 @@ use mathlib.Core.Path.{_≡_}
 use Rattle.keys.specs.Key.{validKey, partsCall}
 use Rattle.keys.specs.Stream.{Stream, keyCall, streamWords}
 
--- A key names one stream: the same key is made of the same four numbers by the same kind's call alone.
+-- A key names one stream: no two streams have the same key.
 abbrev pub NamesOne : Type 0
 NamesOne = (s t : Stream) (key : ℕ) → keyCall s ≡ 0 ∷ key ∷ [] → keyCall t ≡ 0 ∷ key ∷ [] → s ≡ t
 
--- A made key is valid.
+-- A key that a call makes is valid.
 abbrev pub MadeValid : Type 0
 MadeValid = (s : Stream) (key : ℕ) → keyCall s ≡ 0 ∷ key ∷ [] → validKey key ≡ true
 
--- The stream that a key names: its call makes the key, and it is the key's parts.
+-- The stream that a key names: the stream's call makes the key, and the key's parts are the stream's.
 pub record Named (key : ℕ) : Type 0 where
   pub stream : Stream
   pub is : keyCall stream ≡ 0 ∷ key ∷ []
   pub parts : partsCall key ≡ 0 ∷ streamWords stream
 
--- Every valid key names a stream: the calls make all the valid keys.
+-- Every valid key names a stream.
 abbrev pub ValidNamed : Type 0
 ValidNamed = (key : ℕ) → validKey key ≡ true → Named key

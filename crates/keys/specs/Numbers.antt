@@ -5,10 +5,10 @@ use mathlib.Core.Bool.{Bool, cond}
 use lib.Dec.{ltb}
 use Rattle.keys.specs.Key.{isTelemetryKey}
 
--- What the record numbers of a stream are counted modulo: 2^32, and 65,536 for RSR, whose keys are 2^42 and more.
+-- How many record numbers a stream has: 2^32 for telemetry, 65,536 for RSR.
 unfoldable pub modulus : (key : ℕ) → ℕ
 modulus key = cond (isTelemetryKey key) (2 ^ 32) (2 ^ 16)
 
--- Whether a number is one that the stream's records can have.
+-- Whether records of the stream can have the number n.
 abbrev pub isNumber : (key n : ℕ) → Bool
 isNumber key n = ltb n (modulus key)

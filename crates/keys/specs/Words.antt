@@ -1,5 +1,4 @@
--- The number and values of each case of a key call's answer: 0 and the key, or 0, the kind and the four numbers; or the refusal's number.
--- Assumes nothing.
+-- The words of a key call's answer: 0 and the key; or 0, the kind and the four numbers; or the refusal's number. Assumes nothing.
 use mathlib.Core.Path.{_≡_}
 use Prim.Native.Nat.{ℕ}
 use mathlib.Core.List.{List, [], _∷_}

@@ -1,4 +1,4 @@
-// Stream keys: made of a stream's four numbers, judged, and taken apart again (document 01, "Stream key").
+// Stream keys: makes a key from a stream's four numbers, tests it, and gives its parts (document 01, "Stream key").
 use refusals::Refusal;
 ghost use mathlib.Core.Path.{_≡_};
 ghost use mathlib.Core.Bool.{_&&_};
@@ -10,14 +10,14 @@ ghost use Rattle.keys.specs.Key.{rsrStart, telemetryKind, telemetryParts
 ghost use Rattle.keys.specs.Numbers.{isNumber};
 ghost use Rattle.keys.specs.Words.{wordsOf, partsWords};
 
-// The first number too wide for a field of 8, 10 or 16 bits.
+// The first number that does not fit 8, 10 or 16 bits.
 const LIMIT_8: u32 = 256;
 
 const LIMIT_10: u32 = 1024;
 
 const LIMIT_16: u32 = 65536;
 
-// What one in the field that starts at bit 8, 16, 24 or 32 counts in a key.
+// The weight of a field that starts at bit 8, 16, 24 or 32 of a key.
 const AT_8: u64 = 256;
 
 const AT_16: u64 = 65536;
@@ -31,7 +31,7 @@ pub const RSR_START: u64 = 4398046511104;
 
 const RSR_END: u64 = RSR_START + AT_32;
 
-// How many record numbers an RSR stream has; a telemetry stream has all of 32 bits.
+// How many record numbers an RSR stream has. A telemetry stream has 2^32.
 pub const RSR_NUMBERS: u32 = LIMIT_16;
 
 pub enum KeyAnswer {
@@ -39,7 +39,7 @@ pub enum KeyAnswer {
     Refused(Refusal),
 }
 
-// What a key is made of: the numbers in the order of the call that makes it.
+// The parts of a key: its four numbers, in the order of the call that makes it.
 pub enum KeyParts {
     Telemetry {
         spacecraft: u32,
@@ -66,7 +66,7 @@ fn both_fit(a: u32, alimit: u32, b: u32, blimit: u32) -> bool
     b < blimit
 }
 
-// Whether four do.
+// Whether four numbers each lie below their limits.
 fn all_fit(
     a: u32,
     alimit: u32,
@@ -85,7 +85,7 @@ fn all_fit(
     both_fit(c, climit, d, dlimit)
 }
 
-// The key of a telemetry stream; refused where a number is wider than its field.
+// The key of a telemetry stream. Refuses a number that does not fit its field.
 pub fn telemetry_key(spacecraft: u32, source: u32, equipment: u32, stream: u32) -> KeyAnswer
     ensures { λ r. ⌜ wordsOf r ≡ telemetryKeyCall spacecraft source equipment stream ⌝ }
 {
@@ -110,8 +110,7 @@ pub fn telemetry_key(spacecraft: u32, source: u32, equipment: u32, stream: u32) 
     ))
 }
 
-// The key's formula alone, for a caller that has the numbers from a record: it owes that the spacecraft has ten bits, and so makes
-// no key but a telemetry stream's.
+// The same for a caller that has the numbers from a record. The caller owes that the spacecraft number fits 10 bits.
 pub fn telemetry_key_of(spacecraft: u16, source: u8, equipment: u16, stream: u8) -> u64
     requires { ⌜ spacecraft < 2 ^ 10 ⌝ }
     ensures { λ r. ⌜ r ≡ telemetryKey spacecraft source equipment stream ⌝ }
@@ -119,7 +118,7 @@ pub fn telemetry_key_of(spacecraft: u16, source: u8, equipment: u16, stream: u8)
     spacecraft as u64 * AT_32 + source as u64 * AT_24 + equipment as u64 * AT_8 + stream as u64
 }
 
-// The key of an RSR stream; refused where a number is wider than its field.
+// The key of an RSR stream. Refuses a number that does not fit its field.
 pub fn rsr_key(spacecraft: u32, station: u32, receiver: u32, subchannel: u32) -> KeyAnswer
     ensures { λ r. ⌜ wordsOf r ≡ rsrKeyCall spacecraft station receiver subchannel ⌝ }
 {
@@ -144,7 +143,7 @@ pub fn rsr_key(spacecraft: u32, station: u32, receiver: u32, subchannel: u32) ->
     ))
 }
 
-// The same of an RSR stream: its numbers are bytes, and any four bytes are a stream's.
+// The same for a caller that has the numbers as bytes. Any four bytes are a stream's.
 pub fn rsr_key_of(spacecraft: u8, station: u8, receiver: u8, subchannel: u8) -> u64
     ensures { λ r. ⌜ r ≡ rsrKey spacecraft station receiver subchannel ⌝ }
 {
@@ -155,7 +154,6 @@ pub fn rsr_key_of(spacecraft: u8, station: u8, receiver: u8, subchannel: u8) -> 
         + subchannel as u64
 }
 
-// Whether a key is one that a stream can have.
 pub fn valid(key: u64) -> bool
     ensures { λ r. ⌜ r ≡ validKey key ⌝ }
 {
@@ -165,7 +163,7 @@ pub fn valid(key: u64) -> bool
     key < RSR_END
 }
 
-// Whether a number is one that the records of the stream with this key can have.
+// Whether records of the stream with this key can have the number n.
 pub fn is_number(key: u64, n: u32) -> bool
     ensures { λ r. ⌜ r ≡ isNumber key n ⌝ }
 {
@@ -175,7 +173,7 @@ pub fn is_number(key: u64, n: u32) -> bool
     n < RSR_NUMBERS
 }
 
-// Takes a key apart: its kind, and the four numbers that make it.
+// The parts of a key: its kind and its four numbers.
 pub fn parts(key: u64) -> KeyParts
     ensures { λ r. ⌜ partsWords r ≡ partsCall key ⌝ }
 {
@@ -200,7 +198,7 @@ fn telemetry_parts(key: u64) -> KeyParts
     }
 }
 
-// Of a key that lies so far above the lowest RSR key.
+// The parts of the RSR key RSR_START + above.
 fn rsr_parts(above: u64) -> KeyParts
     requires { ⌜ above < 2 ^ 32 ⌝ }
     ensures { λ r. ⌜ partsWords r ≡ 0 ∷ rsrKind ∷ rsrParts above ⌝ }

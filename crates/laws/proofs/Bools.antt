@@ -1,4 +1,4 @@
--- Laws of tests. The kit's own are in `mathlib.Core.Bool`. Assumes nothing.
+-- Laws of tests, beside those of `mathlib.Core.Bool`. Assumes nothing.
 use mathlib.Core.Bool.{Bool, true, false, not, cond, Bool·beq, _&&_, _||_, and-false, true≢false, false≢true}
 use mathlib.Core.Path.{_≡_, refl, sym, _∙_}
 use borrow.Author.Tests.{not-true, not-false}

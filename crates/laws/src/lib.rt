@@ -1,1 +1,1 @@
-// Laws that know nothing of this library: no code.
+// Laws that other crates share. This crate has proofs only, no code.

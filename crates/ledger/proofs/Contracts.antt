@@ -1,6 +1,6 @@
--- The equations of `MadeFresh` and `Promised` are those of the functions' contracts: nothing is asked of a caller, and each is had from what
--- the check says that it learns of the call (`Learnt`, made from its `ensures`). `a` is the arguments, of which the first is the sheet; `e`
--- the same at exit; r the answer. Assumes nothing.
+-- The equations of `MadeFresh` and `Promised` are those of the functions' contracts: a caller must show nothing, and each equation follows from what
+-- the caller learns of the call (`Learnt`, made from its `ensures`). `a` is the arguments, of which the first is the sheet; `e` is the same at exit;
+-- r is the answer. Assumes nothing.
 use mathlib.Core.Path.{_≡_}
 use Rattle.laws.proofs.Keeps.{Keeps}
 use Rattle.ledger_model.specs.Step.{Find, RowReport, FirstGap, RowStream, DeskState, Unsaved}

@@ -1,4 +1,4 @@
--- Demand 3 of every list of the ledger's calls on a fresh sheet. Assumes nothing.
+-- Demand 3 for every list of the ledger's calls on a fresh sheet. Assumes nothing.
 use Prim.Native.Nat.{ℕ}
 use mathlib.Core.Bool.{Bool, true, false}
 use mathlib.Core.List.{List, [], _∷_}

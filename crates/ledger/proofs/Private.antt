@@ -1,4 +1,4 @@
--- Request 09 of every two lists of the ledger's calls on fresh sheets: from the model's books to the bytes. Assumes nothing.
+-- Request 09 for every two lists of the ledger's calls on fresh sheets: from the model's books to the bytes. Assumes nothing.
 use Prim.Native.Nat.{ℕ, zero, suc, _<_, _≤_}
 use native.Mathlib.Nat.{add-zero}
 use native.Mathlib.Omega.{arith}

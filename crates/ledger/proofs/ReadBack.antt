@@ -1,5 +1,4 @@
--- A row starts blank: the one that `enrol` answers reads back, by its contract, as the value with the
--- key, the first number and no ticks. Assumes nothing.
+-- A new row is blank: by the contract of `enrol`, the row that it answers reads back with the key, the first number and no ticks. Assumes nothing.
 use Prim.Native.Nat.{ℕ, _+_}
 use native.Mathlib.Omega.{arith}
 use mathlib.Core.Bool.{Bool, true, false, false≢true}

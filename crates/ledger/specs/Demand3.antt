@@ -1,6 +1,5 @@
--- Demand 3 of the ledger's calls, in full: one claim about any list of calls, made one after the other on the sheet that `fresh` made,
--- the next one handed the sheet as the one before left it. It speaks of what the calls' contracts promise, and of nothing else.
--- Assumes nothing.
+-- Demand 3 for the ledger's calls: one claim about any list of calls. They start on a sheet that `fresh` made, and each works on the sheet as the
+-- call before left it. The claim uses only what the calls' contracts promise. Assumes nothing.
 -- The manual, docs/INTERFACE.md: "Calls on the ledger".
 use Prim.Native.Nat.{ℕ}
 use mathlib.Core.Path.{_≡_}
@@ -22,12 +21,11 @@ use Rattle.ledger_sheet.specs.declared.UnsavedAnswer.{UnsavedAnswer}
 use Rattle.ledger_layout.specs.Layout.{layout, call, onSheet, freshOn}
 use Rattle.ledger_layout.specs.Demand3.{answerOf, rowAnswerOf, reportAnswerOf, gapAnswerOf, streamAnswerOf, deskAnswerOf, unsavedAnswerOf, headerAndRows}
 
--- What `fresh` promises where it answers done: called on the slice s it left the sheet `start`.
+-- What `fresh` promises if it answers done: on the slice s it leaves the sheet `start`.
 abbrev pub MadeFresh : (s start : List ℕ) → Type 0
 MadeFresh s start = (answerWords A.Done, start) ≡ freshOn s
 
--- What each call's contract promises: called on the sheet s it answered r, and left t. One line a call, with the equation of its
--- `ensures`.
+-- What each call's contract promises: on the sheet s it answers r and leaves t. One line for each call, with the equation of its `ensures`.
 pub data Promised : Call → List ℕ → Answer → List ℕ → Type 0 where
   enrolled : {s t : List ℕ} {key first : ℕ} (r : RowAnswer) → (rowWords r, t) ≡ onSheet (call (Enrol key first)) s
       → Promised (Enrol key first) s (rowAnswerOf r) t
@@ -52,19 +50,19 @@ pub data Promised : Call → List ℕ → Answer → List ℕ → Type 0 where
   dropped : {s t : List ℕ} {desk : ℕ} (r : Sheet.Answer) → (answerWords r, t) ≡ onSheet (call (Drop desk)) s → Promised (Drop desk) s (answerOf r) t
   struck : {s t : List ℕ} {row : ℕ} (r : Sheet.Answer) → (answerWords r, t) ≡ onSheet (call (Strike row)) s → Promised (Strike row) s (answerOf r) t
 
--- `log` is the calls with what they answered, from the sheet `start` that `fresh` made to the sheet `last`. Strikes, reports, first
--- gaps, and what is asked of a row or a desk, are calls of the list like any other.
+-- `log` is the calls with their answers, from the sheet `start` that `fresh` made to the sheet `last`. Every call of the ledger may be in the list:
+-- strikes, row reports, first gaps and questions too.
 pub record Demand3 (start : List ℕ) (log : List Entry) (last : List ℕ) : Type 0 where
-  -- All answers are the model's, and the sheet at the end is the model's book laid out, byte for byte. The serial history is made of
-  -- entries of the log, with its accepted enrolments, strikes and saves in their order; its calls, made on a fresh sheet, get the answers
-  -- that they had in the log. A save by a desk with a row open is 31 exactly when the row's set is not the opened one, and then
-  -- another desk's accepted save of that row stands between. A row that a desk has open has the key and the first number that it had
-  -- when the desk opened it (`AsOpened`), since it is not struck: so no desk saves into another stream's row.
+  -- All answers are the model's, and the last sheet is the layout of the model's book, byte for byte. Every entry of the serial history is an entry
+  -- of the log; the history has the log's accepted enrolments, strikes and saves in their order; its calls, made on a fresh sheet, get the log's
+  -- answers. A save by a desk that has a row open is refused with 31 exactly if the row's set is not the opened one, and then another desk has saved
+  -- the row since. A row that a desk has open cannot be struck. It keeps the key and first number it had when opened (`AsOpened`), so no desk saves
+  -- into another stream's row.
   pub claim : Claim Promised layout log last
-  -- The rows, and their count, are those of the serial history made on a fresh sheet, byte for byte.
+  -- The header and the rows are those that the serial history leaves on a fresh sheet, byte for byte.
   pub serial-rows : (again : List Entry) (end : List ℕ) → Chain Promised start again end → map callOf again ≡ map callOf (serial log)
       → headerAndRows end ≡ headerAndRows last
 
--- That holds of every list of calls on a sheet that `fresh` made of any slice.
+-- This holds of every list of calls on a sheet that `fresh` made from any slice.
 abbrev pub EveryDemand3 : Type 0
 EveryDemand3 = (s start last : List ℕ) (log : List Entry) → MadeFresh s start → Chain Promised start log last → Demand3 start log last

@@ -1,5 +1,4 @@
--- Every list of calls can be made on a sheet that `fresh` made, each call keeping its contract: what demand 3 says is said of all of
--- them. Assumes nothing.
+-- Every list of calls can be made on a sheet that `fresh` made, each call keeping its contract. So demand 3 speaks about all lists of calls. Assumes nothing.
 use Prim.Native.Nat.{ℕ}
 use mathlib.Core.Path.{_≡_}
 use mathlib.Core.List.{List, map}
@@ -7,7 +6,7 @@ use Rattle.ledger_model.specs.Step.{Call, Entry, callOf}
 use Rattle.ledger_model.specs.Chain.{Chain}
 use Rattle.ledger.specs.Demand3.{MadeFresh, Promised}
 
--- The calls with what they answered, and the sheet that they left.
+-- The calls with their answers, and the sheet that they leave.
 pub record CanBeMade (start : List ℕ) (calls : List Call) : Type 0 where
   pub log : List Entry
   pub last : List ℕ

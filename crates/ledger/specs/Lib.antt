@@ -1,4 +1,4 @@
--- What demand 3, and request 09, say of the ledger's calls; and that every list of calls can be made.
+-- Demand 3 and request 09 for the ledger's calls; and that every list of calls can be made.
 pub mod Demand3
 pub mod Every
 pub mod Private

@@ -1,6 +1,6 @@
-// The receipt ledger: the public calls on a lent sheet (document 01, "The ledger sheet"; document 02, requests 03 and 10). Each contract has
-// one shape: the words of the answer, and the sheet as it is left, are the model's call on the book that the sheet holds, laid out again.
-// What is not a right sheet is refused with 20 and left as it was.
+// The receipt ledger: the public calls on a lent sheet (document 01, "The ledger sheet"; document 02, requests 03 and 10). Each contract has the same
+// shape: the words of the answer and the sheet after the call are those of the model's call on the book in the sheet. A call refuses a sheet that is
+// not right with 20, and leaves it unchanged.
 
 use ledger_changes::desks;
 use ledger_judged as judged;
@@ -24,7 +24,7 @@ ghost use Rattle.ledger_sheet.specs.Words.{answerWords, rowWords, reportAnswerW
 ghost use Rattle.ledger_sheet.specs.Sheet.{right};
 ghost use Rattle.ledger_layout.specs.Layout.{call, onSheet, freshOn};
 
-// Makes the slice a fresh sheet. Only its length is judged.
+// Makes the slice a fresh sheet. Tests only its length.
 pub fn fresh(s: &mut [u8]) -> Answer
     ensures { λ r. ⌜ (answerWords r, now (s .exit)) ≡ freshOn (now (s .entry)) ⌝ }
 {
@@ -35,7 +35,7 @@ pub fn fresh(s: &mut [u8]) -> Answer
     Answer::Done
 }
 
-// Enrols a stream in the lowest free row, with no ticks; answers the row.
+// Enrols a stream in the lowest free row, with no ticks. Answers the row.
 pub fn enrol(s: &mut [u8], key: u64, first: u32) -> RowAnswer
     ensures { λ r. ⌜ (rowWords r, now (s .exit)) ≡ onSheet (call (Enrol key first)) (now (s .entry)) ⌝ }
 {
@@ -43,14 +43,14 @@ pub fn enrol(s: &mut [u8], key: u64, first: u32) -> RowAnswer
     judged::enrol(s, fine, key, first)
 }
 
-// Finds a stream; answers its row.
+// Finds a stream. Answers its row.
 pub fn find(s: &[u8], key: u64) -> RowAnswer
     ensures { λ r. ⌜ (rowWords r, now (s .entry)) ≡ onSheet (call (Ask (Find key))) (now (s .entry)) ⌝ }
 {
     judged::find(s, right::is_sheet(s), key)
 }
 
-// Opens a row at a desk.
+// Opens a row at a desk: the desk gets two copies of it.
 pub fn open(s: &mut [u8], desk: u32, row: u32) -> Answer
     ensures { λ r. ⌜ (answerWords r, now (s .exit)) ≡ onSheet (call (Open desk row)) (now (s .entry)) ⌝ }
 {
@@ -72,7 +72,7 @@ pub fn untick(s: &mut [u8], desk: u32, number: u32) -> Answer
     mark(s, desk, number, false)
 }
 
-// Ticks a number, where `on`, or unticks it.
+// Ticks a number if `on` is true, else unticks it.
 fn mark(s: &mut [u8], desk: u32, number: u32, on: bool) -> Answer
     ensures { λ r. ⌜ (answerWords r, now (s .exit)) ≡ onSheet (call (Mark on desk number)) (now (s .entry)) ⌝ }
 {
@@ -80,7 +80,7 @@ fn mark(s: &mut [u8], desk: u32, number: u32, on: bool) -> Answer
     judged::mark(s, fine, desk, number, on)
 }
 
-// Drops what the desk has open.
+// Drops what the desk has open: the desk is closed, and nothing is saved.
 pub fn drop(s: &mut [u8], desk: u32) -> Answer
     ensures { λ r. ⌜ (answerWords r, now (s .exit)) ≡ onSheet (call (Drop desk)) (now (s .entry)) ⌝ }
 {
@@ -88,7 +88,7 @@ pub fn drop(s: &mut [u8], desk: u32) -> Answer
     judged::drop(s, fine, desk)
 }
 
-// Saves what the desk has worked on, where its row is still as it was opened.
+// Saves the desk's worked copy into its row, if the row is still as the desk opened it.
 pub fn save(s: &mut [u8], desk: u32) -> Answer
     ensures { λ r. ⌜ (answerWords r, now (s .exit)) ≡ onSheet (call (Save desk)) (now (s .entry)) ⌝ }
 {
@@ -96,7 +96,7 @@ pub fn save(s: &mut [u8], desk: u32) -> Answer
     judged::save(s, fine, desk)
 }
 
-// Strikes a row that no desk has open: its place is free again.
+// Strikes a row that no desk has open. Its place is free again.
 pub fn strike(s: &mut [u8], row: u32) -> Answer
     ensures { λ r. ⌜ (answerWords r, now (s .exit)) ≡ onSheet (call (Strike row)) (now (s .entry)) ⌝ }
 {
@@ -104,7 +104,7 @@ pub fn strike(s: &mut [u8], row: u32) -> Answer
     judged::strike(s, fine, row)
 }
 
-// Reports on a row: how many numbers are ticked, how many are missing, and the lowest missing one.
+// Answers how many numbers of a row are ticked, how many are missing, and the lowest missing one.
 pub fn row_report(s: &[u8], row: u32) -> ReportAnswer
     ensures { λ r. ⌜ (reportAnswerWords r, now (s .entry)) ≡ onSheet (call (Ask (RowReport row))) (now (s .entry)) ⌝ }
 {
@@ -115,7 +115,7 @@ pub fn row_report(s: &[u8], row: u32) -> ReportAnswer
     ledger_counts::row_report(s, row as usize)
 }
 
-// Finds the first missing number and its row.
+// Answers the first missing number and its row.
 pub fn first_gap(s: &[u8]) -> GapAnswer
     ensures { λ r. ⌜ (gapWords r, now (s .entry)) ≡ onSheet (call (Ask FirstGap)) (now (s .entry)) ⌝ }
 {
@@ -132,7 +132,7 @@ pub fn is_sheet(s: &[u8]) -> bool
     right::is_sheet(s)
 }
 
-// Tells a row's stream: its key, and its first number.
+// Answers a row's stream: its key and its first number.
 pub fn row(s: &[u8], row: u32) -> StreamAnswer
     ensures { λ r. ⌜ (streamWords r, now (s .entry)) ≡ onSheet (call (Ask (RowStream row))) (now (s .entry)) ⌝ }
 {
@@ -147,7 +147,7 @@ pub fn row(s: &[u8], row: u32) -> StreamAnswer
     }
 }
 
-// Tells whether a desk is closed; or its row, and whether a save would be stale now.
+// Answers whether a desk is closed, or else its row and whether a save would be stale now.
 pub fn desk(s: &[u8], desk: u32) -> DeskAnswer
     ensures { λ r. ⌜ (deskWords r, now (s .entry)) ≡ onSheet (call (Ask (DeskState desk))) (now (s .entry)) ⌝ }
 {
@@ -165,7 +165,7 @@ pub fn desk(s: &[u8], desk: u32) -> DeskAnswer
     }
 }
 
-// Tells how many ticks and unticks a desk has not saved.
+// Answers how many ticks and unticks a desk has not saved.
 pub fn unsaved(s: &[u8], desk: u32) -> UnsavedAnswer
     ensures { λ r. ⌜ (unsavedWords r, now (s .entry)) ≡ onSheet (call (Ask (Unsaved desk))) (now (s .entry)) ⌝ }
 {

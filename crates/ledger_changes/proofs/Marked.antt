@@ -1,4 +1,4 @@
--- A tick or an untick of a worked copy's bytes is one of the desk's worked set. Assumes nothing.
+-- A tick or an untick in the bytes of a worked copy is a tick or an untick in the desk's worked set. Assumes nothing.
 use Prim.Native.Nat.{ℕ, _+_, _/_, _<_}
 use native.Mathlib.Omega.{arith}
 use mathlib.Core.Bool.{Bool, true, false, cond}
@@ -18,7 +18,7 @@ use Rattle.octets.specs.Octets.{part, put}
 use Rattle.octets.proofs.Laws.{Bytes}
 use Rattle.octets.proofs.Parts.{part-whole}
 use Rattle.ledger_sheet.specs.Sheet.{ticksSize, rowSize, workedAt, byteBits, deskAt, right}
-use Rattle.ledger_sheet.specs.Outcome.{Outcome, judged}
+use Rattle.ledger_sheet.specs.Outcome.{Outcome, refusedOr}
 use Rattle.ledger_changes.specs.inner.Rows.{setTick, clearTick}
 use Rattle.ledger_changes.specs.inner.Bytes.{marked, markRules, markPosition, markRow}
 use Rattle.ledger_layout.specs.Ticks.{tickedAt}
@@ -83,7 +83,7 @@ module _ (key first : ℕ) (t : Positions) (ok : PlaceOk (row key first t)) wher
       ≡ cond (eqb (markVerdict flag i t) 0)
       (accepted, placeBytes (row key first (set t i flag)))
       (markVerdict flag i t ∷ [], bytes)
-  unfolding markRow markPosition judged
+  unfolding markRow markPosition refusedOr
   mark-law flag n =
       let says = row-says bytes 0 key first t ok (part-whole bytes rowSize (length-place (row key first t))) in
       let i = position key first n in

@@ -1,4 +1,4 @@
--- Bytes read into an array, one a turn. Assumes nothing.
+-- Bytes read into an array, one in each turn of a loop. Assumes nothing.
 use Prim.Native.Nat.{ℕ, _+_, _<_}
 use native.Mathlib.Nat.{eq-or-lt-of-le}
 use native.Mathlib.Omega.{arith}

@@ -1,4 +1,4 @@
--- What a run of calls writes into a sheet, piece by piece, is what the definitions of `specs/Bytes.antt` say. Assumes nothing.
+-- What several writes make of a sheet, one after the other, is what the definitions of `specs/Bytes.antt` say. Assumes nothing.
 use Prim.Native.Nat.{ℕ, _+_, _-_, _≤_, _<_}
 use native.Mathlib.Omega.{arith}
 use mathlib.Core.List.{List, [], _∷_, _++_}
@@ -6,7 +6,7 @@ use mathlib.Core.Path.{_≡_, refl, _∙_}
 use lib.ListN.{length, set, replicate, length-append, length-replicate, length-set}
 use Rattle.octets.specs.Octets.{bytesOf, part, put}
 use Rattle.octets.proofs.Laws.{length-bytesOf, length-part}
-use Rattle.ledger_sheet.specs.Sheet.{usedWordSize, usedWord, keyStart, keySize, firstAt, firstSize, ticksAt, ticksSize, rowSize, rowCount}
+use Rattle.ledger_sheet.specs.Sheet.{usedFlagSize, usedFlag, keyStart, keySize, firstAt, firstSize, ticksAt, ticksSize, rowSize, rowCount}
 use Rattle.ledger_sheet.specs.Sheet.{rowsStart, deskRowAt, deskZerosAt, deskZerosSize, openedAt, workedAt, deskCount, desksStart, sheetSize, headerNumberSize}
 use Rattle.ledger_sheet.specs.Sheet.{lengthAt, usedAt, rowCountAt, rowsStartAt, deskCountAt, desksStartAt, rowAt, deskAt, used}
 use Rattle.ledger_layout.specs.Rows.{rowBytes}
@@ -52,17 +52,17 @@ fresh-written s l p q =
 -- ---- a row
 
 pub row-written : (s : List ℕ) (a key first : ℕ) (ticks : List ℕ) {t u v w : List ℕ} → a + rowSize ≤ length s → length ticks ≡ ticksSize
-    → t ≡ put s a (bytesOf usedWordSize usedWord) → u ≡ put t (a + keyStart) (bytesOf keySize key) → v ≡ put u (a + firstAt) (bytesOf firstSize first)
+    → t ≡ put s a (bytesOf usedFlagSize usedFlag) → u ≡ put t (a + keyStart) (bytesOf keySize key) → v ≡ put u (a + firstAt) (bytesOf firstSize first)
     → w ≡ put v (a + ticksAt) ticks → w ≡ put s a (rowBytes key first ticks)
 unfolding rowBytes
 row-written s a key first ticks room lt o p q r =
-    let word = bytesOf usedWordSize usedWord in
-    let n = length-bytesOf usedWordSize usedWord in
+    let flag = bytesOf usedFlagSize usedFlag in
+    let n = length-bytesOf usedFlagSize usedFlag in
     let k = length-bytesOf keySize key in
     let f = length-bytesOf firstSize first in
-    let one = put-next s a word (a + keyStart) (bytesOf keySize key) o p (omega arith) (omega arith) in
-    let two = put-next s a (word ++ bytesOf keySize key) (a + firstAt) (bytesOf firstSize first) one q (rw (length-append, n, k)) (omega arith) in
-    put-next s a (word ++ bytesOf keySize key ++ bytesOf firstSize first) (a + ticksAt) ticks two r
+    let one = put-next s a flag (a + keyStart) (bytesOf keySize key) o p (omega arith) (omega arith) in
+    let two = put-next s a (flag ++ bytesOf keySize key) (a + firstAt) (bytesOf firstSize first) one q (rw (length-append, n, k)) (omega arith) in
+    put-next s a (flag ++ bytesOf keySize key ++ bytesOf firstSize first) (a + ticksAt) ticks two r
     (simp (length-append, n, k, f)) (omega arith)
 
 -- ---- an open desk

@@ -1,2 +1,2 @@
--- What the contracts of `ledger_changes` cite.
+-- The definitions that contracts of `ledger_changes` cite.
 pub mod inner

@@ -1,4 +1,4 @@
-// Desks, and the sheet as a whole: made fresh, opened, saved, cleared.
+// Makes a sheet fresh; opens, saves and clears desks.
 use ledger_sheet as sheet;
 use ledger_sheet::Answer;
 use octets::numbers;
@@ -17,7 +17,7 @@ ghost use Rattle.ledger_layout.specs.Layout.{layout, bookOf, call, laidOut};
 ghost use Rattle.ledger_changes.specs.inner.Books.{opened, isCurrent, stored};
 ghost use Rattle.ledger_sheet.specs.Words.{answerWords};
 
-// Makes a slice of a sheet's length a fresh sheet.
+// Makes a slice of the right length a fresh sheet.
 pub fn make_fresh(s: &mut [u8])
     requires { ⌜ length (now s) ≡ sheetSize ⌝ }
     ensures { λ _. ⌜ now (s .exit) ≡ freshSheet ⌝ }
@@ -26,7 +26,7 @@ pub fn make_fresh(s: &mut [u8])
     octets::clear(s, sheet::ROWS_AT, sheet::SHEET - sheet::ROWS_AT);
 }
 
-// Writes the header of a sheet with so many rows used.
+// Writes the header of a sheet with this many used rows.
 fn write_header(s: &mut [u8], used: u64)
     requires { ⌜ rowsStart ≤ length (now s) ⌝ }
     ensures { λ _. ⌜ now (s .exit) ≡ put (now (s .entry)) 0 (headerBytes used) ⌝ }
@@ -63,7 +63,7 @@ pub fn open_desk(s: &mut [u8], d: usize, row: usize)
     octets::copy(s, from, a + sheet::WORKED_AT, sheet::ROW);
 }
 
-// Clears desk d.
+// Closes desk d: all its bytes become zero.
 pub fn clear_desk(s: &mut [u8], d: usize)
     requires { ⌜ IsSheet (now s) × (d < deskCount) ⌝ }
     ensures { λ _. ⌜ now (s .exit) ≡ layout (putDesk d closed (bookOf (now (s .entry)))) ⌝ }
@@ -71,7 +71,7 @@ pub fn clear_desk(s: &mut [u8], d: usize)
     octets::clear(s, sheet::desk_at(d), sheet::DESK);
 }
 
-// Saves desk d: where its row is still as it was opened, the worked copy becomes the row; the desk is cleared.
+// Saves desk d. If its row is still as opened, the row becomes the worked copy. In any case the desk is closed.
 pub fn save_desk(s: &mut [u8], d: usize) -> Answer
     requires { ⌜ IsSheet (now s) × (d < deskCount) × (isOpen (desk (bookOf (now s)) d) ≡ true) ⌝ }
     ensures { λ r. ⌜ (answerWords r, now (s .exit)) ≡ laidOut (call (Save d) (bookOf (now (s .entry)))) ⌝ }
@@ -94,7 +94,7 @@ pub fn is_current(s: &[u8], d: usize) -> bool
     octets::is_same(s, row, s, sheet::desk_at(d) + sheet::OPENED_AT, sheet::ROW)
 }
 
-// The row that desk d has open becomes the worked copy.
+// Makes the row that desk d has open equal to the worked copy.
 fn store(s: &mut [u8], d: usize)
     requires { ⌜ IsSheet (now s) × (d < deskCount) × (isOpen (desk (bookOf (now s)) d) ≡ true) ⌝ }
     ensures { λ _. ⌜ now (s .exit) ≡ layout (stored d (bookOf (now (s .entry)))) ⌝ }

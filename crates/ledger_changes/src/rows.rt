@@ -1,4 +1,4 @@
-// Rows: as values, by their key, enrolled and struck.
+// Rows as values; enrols and strikes rows.
 use ledger_sheet as sheet;
 use ledger_sheet::Row;
 use ledger_sheet::right;
@@ -16,7 +16,7 @@ ghost use Rattle.ledger_layout.specs.Layout.{layout, bookOf};
 ghost use Rattle.ledger_layout.specs.Rows.{rowBytes};
 ghost use Rattle.ledger_changes.specs.inner.Rows.{rowValueAt, blankRow};
 
-// A row with no ticks: the blank map is an array of zeros.
+// A row with no ticks.
 pub fn blank_row(key: u64, first: u32) -> Row
     ensures { λ r. ⌜ r ≡ blankRow key first ⌝ }
 {
@@ -27,7 +27,7 @@ pub fn blank_row(key: u64, first: u32) -> Row
     }
 }
 
-// The row or the copy at offset a, as a value.
+// The row or copy at offset a, as a value.
 pub fn read_row(s: &[u8], a: usize) -> Row
     requires { ⌜ a + rowSize ≤ length (now s) ⌝ }
     ensures { λ r. ⌜ r ≡ rowValueAt (now (s .entry)) a ⌝ }
@@ -70,7 +70,7 @@ fn write_ticks(s: &mut [u8], a: usize, ticks: &[u8])
     }
 }
 
-// Enrols a stream in the lowest free row, and answers the row.
+// Enrols a stream in the lowest free row, and gives the row.
 pub fn enrol_row(s: &mut [u8], key: u64, first: u32) -> u32
     requires { ⌜ IsSheet (now s) × (allUsed (bookOf (now s) .places) ≡ false) ⌝ }
     ensures { λ r. ⌜ r ≡ lowestFree (bookOf (now (s .entry)) .places) ⌝ }
@@ -83,7 +83,7 @@ pub fn enrol_row(s: &mut [u8], key: u64, first: u32) -> u32
     row as u32
 }
 
-// Strikes a row: it is all zero, and the header counts one less.
+// Strikes a row: all its bytes become zero, and the header counts one used row less.
 pub fn strike_row(s: &mut [u8], row: usize)
     requires { ⌜ IsSheet (now s) × (isFree (place (bookOf (now s)) row) ≡ false) × (anyHasOpen row (bookOf (now s) .desks) ≡ false) ⌝ }
     ensures { λ _. ⌜ now (s .exit) ≡ layout (putPlace row free (bookOf (now (s .entry)))) ⌝ }

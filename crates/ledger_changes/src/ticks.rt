@@ -1,4 +1,4 @@
-// Ticks in a row or a desk's copy of one.
+// Ticks and unticks in a row or a desk's copy of one.
 use ledger_sheet as sheet;
 use ledger_sheet::Answer;
 use ledger_sheet::right;
@@ -18,7 +18,7 @@ ghost use Rattle.ledger_sheet.specs.Words.{answerWords};
 // How many positions a row has.
 pub const POSITIONS: usize = sheet::BYTE_BITS * sheet::TICKS;
 
-// Ticks or unticks number n in the worked copy of desk d: those bytes alone are lent on.
+// Ticks or unticks number n in the worked copy of desk d. It lends only those bytes to `mark_row`.
 pub fn mark_desk(s: &mut [u8], d: usize, n: u32, on: bool) -> Answer
     requires { ⌜ IsSheet (now s) × (d < deskCount) × (isOpen (desk (bookOf (now s)) d) ≡ true) ⌝ }
     ensures { λ r. ⌜ (answerWords r, now (s .exit)) ≡ laidOut (call (Mark on d n) (bookOf (now (s .entry)))) ⌝ }

@@ -1,4 +1,4 @@
--- The clauses of `right`: of a desk whose first byte is known, and what a right sheet tells. Assumes nothing.
+-- The clauses of `right`: for a desk whose first byte is known, and what follows from a right sheet. Assumes nothing.
 use Prim.Native.Nat.{ℕ, _+_, _*_, _-_, _≤_}
 use native.Mathlib.Omega.{arith}
 use mathlib.Core.Bool.{Bool, true, _&&_, and-true}

@@ -1,4 +1,4 @@
--- The converter's theorem is of the function's contract: `convert` asks nothing of a caller, and promises what it speaks of. `a` is the
+-- The converter's theorem holds of the function's contract: `convert` requires nothing of a caller, and promises what the theorem uses. `a` is the
 -- arguments, old and new, r the answer, e the same at exit. Assumes nothing.
 use mathlib.Core.List.{[], _∷_}
 use mathlib.Core.Path.{_≡_}

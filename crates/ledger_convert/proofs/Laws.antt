@@ -1,4 +1,4 @@
--- A converted sheet answers as the old one's book; and an old sheet given to a new call is refused. Assumes nothing.
+-- A call on a converted sheet answers as on the old sheet's book; and a new call refuses an old sheet. Assumes nothing.
 use Prim.Native.Nat.{ℕ}
 use native.Mathlib.Omega.{arith}
 use mathlib.Core.Bool.{Bool, true, false, _&&_, false≢true}

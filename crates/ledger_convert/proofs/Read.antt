@@ -1,20 +1,19 @@
--- What a right old sheet holds: its rows and copies, read as new ones whose used word would stand before their key, are its book's; and the
--- book is well-formed. Assumes nothing.
+-- What a right old sheet holds. Its rows and copies, read as new ones whose used flag stands before their key, are those of its book; and the book is
+-- well-formed. Assumes nothing.
 use Prim.Native.Nat.{ℕ, _+_, _≤_, _<_}
 use native.Mathlib.Nat.{add-zero}
 use native.Mathlib.Omega.{arith}
 use mathlib.Core.Bool.{Bool, true, false, cond, not, _&&_}
-use mathlib.Core.Option.{some}
 use mathlib.Core.List.{List}
-use mathlib.Core.Path.{_≡_, refl, sym, ap, _∙_}
+use mathlib.Core.Path.{_≡_, refl, ap, _∙_}
 use lib.Dec.{ltb}
 use lib.ListN.{length, List·getD-eq-default}
 use borrow.Author.Tests.{ltb-true, ltb-false, lt-ltb, le-ltb, eqb-false, not-true}
 use Rattle.laws.proofs.Bools.{and-split}
-use Rattle.ledger_model.specs.Positions.{rowLength}
-use Rattle.ledger_model.specs.Book.{Place, free, row, closed, Book, place, desk, isFree, withTicks}
-use Rattle.ledger_model.specs.WellFormed.{IsSet, PlaceOk, DeskOk, keyOf, WellFormed}
-use Rattle.octets.specs.Octets.{numberAt, part}
+use Rattle.ledger_model.specs.Positions.{rowLength, Positions}
+use Rattle.ledger_model.specs.Book.{free, row, Book, place, isFree, withTicks}
+use Rattle.ledger_model.specs.WellFormed.{IsSet, WellFormed}
+use Rattle.octets.specs.Octets.{numberAt}
 use Rattle.octets.proofs.Laws.{Bytes, all-at, length-part}
 use Rattle.octets.proofs.Parts.{same-part}
 use Rattle.ledger_sheet.specs.Sheet.{keyStart, rowSize, ticksAt, ticksSize}
@@ -25,7 +24,8 @@ use Rattle.octets.specs.Lists.{table}
 use Rattle.ledger_layout.specs.Rows.{rowBytes}
 use Rattle.ledger_changes.specs.inner.Rows.{rowValueAt}
 use Rattle.ledger_layout.specs.Layout.{placeBytes}
-use Rattle.ledger_layout.proofs.Parts.{number-within}
+use Rattle.ledger_layout.proofs.FromParts.{RowsFine, DesksFine, well-formed}
+use Rattle.ledger_layout.proofs.Read.{number-same}
 use Rattle.octets.proofs.Lists.{length-table, getD-table, table-is}
 use Rattle.ledger_layout.proofs.Ticks.{ticks-bytes}
 use Rattle.ledger_sheet.specs.Sheet.{keySize, firstSize, rowCount, openedAt, deskCount, used}
@@ -80,10 +80,6 @@ desk-parts s d h o =
     let h3 = and-split row opened (h2 .0) in
     record { names = ltb-true _ _ (h3 .0); opened-carries = h3 .1; worked-carries = h2 .1 }
 
-number-same : (s : List ℕ) (a c m j n x y : ℕ) → part s a m ≡ part s c m → a + j ≡ x → c + j ≡ y → j + n ≤ m → numberAt s x n ≡ numberAt s y n
-number-same s a c m j n x y e p q l =
-    sym (number-within s a m j n x p l) ∙ ap (λ (t : List ℕ). numberAt t j n) e ∙ number-within s c m j n y q l
-
 module _ (s : List ℕ) (r : right s ≡ true) where
   abbrev clauses : Right s
   clauses = right-parts s r
@@ -136,65 +132,48 @@ module _ (s : List ℕ) (r : right s ≡ true) where
 
   -- ---- the book is well-formed
 
-  -- a place is one of the used rows, or free
-  by-place : (P : Place → Type 0) (i : ℕ)
-      → (i < used s → P (row (keyAt s (rowAt i)) (firstNumberAt s (rowAt i)) (oldTicksOf s (rowAt i)))) → P free → P (place b i)
-  unfolding oldPlaceIn
-  by-place P i f g = by (ltb i (used s)) refl
-    where
-      by : (t : Bool) → ltb i (used s) ≡ t → P (place b i)
-      by true e = rw (row-at i (ltb-true _ _ e)) (f (ltb-true _ _ e))
-      by false e = rw (place-at i, e) g
-
   set-there : (a : ℕ) → IsSet (oldTicksOf s a)
   unfolding oldTicksOf
   set-there a = length-table rowLength _
-
-  place-fine : (i : ℕ) → PlaceOk (place b i)
-  unfolding validKeys firstNumbers
-  place-fine i =
-      by-place PlaceOk i
-      (λ l. (all-at (used s) i _ (clauses .valid) l, ltb-true _ _ (all-at (used s) i _ (clauses .firsts) l), set-there (rowAt i)))
-      tt
-
-  desk-fine : (d : ℕ) → DeskOk (b .places) (desk b d)
-  unfolding oldBookOf oldDeskIn
-  desk-fine d = by (ltb d deskCount) refl (isClosed s d) refl
-    where
-      by : (t : Bool) → ltb d deskCount ≡ t → (u : Bool) → isClosed s d ≡ u → DeskOk (b .places) (desk b d)
-      by false e u o =
-          rw (List·getD-eq-default (table deskCount (oldDeskIn s)) closed {n = d} (rw length-table (ltb-false _ _ e))) tt
-      by true e true o = rw (getD-table deskCount (oldDeskIn s) d closed (ltb-true _ _ e), o) tt
-      by true e false o =
-          let l = ltb-true _ _ e in
-          rw (getD-table deskCount (oldDeskIn s) d closed l, o)
-          (free-at (deskRow s d) ∙ ap not (lt-ltb _ _ (opened d l o .names)), set-there (deskAt d + openedAt), set-there (deskAt d + workedAt))
 
   keys-apart : (i j : ℕ) → i < used s → j < i → keyAt s (rowAt j) ≡ keyAt s (rowAt i) → ⊥
   unfolding differentKeys
   keys-apart i j l m = eqb-false _ _ (not-true _ (all-at i j _ (all-at (used s) i _ (clauses .different) l) m))
 
-  keys-fine : (i j key : ℕ) → keyOf (place b i) ≡ some key → keyOf (place b j) ≡ some key → i ≡ j
-  keys-fine i j key =
-      by-place (λ p. keyOf p ≡ some key → keyOf (place b j) ≡ some key → i ≡ j) i
-      (λ li ei. by-place (λ p. keyOf p ≡ some key → i ≡ j) j (λ lj ej. same li lj (cc)) (λ ej. cc))
-      (λ ei ej. cc)
-    where
-      same : i < used s → j < used s → keyAt s (rowAt i) ≡ keyAt s (rowAt j) → i ≡ j
-      same li lj e = by (ltb i j) refl (ltb j i) refl
-        where
-          by : (t : Bool) → ltb i j ≡ t → (u : Bool) → ltb j i ≡ u → i ≡ j
-          by true p u q = absurd (keys-apart j i lj (ltb-true _ _ p) e)
-          by false p true q = absurd (keys-apart i j li (ltb-true _ _ q) (sym e))
-          by false p false q = let x = ltb-false i j p in let y = ltb-false j i q in omega arith
+  abbrev isUsed : ℕ → Bool
+  isUsed i = ltb i (used s)
+
+  abbrev key : ℕ → ℕ
+  key i = keyAt s (rowAt i)
+
+  abbrev first : ℕ → ℕ
+  first i = firstNumberAt s (rowAt i)
+
+  rows-fine : RowsFine isUsed key first (λ i. oldTicksOf s (rowAt i))
+  unfolding validKeys firstNumbers
+  rows-fine =
+      record {
+        valid = λ i l e. all-at (used s) i _ (clauses .valid) (ltb-true _ _ e);
+        numbers = λ i l e. ltb-true _ _ (all-at (used s) i _ (clauses .firsts) (ltb-true _ _ e));
+        different = λ i j l e o m. keys-apart i j (ltb-true _ _ e) m;
+        sets = λ i. set-there (rowAt i);
+      }
+
+  abbrev openedSet : ℕ → Positions
+  openedSet d = oldTicksOf s (deskAt d + openedAt)
+
+  abbrev workedSet : ℕ → Positions
+  workedSet d = oldTicksOf s (deskAt d + workedAt)
+
+  desks-fine : DesksFine isUsed key first (λ i. oldTicksOf s (rowAt i)) (isClosed s) (deskRow s) openedSet workedSet
+  desks-fine =
+      record {
+        names = λ d l o. let there = opened d l o .names in (omega (arith, few), lt-ltb _ _ there);
+        opened-sets = λ d. set-there (deskAt d + openedAt);
+        worked-sets = λ d. set-there (deskAt d + workedAt);
+      }
 
   pub book-fine : WellFormed b
-  unfolding oldBookOf
+  unfolding oldBookOf oldPlaceIn oldDeskIn
   book-fine =
-      record {
-        places-count = length-table rowCount (oldPlaceIn s);
-        desks-count = length-table deskCount (oldDeskIn s);
-        place-ok = place-fine;
-        desk-ok = desk-fine;
-        keys-differ = keys-fine;
-      }
+      well-formed isUsed key first (λ i. oldTicksOf s (rowAt i)) (isClosed s) (deskRow s) openedSet workedSet rows-fine desks-fine

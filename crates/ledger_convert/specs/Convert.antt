@@ -1,5 +1,5 @@
--- Document 02, request 10, the converter: a new sheet with the old one's rows at their places and its open desks; 20 for an old sheet that is
--- not right, or a slice for the new one that has not 6,968 bytes. Assumes nothing.
+-- Document 02, request 10, the converter: makes a new sheet with the old sheet's rows at the same places, and its open desks. It answers 20 if the
+-- old sheet is not right, or if the slice for the new one does not have 6,968 bytes. Assumes nothing.
 -- The manual, docs/INTERFACE.md: "Calls on the ledger".
 use Prim.Native.Nat.{ℕ, _+_, _/_, _%_, _^_}
 use mathlib.Core.Bool.{Bool, cond, _&&_}
@@ -16,7 +16,7 @@ use Rattle.ledger_sheet.specs.Sheet.{rowCount, byteBits, openedAt, deskCount, u
 use Rattle.ledger_convert.specs.Old.{ticksAt, workedAt, rowAt}
 use Rattle.ledger_convert.specs.Old.{deskAt, keyAt, firstNumberAt, deskRow, isClosed, right}
 
--- Position i of the old row or copy at offset a: tick byte i / 8, and in it the bit that counts 2 ^ (i % 8).
+-- Position i of the old row or copy at offset a: the byte i / 8 of its ticks, and in that byte the bit with weight 2 ^ (i % 8).
 abbrev pub oldTickedAt : List ℕ → ℕ → ℕ → Bool
 oldTickedAt s a i = eqb (getD s (a + ticksAt + i / byteBits) 0 / 2 ^ (i % byteBits) % 2) 1
 
@@ -34,6 +34,6 @@ oldDeskIn s d =
 unfoldable pub oldBookOf : List ℕ → Book
 oldBookOf s = record { places = table rowCount (oldPlaceIn s); desks = table deskCount (oldDeskIn s) }
 
--- What the converter answers and leaves in the new slice: the book of the old sheet, laid out.
+-- The answer of the converter, and the new slice after the call: the layout of the old sheet's book.
 unfoldable pub convertOn : (old new : List ℕ) → Outcome
 convertOn old new = cond (eqb (length new) sheetSize && right old) (0 ∷ [], layout (oldBookOf old)) (20 ∷ [], new)

@@ -1,4 +1,4 @@
--- The old sheet, and what the call that converts one promises.
+-- The old sheet, and what the converter promises.
 pub mod Old
 pub mod Convert
 pub mod Laws

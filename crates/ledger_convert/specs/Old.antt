@@ -1,5 +1,5 @@
--- The old sheet, document 01, "The ledger sheet", with request 03's rule on first numbers: where its parts stand, and when a list of bytes
--- is a right one. Its sizes and offsets that the new sheet has too are named there (`ledger_sheet/specs/Sheet.antt`), the others here.
+-- The old sheet (document 01, "The ledger sheet", with request 03's rule for first numbers): its sizes and offsets, and when a list of bytes is a
+-- right old sheet. Sizes and offsets that the new sheet shares are defined in `ledger_sheet/specs/Sheet.antt`.
 -- Assumes nothing.
 -- The manual, docs/INTERFACE.md: "Calls on the ledger".
 use Prim.Native.Nat.{ℕ, _+_, _*_}
@@ -15,8 +15,8 @@ use Rattle.ledger_sheet.specs.Sheet.{lengthAt, rowCountAt, rowsStartAt, deskCou
 
 -- ---- sizes and offsets
 
--- A row of 140 bytes has no word that says whether it is used: 8 of key, 4 of first number, 128 of ticks. There are 32, and the first
--- stands at 24, behind a header of the same six numbers.
+-- A row is 140 bytes: key (8), first number (4), ticks (128). It has no used flag. There are 32 rows, the first at offset 24, behind a header of the
+-- same six numbers as the new one's.
 abbrev pub firstAt : ℕ
 firstAt = keySize
 
@@ -26,8 +26,7 @@ ticksAt = firstAt + firstSize
 abbrev pub rowSize : ℕ
 rowSize = ticksAt + ticksSize
 
--- A desk of 284 bytes: whether it is open, its row, two zeros, and two copies of the row of 140 each, as opened and as worked on. There
--- are eight, and they stand behind the rows.
+-- A desk is 284 bytes: 1 if it is open, its row, two zeros, and two copies of the row: as opened, and as worked on. There are eight desks, behind the rows.
 abbrev pub workedAt : ℕ
 workedAt = openedAt + rowSize
 
@@ -41,23 +40,23 @@ desksStart = rowsStart + rowSize * rowCount
 abbrev pub sheetSize : ℕ
 sheetSize = desksStart + deskSize * deskCount
 
--- ---- what stands there
+-- ---- the values there
 
--- The offset of row i, and of desk d, both from 0.
+-- The offsets of row i and desk d. Both count from 0.
 abbrev pub rowAt : ℕ → ℕ
 rowAt i = rowsStart + rowSize * i
 
 abbrev pub deskAt : ℕ → ℕ
 deskAt d = desksStart + deskSize * d
 
--- The key and the first number of the row, or of the copy of one, at offset a.
+-- The key and the first number of the row, or the copy of a row, at offset a.
 abbrev pub keyAt : List ℕ → ℕ → ℕ
 keyAt s a = numberAt s a keySize
 
 abbrev pub firstNumberAt : List ℕ → ℕ → ℕ
 firstNumberAt s a = numberAt s (a + firstAt) firstSize
 
--- The first byte of desk d, and the row that it names.
+-- The first byte of desk d, and the row that the desk names.
 abbrev pub deskByte : List ℕ → ℕ → ℕ
 deskByte s d = getD s (deskAt d) 0
 
@@ -68,38 +67,38 @@ deskRow s d = getD s (deskAt d + deskRowAt) 0
 abbrev pub isClosed : List ℕ → ℕ → Bool
 isClosed s d = eqb (deskByte s d) 0
 
--- ---- when a sheet is right, a definition for each clause
+-- ---- a right old sheet: one definition for each clause
 
--- The header's fixed numbers, and a count that there are rows for.
+-- The header's fixed numbers are right, and its count is at most 32.
 unfoldable pub headerRight : List ℕ → Bool
 headerRight s =
     eqb (headerNumber s lengthAt) sheetSize && leb (used s) rowCount && eqb (headerNumber s rowCountAt) rowCount
     && eqb (headerNumber s rowsStartAt) rowsStart && eqb (headerNumber s deskCountAt) deskCount
     && eqb (headerNumber s desksStartAt) desksStart
 
--- The used rows are the first ones; their keys are valid, and no two the same.
+-- The used rows come first. Their keys are valid, and no two are the same.
 unfoldable pub validKeys : List ℕ → Bool
 validKeys s = all (used s) (λ i. validKey (keyAt s (rowAt i)))
 
 unfoldable pub differentKeys : List ℕ → Bool
 differentKeys s = all (used s) (λ i. all i (λ j. not (eqb (keyAt s (rowAt j)) (keyAt s (rowAt i)))))
 
--- Request 03: a used row's first number is one that records of its stream have. The copies at desks carry it.
+-- Request 03: the first number of a used row is one that records of its stream can have. The copies at desks have the same first number.
 unfoldable pub firstNumbers : List ℕ → Bool
 firstNumbers s = all (used s) (λ i. isNumber (keyAt s (rowAt i)) (firstNumberAt s (rowAt i)))
 
--- Zeros alone in rows that are not used, and in closed desks.
+-- Unused rows and closed desks are all zeros.
 unfoldable pub unusedZero : List ℕ → Bool
 unusedZero s = all rowCount (λ i. ltb i (used s) || zeroAt s (rowAt i) rowSize)
 
 unfoldable pub closedZero : List ℕ → ℕ → Bool
 closedZero s d = not (isClosed s d) || zeroAt s (deskAt d) deskSize
 
--- A desk begins with 0 or 1, and its two zeros are so.
+-- A desk begins with 0 or 1, and its two zeros are zero.
 unfoldable pub deskMarked : List ℕ → ℕ → Bool
 deskMarked s d = leb (deskByte s d) 1 && zeroAt s (deskAt d + deskZerosAt) deskZerosSize
 
--- The row of an open desk is used, and its key and first number stand in both copies.
+-- The row of an open desk is used, and both copies have its key and first number.
 abbrev pub carries : List ℕ → (copy row : ℕ) → Bool
 carries s copy row = sameAt s (rowAt row) s copy ticksAt
 

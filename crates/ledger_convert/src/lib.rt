@@ -1,4 +1,4 @@
-// Old sheets, of document 01's layout, made new ones (document 02, request 10).
+// Converts old sheets (document 01's layout) to new ones (document 02, request 10).
 pub mod old;
 
 use ledger_changes::desks;
@@ -23,8 +23,8 @@ ghost use Rattle.ledger_convert.specs.Old as Old;
 ghost use Rattle.ledger_convert.specs.Convert.{oldBookOf, convertOn};
 ghost use Rattle.ledger_convert.specs.inner.Laid.{Laid};
 
-// Makes a new sheet of an old one: places and open desks are kept. What is not a right old sheet, or no slice of a new sheet's length, is
-// refused, and nothing is written.
+// Makes a new sheet from an old one, with the same places and open desks. Refuses if `old` is not a right old sheet or `new` does not have a sheet's
+// length; then it writes nothing.
 pub fn convert(old: &[u8], new: &mut [u8]) -> Answer
     ensures { λ r. ⌜ (answerWords r, now (new .exit)) ≡ convertOn (now (old .entry)) (now (new .entry)) ⌝ }
 {
@@ -49,7 +49,7 @@ fn lay_out(old: &[u8], new: &mut [u8])
     write_desks(old, new);
 }
 
-// Lays out the used rows.
+// Writes the used rows.
 fn write_rows(old: &[u8], new: &mut [u8], used: usize)
     requires { ⌜ (Old.right (now old) ≡ true) × (used ≡ Sheet.used (now old)) ⌝ }
     requires { ⌜ Laid (now old) (now new) 0 0 ⌝ }
@@ -61,7 +61,7 @@ fn write_rows(old: &[u8], new: &mut [u8], used: usize)
     }
 }
 
-// Lays out the open desks.
+// Writes the open desks.
 fn write_desks(old: &[u8], new: &mut [u8])
     requires { ⌜ Old.right (now old) ≡ true ⌝ }
     requires { ⌜ Laid (now old) (now new) rowCount 0 ⌝ }

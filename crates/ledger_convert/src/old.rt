@@ -1,4 +1,4 @@
-// Whether a slice is a right old sheet: document 01's layout, before rows had a used word.
+// Whether a slice is a right old sheet (document 01's layout, whose rows have no used flag).
 use ledger_changes::rows;
 use ledger_sheet as sheet;
 use ledger_sheet::Row;
@@ -31,10 +31,10 @@ const DESKS_AT: usize = sheet::ROWS_AT + ROW * sheet::ROWS;
 
 pub const SHEET: usize = DESKS_AT + DESK * sheet::DESKS;
 
-// What a desk's copy carries of its row: all before the ticks.
+// A desk's copy has these bytes of its row: all before the ticks.
 const CARRIED: usize = TICKS_AT;
 
-// Where row i stands; behind the last row, where the rows end.
+// The offset of row i. For i = ROWS, the offset where the rows end.
 pub fn row_at(i: usize) -> usize
     requires { ⌜ i ≤ rowCount ⌝ }
     ensures { λ r. ⌜ r ≡ rowAt i ⌝ }
@@ -42,7 +42,7 @@ pub fn row_at(i: usize) -> usize
     sheet::ROWS_AT + ROW * i
 }
 
-// Where desk d stands.
+// The offset of desk d.
 pub fn desk_at(d: usize) -> usize
     requires { ⌜ d < deskCount ⌝ }
     ensures { λ r. ⌜ r ≡ deskAt d ⌝ }
@@ -50,7 +50,6 @@ pub fn desk_at(d: usize) -> usize
     DESKS_AT + DESK * d
 }
 
-// Whether a slice is a right old sheet.
 pub fn is_old_sheet(s: &[u8]) -> bool
     ensures { λ r. ⌜ r ≡ right (now (s .entry)) ⌝ }
 {
@@ -87,7 +86,7 @@ pub fn rows_used(s: &[u8]) -> usize
     numbers::read_be(s, sheet::USED_AT, sheet::NUMBER) as usize
 }
 
-// The key of the row or the copy at offset a.
+// The key of the row, or the copy of a row, at offset a.
 fn key_at(s: &[u8], a: usize) -> u64
     requires { ⌜ a + rowSize ≤ length (now s) ⌝ }
     ensures { λ r. ⌜ r ≡ keyAt (now (s .entry)) a ⌝ }
@@ -95,7 +94,7 @@ fn key_at(s: &[u8], a: usize) -> u64
     numbers::read_be(s, a, sheet::KEY)
 }
 
-// The first number of the row or the copy at offset a.
+// The first number of the row, or the copy of a row, at offset a.
 fn first_at(s: &[u8], a: usize) -> u32
     requires { ⌜ a + rowSize ≤ length (now s) ⌝ }
     ensures { λ r. ⌜ r ≡ firstNumberAt (now (s .entry)) a ⌝ }
@@ -103,8 +102,8 @@ fn first_at(s: &[u8], a: usize) -> u32
     numbers::read_be(s, a + FIRST_AT, sheet::FIRST) as u32
 }
 
-// The row or the copy at offset a, as a value. A new row, from its key on, is laid out as an old one: so an old row is read as the new
-// one whose used word would stand before its key.
+// The row or copy at offset a, as a value. A new row has the same layout from its key on, so this reads an old row as a new one whose used flag
+// stands before its key.
 pub fn read_row(s: &[u8], a: usize) -> Row
     requires { ⌜ (keyStart ≤ a) × (a + rowSize ≤ length (now s)) ⌝ }
     ensures { λ r. ⌜ r ≡ rowValueAt (now (s .entry)) (a - keyStart) ⌝ }
@@ -112,7 +111,7 @@ pub fn read_row(s: &[u8], a: usize) -> Row
     rows::read_row(s, a - sheet::KEY_AT)
 }
 
-// Whether the used rows have valid, different keys and first numbers of their streams. Each key is read once.
+// Whether the used rows have valid keys, all different, and first numbers of their streams. Each key is read once.
 fn are_rows(s: &[u8]) -> bool
     requires { ⌜ Sized (now s) ⌝ }
     ensures { λ r. ⌜ r ≡ (validKeys (now (s .entry)) && differentKeys (now (s .entry)) && firstNumbers (now (s .entry))) ⌝ }
@@ -133,8 +132,8 @@ fn are_rows(s: &[u8]) -> bool
     valid & different & numbers
 }
 
-// Whether the unused rows are zero and each desk is right. The desks stand behind the unused rows, so that these and closed desks
-// that follow one another are one range of zeros, tested in one go.
+// Whether the unused rows are zero and each desk is right. The desks follow the unused rows, so these and the closed desks up to the next open one
+// are tested as one range of zeros.
 fn is_rest(s: &[u8]) -> bool
     requires { ⌜ Sized (now s) ⌝ }
     ensures { λ r. ⌜ r ≡ (unusedZero (now (s .entry)) && all deskCount (deskRight (now (s .entry)))) ⌝ }
@@ -152,8 +151,7 @@ fn is_rest(s: &[u8]) -> bool
     right & octets::is_long_zero(s, zeros, SHEET - zeros)
 }
 
-// Whether a desk that is not closed is marked open, has its two zeros, names a used row, and both its copies carry that row's key
-// and first number.
+// Whether an open desk is right: its first byte is 1, its two zeros are zero, its row is used, and both copies have that row's key and first number.
 fn is_open_desk(s: &[u8], d: usize) -> bool
     requires { ⌜ Sized (now s) ⌝ }
     requires { ⌜ (d < deskCount) × (deskByte (now s) d ≡ 0 → ⊥) ⌝ }

@@ -1,4 +1,4 @@
--- The positions that are ticked in one row and not in another, by words. Assumes nothing.
+-- The positions that are ticked in one row and not in another, counted by blocks. Assumes nothing.
 use Prim.Native.Nat.{ℕ, zero, suc, _+_, _-_, _*_, _/_, _%_, _^_, _<_, min}
 use native.Mathlib.Nat.{mod-lt, mul-add-mod-self-right, zero-lt-suc}
 use native.Mathlib.Omega.{arith}
@@ -11,10 +11,10 @@ use lib.Dec.{eqb}
 use Rattle.octets.specs.Lists.{table}
 use Rattle.ledger_model.specs.Positions.{minus, size}
 use Rattle.ledger_layout.specs.Ticks.{tickedAt, ticksIn}
-use Rattle.ledger_counts.specs.inner.Words.{wordBits, bitOf, IsWord}
-use Rattle.ledger_counts.proofs.WordCounts.{not-bit, count-more}
+use Rattle.ledger_counts.specs.inner.Blocks.{blockBits, bitOf, IsBlock}
+use Rattle.ledger_counts.proofs.BlockCounts.{not-bit, count-more}
 
--- A bit of two words taken together.
+-- A bit of two blocks taken together.
 pub and-bit : (x y i : ℕ) → bitOf (bitAnd x y) i ≡ (bitOf x i && bitOf y i)
 and-bit x y i = rw (and-shr x y i) (low (x / 2 ^ i) (y / 2 ^ i))
   where
@@ -42,17 +42,17 @@ minus-table (suc n) p q = ap (λ l. (p 0 && not (q 0)) ∷ l) (minus-table n (λ
 abbrev pub beyond : List ℕ → (a b i : ℕ) → Bool
 beyond s a b i = tickedAt s a i && not (tickedAt s b i)
 
-module _ (s : List ℕ) (a b k x y : ℕ) (in-x : IsWord s a k x) (in-y : IsWord s b k y) (fits-x : x < 2 ^ wordBits) (fits-y : y < 2 ^ wordBits) where
+module _ (s : List ℕ) (a b k x y : ℕ) (in-x : IsBlock s a k x) (in-y : IsBlock s b k y) (fits-x : x < 2 ^ blockBits) (fits-y : y < 2 ^ blockBits) where
   abbrev pub both : ℕ
-  both = bitAnd x (2 ^ wordBits - 1 - y)
+  both = bitAnd x (2 ^ blockBits - 1 - y)
 
-  pub beyond-fits : both < 2 ^ wordBits
-  beyond-fits = omega (arith, and-le-l x (2 ^ wordBits - 1 - y))
+  pub beyond-fits : both < 2 ^ blockBits
+  beyond-fits = omega (arith, and-le-l x (2 ^ blockBits - 1 - y))
 
-  pub beyond-count : size (table (wordBits * (k + 1)) (beyond s a b)) ≡ size (table (wordBits * k) (beyond s a b)) + ones both
+  pub beyond-count : size (table (blockBits * (k + 1)) (beyond s a b)) ≡ size (table (blockBits * k) (beyond s a b)) + ones both
   beyond-count =
       count-more (beyond s a b) k both
-      (λ i l. and-bit x (2 ^ wordBits - 1 - y) i ∙ rw (in-x i l, not-bit wordBits y i fits-y l, in-y i l)) beyond-fits
+      (λ i l. and-bit x (2 ^ blockBits - 1 - y) i ∙ rw (in-x i l, not-bit blockBits y i fits-y l, in-y i l)) beyond-fits
 
 pub beyond-all : (s : List ℕ) (a b : ℕ) → size (table 1024 (beyond s a b)) ≡ size (minus (ticksIn s a) (ticksIn s b))
 unfolding ticksIn

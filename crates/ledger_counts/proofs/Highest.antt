@@ -1,4 +1,4 @@
--- One past the highest number of which a test holds. Assumes nothing.
+-- One more than the highest number that satisfies a test. Assumes nothing.
 use Prim.Native.Nat.{ℕ, zero, suc, _+_, _-_, _≤_, _<_}
 use native.Mathlib.Nat.{add-zero, not-suc-le-zero, le-of-suc-le-suc, eq-or-lt-of-le}
 use native.Mathlib.Omega.{arith}

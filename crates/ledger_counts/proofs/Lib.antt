@@ -1,7 +1,7 @@
 pub mod Highest
 pub mod Missing
-pub mod WordBits
-pub mod WordCounts
+pub mod BlockBits
+pub mod BlockCounts
 pub mod Reports
 pub mod Starts
 pub mod Beyond

@@ -1,4 +1,4 @@
--- Counts on a table of flags, from what a scan finds: how many are ticked, one past the highest, the lowest unticked below it.
+-- Counts of a list of flags, from what a search finds: how many are ticked, the end of the ticks, and the lowest unticked position below it.
 -- Assumes nothing.
 use Prim.Native.Nat.{ℕ, zero, suc, _+_, _≤_, _<_}
 use native.Mathlib.Nat.{not-suc-le-zero, le-of-suc-le-suc, zero-lt-suc, add-comm, eq-or-lt-of-le}

@@ -1,4 +1,4 @@
--- What a scan of a row's positions says of its report, and a scan of the rows of the first gap. Assumes nothing.
+-- What a search of a row's positions says of the row report, and a search of the rows of the first gap. Assumes nothing.
 use Prim.Native.Nat.{ℕ, zero, suc, _+_, _-_, _≤_, _<_}
 use native.Mathlib.Nat.{add-zero, add-suc, suc-add, zero-add}
 use native.Mathlib.Numerals.{add-one}

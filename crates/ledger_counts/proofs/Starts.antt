@@ -1,4 +1,4 @@
--- A row that is ticked from a position of its first word on, and nowhere below: what its words say, and its report. Assumes nothing.
+-- A row that is ticked from a position of its first block on, and nowhere below: its blocks, and its report. Assumes nothing.
 use Prim.Native.Nat.{ℕ, _+_, _-_, _*_, _/_, _^_, _≤_, _<_}
 use native.Mathlib.Nat.{div-div-eq-div-mul, eq-or-lt-of-le}
 use native.Mathlib.Omega.{arith}
@@ -15,20 +15,20 @@ use Rattle.ledger_model.specs.Positions.{rowLength, size}
 use Rattle.ledger_layout.specs.Ticks.{tickedAt, ticksIn}
 use Rattle.ledger_layout.proofs.Scans.{each-none, lowest-fails, lowest-here, lowest-none}
 use Rattle.ledger_counts.specs.inner.Counts.{pastHighest, numberAtPosition, reportWords}
-use Rattle.ledger_counts.specs.inner.Words.{wordBits, bitOf, IsWord, TickedFrom, StartsAt}
+use Rattle.ledger_counts.specs.inner.Blocks.{blockBits, bitOf, IsBlock, TickedFrom, StartsAt}
 use Rattle.ledger_counts.proofs.Highest.{past-here}
 use Rattle.ledger_counts.proofs.Missing.{size-from}
-use Rattle.ledger_counts.proofs.WordCounts.{bit-above, not-bit, trailing-lowest, trailing-all}
+use Rattle.ledger_counts.proofs.BlockCounts.{bit-above, not-bit, trailing-lowest, trailing-all}
 use Rattle.ledger_counts.proofs.Reports.{report-whole, report-gaps}
 
--- ---- full words
+-- ---- full blocks
 
 pub full-bit : (k i : ℕ) → i < k → bitOf (2 ^ k - 1) i ≡ true
 full-bit k i l =
     let e : 2 ^ k - 1 - 0 ≡ 2 ^ k - 1 = omega arith in
     rw e at (not-bit k 0 i (pow-pos k) l ∙ ap not (bit-above 0 i (pow-pos i)))
 
--- two words that have every one in common are full
+-- two blocks that have every one in common are full
 pub and-full : (k x y : ℕ) → x < 2 ^ k → y < 2 ^ k → bitAnd x y ≡ 2 ^ k - 1 → (x ≡ 2 ^ k - 1) × (y ≡ 2 ^ k - 1)
 and-full k x y p q e = (omega (arith, and-le-l x y), omega (arith, and-le-r x y))
 
@@ -42,19 +42,19 @@ tail-bit k x n i e h l =
     let full = rw (shifted (2 ^ k - 1) n (i - n)) at (rw (← up) at (full-bit k i l)) in
     rw (← up) (rw (shifted x n (i - n), e) full)
 
--- a word that is not zero has a lowest one
+-- a block that is not zero has a lowest one
 pub some-one : (k x : ℕ) → x < 2 ^ k → (x ≡ 0 → ⊥) → trailingZeros k x < k
 some-one k x l n =
     ⊎-elim (λ (e : trailingZeros k x ≡ k). absurd (n (trailing-all k x l e))) (λ (q : trailingZeros k x < k). q) (eq-or-lt-of-le (trailing-le k x))
 
--- ---- the positions of a word
+-- ---- the positions of a block
 
 module _ (s : List ℕ) (a : ℕ) where
-  pub word-ticked : (k w : ℕ) → IsWord s a k w → w ≡ 2 ^ wordBits - 1 → TickedFrom s a (wordBits * k) (wordBits * (k + 1))
-  word-ticked k w word e i h l =
-      let j = i - wordBits * k in
-      let here : wordBits * k + j ≡ i = omega arith in
-      rw here at (sym (word j (omega arith)) ∙ rw (← e) at (full-bit wordBits j (omega arith)))
+  pub block-ticked : (k w : ℕ) → IsBlock s a k w → w ≡ 2 ^ blockBits - 1 → TickedFrom s a (blockBits * k) (blockBits * (k + 1))
+  block-ticked k w block e i h l =
+      let j = i - blockBits * k in
+      let here : blockBits * k + j ≡ i = omega arith in
+      rw here at (sym (block j (omega arith)) ∙ rw (← e) at (full-bit blockBits j (omega arith)))
 
   pub ticked-join : (i j k : ℕ) → TickedFrom s a i j → TickedFrom s a j k → TickedFrom s a i k
   ticked-join i j k below above n h l = by (ltb n j) refl
@@ -63,26 +63,26 @@ module _ (s : List ℕ) (a : ℕ) where
       by true q = below n h (ltb-true n j q)
       by false q = above n (ltb-false n j q) l
 
-  -- the first word's ticks begin at its lowest one, and go on from there
-  module _ (w : ℕ) (word : IsWord s a 0 w) where
+  -- the first block's ticks begin at its lowest one, and go on from there
+  module _ (w : ℕ) (block : IsBlock s a 0 w) where
     abbrev start : ℕ
-    start = trailingZeros wordBits w
+    start = trailingZeros blockBits w
 
-    first-unticked : (k : ℕ) → k < start → k < wordBits → tickedAt s a k ≡ false
+    first-unticked : (k : ℕ) → k < start → k < blockBits → tickedAt s a k ≡ false
     first-unticked k l q =
-        let here : wordBits * 0 + k ≡ k = omega arith in
-        let low = trailing-lowest wordBits w in
-        rw here at (sym (word k q) ∙ lowest-fails wordBits (bitOf w) k (omega arith))
+        let here : blockBits * 0 + k ≡ k = omega arith in
+        let low = trailing-lowest blockBits w in
+        rw here at (sym (block k q) ∙ lowest-fails blockBits (bitOf w) k (omega arith))
 
-    first-ticked : w / 2 ^ start ≡ (2 ^ wordBits - 1) / 2 ^ start → TickedFrom s a start wordBits
+    first-ticked : w / 2 ^ start ≡ (2 ^ blockBits - 1) / 2 ^ start → TickedFrom s a start blockBits
     first-ticked e k h l =
-        let here : wordBits * 0 + k ≡ k = omega arith in
-        rw here at (sym (word k l) ∙ tail-bit wordBits w start k e h l)
+        let here : blockBits * 0 + k ≡ k = omega arith in
+        rw here at (sym (block k l) ∙ tail-bit blockBits w start k e h l)
 
-    pub starts-at : start ≤ wordBits → w / 2 ^ start ≡ (2 ^ wordBits - 1) / 2 ^ start → TickedFrom s a wordBits rowLength → StartsAt s a start
+    pub starts-at : start ≤ blockBits → w / 2 ^ start ≡ (2 ^ blockBits - 1) / 2 ^ start → TickedFrom s a blockBits rowLength → StartsAt s a start
     starts-at few e behind =
         record {
-          ticked = ticked-join start wordBits rowLength (first-ticked e) behind;
+          ticked = ticked-join start blockBits rowLength (first-ticked e) behind;
           unticked = λ k l. first-unticked k l (omega arith);
         }
 

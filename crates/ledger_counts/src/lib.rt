@@ -1,4 +1,4 @@
-// Row report and first gap, and what one row has ticked beyond another, on the bytes of a sheet.
+// Row report, first gap, and how many positions of one row are ticked and of another are not. All work on the bytes of a sheet.
 use ledger_sheet as sheet;
 use ledger_sheet::GapAnswer;
 use ledger_sheet::ReportAnswer;
@@ -18,40 +18,40 @@ ghost use Rattle.ledger_layout.specs.Ticks.{tickedAt, ticksIn};
 ghost use Rattle.ledger_layout.specs.inner.Scans.{lowest};
 ghost use Rattle.ledger_counts.specs.inner.Counts.{pastHighest, numberAtPosition, reportWords};
 ghost use Rattle.ledger_sheet.specs.Words.{reportAnswerWords, gapWords};
-ghost use Rattle.ledger_counts.specs.inner.Words.{wordBits, wordCount, lastWordAt, IsWord, TickedFrom, StartsAt};
+ghost use Rattle.ledger_counts.specs.inner.Blocks.{blockBits, blockCount, lastBlockAt, IsBlock, TickedFrom, StartsAt};
 
-// A word of ticks, in bytes and in positions, and how many of them a row has.
-const WORD: usize = 8;
+// A block of ticks: its length in bytes, its positions, and how many blocks a row has.
+const BLOCK: usize = 8;
 
-pub const WORD_BITS: usize = sheet::BYTE_BITS * WORD;
+pub const BLOCK_BITS: usize = sheet::BYTE_BITS * BLOCK;
 
-const WORDS: usize = sheet::TICKS / WORD;
+const BLOCKS: usize = sheet::TICKS / BLOCK;
 
-// Words that are counted together, and what a word is whose positions are all ticked.
-const BLOCK: usize = 4;
+// Words are counted in groups of four. FULL is a block whose positions are all ticked.
+const GROUP: usize = 4;
 
-const BLOCKS: usize = WORDS / BLOCK;
+const GROUPS: usize = BLOCKS / GROUP;
 
 const FULL: u64 = !0;
 
 // The positions of a row.
-const POSITIONS: usize = WORD_BITS * WORDS;
+const POSITIONS: usize = BLOCK_BITS * BLOCKS;
 
-// The ticks of the 64 positions from 64 k on, as one number: bit i of it is position 64 k + i. LLVM makes one load of it.
-pub fn tick_word(s: &[u8], a: usize, k: usize) -> u64
-    requires { ⌜ (a + rowSize ≤ length (now s)) × (k < wordCount) ⌝ }
-    ensures { λ r. ⌜ IsWord (now (s .entry)) a k r ⌝ }
+// The ticks of the 64 positions from 64 k on as one number: bit i is position 64 k + i. LLVM makes this one load.
+pub fn tick_block(s: &[u8], a: usize, k: usize) -> u64
+    requires { ⌜ (a + rowSize ≤ length (now s)) × (k < blockCount) ⌝ }
+    ensures { λ r. ⌜ IsBlock (now (s .entry)) a k r ⌝ }
 {
-    numbers::read_le_u64(s, a + sheet::TICKS_AT + WORD * k)
+    numbers::read_le_u64(s, a + sheet::TICKS_AT + BLOCK * k)
 }
 
-// The ones of the words of a block. Full words, which most rows have most of, need not be counted, for which baseline x86-64
-// has no instruction; four at a time, LLVM still counts the others by vectors.
-fn block_ones(first: u64, second: u64, third: u64, fourth: u64) -> u32
+// How many ones the blocks of a group have. Most rows have mostly full blocks, and full blocks need no counting, for which baseline x86-64 has no
+// instruction. In groups of four LLVM still counts the other blocks with vectors.
+fn group_ones(first: u64, second: u64, third: u64, fourth: u64) -> u32
     ensures { λ r. ⌜ r ≡ ones first + ones second + ones third + ones fourth ⌝ }
 {
     if first & second & third & fourth == FULL {
-        return (WORD_BITS * BLOCK) as u32;
+        return (BLOCK_BITS * GROUP) as u32;
     }
     u64::count_ones(first)
         + u64::count_ones(second)
@@ -59,95 +59,95 @@ fn block_ones(first: u64, second: u64, third: u64, fourth: u64) -> u32
         + u64::count_ones(fourth)
 }
 
-// How many positions of the row at offset a are ticked: the ones of its words.
+// How many positions of the row at offset a are ticked.
 pub fn ticked_count(s: &[u8], a: usize) -> u32
     requires { ⌜ a + rowSize ≤ length (now s) ⌝ }
     ensures { λ r. ⌜ r ≡ size (ticksIn (now (s .entry)) a) ⌝ }
 {
     let mut count: u32 = 0;
-    for b in 0..BLOCKS {
-        let k = BLOCK * b;
-        let first = tick_word(s, a, k);
-        let second = tick_word(s, a, k + 1);
-        let third = tick_word(s, a, k + 2);
-        let fourth = tick_word(s, a, k + 3);
-        count += block_ones(first, second, third, fourth);
+    for b in 0..GROUPS {
+        let k = GROUP * b;
+        let first = tick_block(s, a, k);
+        let second = tick_block(s, a, k + 1);
+        let third = tick_block(s, a, k + 2);
+        let fourth = tick_block(s, a, k + 3);
+        count += group_ones(first, second, third, fourth);
     }
     count
 }
 
-// How many positions are ticked in the row at offset a and not in the one at offset b.
+// How many positions are ticked in the row at offset a and not in the row at offset b.
 pub fn ticked_beyond(s: &[u8], a: usize, b: usize) -> u32
     requires { ⌜ (a + rowSize ≤ length (now s)) × (b + rowSize ≤ length (now s)) ⌝ }
     ensures { λ r. ⌜ r ≡ size (minus (ticksIn (now (s .entry)) a) (ticksIn (now (s .entry)) b)) ⌝ }
 {
     let mut count: u32 = 0;
-    for k in 0..WORDS {
-        count += u64::count_ones(tick_word(s, a, k) & !tick_word(s, b, k));
+    for k in 0..BLOCKS {
+        count += u64::count_ones(tick_block(s, a, k) & !tick_block(s, b, k));
     }
     count
 }
 
-// Whether the words between the first and the last are full. They are gathered with no early exit, so that LLVM goes by vectors.
+// Whether the blocks between the first and the last are full. The loop has no early exit, so LLVM vectorizes it.
 fn is_full_between(s: &[u8], a: usize) -> bool
     requires { ⌜ a + rowSize ≤ length (now s) ⌝ }
-    ensures { λ r. ⌜ (r ≡ true → TickedFrom (now (s .entry)) a wordBits lastWordAt) ⌝ }
+    ensures { λ r. ⌜ (r ≡ true → TickedFrom (now (s .entry)) a blockBits lastBlockAt) ⌝ }
 {
     let mut all = FULL;
-    for k in 1..WORDS - 1 {
-        all &= tick_word(s, a, k);
+    for k in 1..BLOCKS - 1 {
+        all &= tick_block(s, a, k);
     }
     all == FULL
 }
 
-// Where the ticks of the row at offset a begin, if that is in its first word and none is missing behind: such a row needs no counting.
-// The row's length if it is another row.
+// The position from which all positions of the row at offset a are ticked, if it is in the first block and none below it is ticked. Such a row needs
+// no counting. For other rows, 1,024.
 fn ticks_start(s: &[u8], a: usize) -> usize
     requires { ⌜ a + rowSize ≤ length (now s) ⌝ }
     ensures { λ r. ⌜ (r < rowLength → StartsAt (now (s .entry)) a r) ⌝ }
 {
-    if tick_word(s, a, WORDS - 1) != FULL {
+    if tick_block(s, a, BLOCKS - 1) != FULL {
         return POSITIONS;
     }
     if !is_full_between(s, a) {
         return POSITIONS;
     }
-    let word = tick_word(s, a, 0);
-    if word == 0 {
+    let block = tick_block(s, a, 0);
+    if block == 0 {
         return POSITIONS;
     }
-    let start = u64::trailing_zeros(word);
-    if word >> start != FULL >> start {
+    let start = u64::trailing_zeros(block);
+    if block >> start != FULL >> start {
         return POSITIONS;
     }
     start as usize
 }
 
-// One past the highest ticked position of the row at offset a, or 0. What is unticked below it is missing.
+// One more than the highest ticked position of the row at offset a; 0 if none is ticked. Unticked positions below it are missing.
 pub fn ticks_end(s: &[u8], a: usize) -> usize
     requires { ⌜ a + rowSize ≤ length (now s) ⌝ }
     ensures { λ r. ⌜ r ≡ pastHighest rowLength (tickedAt (now (s .entry)) a) ⌝ }
 {
-    let mut words = WORDS;
-    while 0 < words {
-        let word = tick_word(s, a, words - 1);
-        if word != 0 {
-            return WORD_BITS * words - u64::leading_zeros(word) as usize;
+    let mut blocks = BLOCKS;
+    while 0 < blocks {
+        let block = tick_block(s, a, blocks - 1);
+        if block != 0 {
+            return BLOCK_BITS * blocks - u64::leading_zeros(block) as usize;
         }
-        words -= 1;
+        blocks -= 1;
     }
     0
 }
 
-// The lowest unticked position below end of the row at offset a, or end.
+// The lowest unticked position below `end` of the row at offset a; `end` if there is none.
 fn lowest_unticked(s: &[u8], a: usize, end: usize) -> usize
     requires { ⌜ (a + rowSize ≤ length (now s)) × (end ≤ rowLength) ⌝ }
     ensures { λ r. ⌜ r ≡ lowest end (λ i. not (tickedAt (now (s .entry)) a i)) ⌝ }
 {
-    for k in 0..WORDS {
-        let unticked = !tick_word(s, a, k);
+    for k in 0..BLOCKS {
+        let unticked = !tick_block(s, a, k);
         if unticked != 0 {
-            let at = WORD_BITS * k + u64::trailing_zeros(unticked) as usize;
+            let at = BLOCK_BITS * k + u64::trailing_zeros(unticked) as usize;
             if at < end {
                 return at;
             }
@@ -167,7 +167,7 @@ pub fn number_in(s: &[u8], a: usize, i: usize) -> u32
     ledger_model::number_at(key, first, i as u32)
 }
 
-// The report of the row at offset a. Where nothing below the end is missing, the ticks need not be counted.
+// The report of the row at offset a. If no position below the end is missing, nothing needs counting.
 fn counted_report(s: &[u8], a: usize) -> ReportAnswer
     requires { ⌜ a + rowSize ≤ length (now s) ⌝ }
     ensures { λ r. ⌜ reportAnswerWords r ≡ reportWords (now (s .entry)) a ⌝ }
@@ -188,7 +188,7 @@ fn counted_report(s: &[u8], a: usize) -> ReportAnswer
     }
 }
 
-// Reports on a row. The usual one lacks nothing, or its start alone.
+// The report of a row. Most rows lack no position, or only some at the start.
 pub fn row_report(s: &[u8], row: usize) -> ReportAnswer
     requires { ⌜ (length (now s) ≡ sheetSize) × (row < rowCount) ⌝ }
     ensures { λ r. ⌜ reportAnswerWords r ≡ reportWords (now (s .entry)) (rowAt row) ⌝ }
@@ -209,7 +209,7 @@ pub fn row_report(s: &[u8], row: usize) -> ReportAnswer
     }
 }
 
-// The end of the ticks of the row at place `row`, 0 where the place is free.
+// The end of the ticks of a row; 0 if the place is free.
 fn row_end(s: &[u8], row: usize) -> usize
     requires { ⌜ (length (now s) ≡ sheetSize) × (row < rowCount) ⌝ }
     ensures { λ r. ⌜ r ≡ cond (isUsed (now (s .entry)) row) (pastHighest rowLength (tickedAt (now (s .entry)) (rowAt row))) 0 ⌝ }
@@ -220,7 +220,7 @@ fn row_end(s: &[u8], row: usize) -> usize
     ticks_end(s, sheet::row_at(row))
 }
 
-// The first missing number and its row: rows in order, positions in order.
+// The first missing number and its row. Goes through the rows in order, and through each row's positions in order.
 pub fn first_gap(s: &[u8]) -> GapAnswer
     requires { ⌜ length (now s) ≡ sheetSize ⌝ }
     ensures { λ r. ⌜ gapWords r ≡ 0 ∷ firstGapFrom 0 (bookOf (now (s .entry)) .places) ⌝ }

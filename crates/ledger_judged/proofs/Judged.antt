@@ -1,5 +1,5 @@
--- What a verdict tells. Refused: the call answers the refusal and leaves the sheet as it was. Not refused: no row's condition
--- holds, so what the functions on a right sheet ask is so. Assumes nothing.
+-- What a verdict says. If it refuses, the call answers the refusal and leaves the sheet unchanged. If it does not, no rule holds, so what the
+-- functions on a right sheet require is true. Assumes nothing.
 use Prim.Native.Nat.{ℕ, _<_}
 use native.Mathlib.Omega.{arith}
 use mathlib.Core.Bool.{Bool, true, false, not}

@@ -1,5 +1,5 @@
-// Find, and the calls that change a sheet, where it is known whether the sheet is right. Each leaves a right sheet right (`stays-right`), so calls
-// that are made one after the other need one check of the sheet.
+// Find, and the calls that change a sheet. The caller passes whether the sheet is right. Each call leaves a right sheet right (`stays-right`), so
+// calls made one after the other need only one check of the sheet.
 pub mod verdicts;
 
 use crate::verdicts::Verdict;

@@ -1,6 +1,5 @@
-// Whether a call of the ledger is refused, judged in the order of the refusal table. Nothing is changed. Each verdict is handed whether the sheet
-// is right: one that a call has left is, so that calls made one after the other need one check. Every call begins with 20 and the rule of what
-// it names, a key, a desk or a row.
+// Whether a call of the ledger is refused. The tests are in the order of the refusal table, and change nothing. The caller passes whether the sheet
+// is right. Each call first tests 20, and then the key, the desk or the row that it names.
 use ledger_sheet as sheet;
 use refusals::Refusal;
 ghost use mathlib.Core.Path.{_≡_};
@@ -10,13 +9,13 @@ ghost use Rattle.ledger_sheet.specs.Sheet.{right};
 ghost use Rattle.ledger_layout.specs.inner.Rules.{rulesOn};
 ghost use Rattle.ledger_judged.specs.inner.Verdicts.{keyRules, deskNumberRules, verdictNumber};
 
-// What a call is judged: it may be made, or it is refused.
+// The verdict on a call: it is accepted, or refused.
 pub enum Verdict {
     Fine,
     Refused(Refusal),
 }
 
-// Of a call with a key: 20, 22.
+// The refusals of a call that names a key: 20, 22.
 fn key_verdict(fine: bool, key: u64) -> Verdict
     ensures { λ r. ⌜ verdictNumber r ≡ verdict (keyRules fine key) ⌝ }
 {
@@ -63,7 +62,7 @@ pub fn find_verdict(s: &[u8], fine: bool, key: u64) -> Verdict
     Verdict::Fine
 }
 
-// Of a call by a desk: 20, 21. The question about a desk has no other.
+// The refusals of a call that names a desk: 20, 21. The question `desk` has only these.
 pub fn desk_number_verdict(fine: bool, desk: u32) -> Verdict
     ensures { λ r. ⌜ verdictNumber r ≡ verdict (deskNumberRules fine desk) ⌝ }
 {
@@ -93,7 +92,7 @@ pub fn open_verdict(s: &[u8], fine: bool, desk: u32, row: u32) -> Verdict
     Verdict::Fine
 }
 
-// Of a call by a desk that must have a row open: of a drop, and what a tick, an untick and a save begin with.
+// The refusals of a call by a desk that must have a row open. A drop has only these; a tick, an untick and a save begin with them.
 pub fn desk_verdict(s: &[u8], fine: bool, desk: u32) -> Verdict
     requires { ⌜ fine ≡ right (now s) ⌝ }
     ensures { λ r. ⌜ verdictNumber r ≡ verdict (rulesOn (Drop desk) (now (s .entry))) ⌝ }
@@ -108,7 +107,7 @@ pub fn desk_verdict(s: &[u8], fine: bool, desk: u32) -> Verdict
     Verdict::Fine
 }
 
-// Of a call on a row: 20, 25. Row report has no other.
+// The refusals of a call that names a row: 20, 25. Row report has only these.
 pub fn row_verdict(s: &[u8], fine: bool, row: u32) -> Verdict
     requires { ⌜ fine ≡ right (now s) ⌝ }
     ensures { λ r. ⌜ verdictNumber r ≡ verdict (rulesOn (Ask (RowReport row)) (now (s .entry))) ⌝ }

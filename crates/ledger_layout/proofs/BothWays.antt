@@ -1,4 +1,4 @@
--- Right sheets are the layouts of well-formed books, both ways; and what `fresh` makes of a slice. Assumes nothing.
+-- Right sheets are exactly the layouts of well-formed books; and what `fresh` does with a slice. Assumes nothing.
 use Prim.Native.Nat.{ℕ}
 use mathlib.Core.List.{List, [], _∷_}
 use mathlib.Core.Logic.{_≢_}

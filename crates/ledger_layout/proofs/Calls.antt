@@ -1,4 +1,4 @@
--- What a call on a slice of bytes comes to. Assumes nothing.
+-- The outcome of a call on a slice of bytes. Assumes nothing.
 use Prim.Native.Nat.{ℕ}
 use mathlib.Core.Bool.{true}
 use mathlib.Core.List.{List, [], _∷_}

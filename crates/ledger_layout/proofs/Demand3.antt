@@ -1,4 +1,4 @@
--- Demand 3 of every list of calls on a fresh sheet. Assumes nothing.
+-- Demand 3 for every list of calls on a fresh sheet. Assumes nothing.
 use Prim.Native.Nat.{ℕ}
 use mathlib.Core.List.{List, map}
 use mathlib.Core.Logic.{_≢_}

@@ -6,6 +6,7 @@ pub mod Rows
 pub mod Places
 pub mod Used
 pub mod Right
+pub mod FromParts
 pub mod Read
 pub mod BothWays
 pub mod Sizes

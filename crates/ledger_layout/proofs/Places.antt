@@ -1,5 +1,4 @@
--- Where the parts of a book stand in its layout: the header's numbers, the rows, the desks; each read, and each put. Assumes
--- nothing.
+-- Where the parts of a book stand in its layout: the header's numbers, the rows, the desks; reading and writing each. Assumes nothing.
 use Prim.Native.Nat.{ℕ, _+_, _*_, _^_, _<_, _≤_}
 use native.Mathlib.Nat.{add-zero}
 use native.Mathlib.Omega.{arith}

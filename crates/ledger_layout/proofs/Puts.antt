@@ -1,4 +1,4 @@
--- What stands where after a part is put in, and parts lent and come back. Assumes nothing.
+-- What stands where after a part is written; and parts that are lent and come back. Assumes nothing.
 use Prim.Native.Nat.{ℕ, _+_, _≤_, _<_}
 use native.Mathlib.Omega.{arith}
 use mathlib.Core.List.{List, _++_, append-assoc}

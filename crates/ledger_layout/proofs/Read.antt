@@ -3,32 +3,31 @@ use Prim.Native.Nat.{ℕ, zero, _+_, _*_, _<_, _≤_}
 use native.Mathlib.Nat.{add-zero}
 use native.Mathlib.Omega.{arith}
 use mathlib.Core.Bool.{Bool, true, false, cond, not, _&&_, _||_}
-use mathlib.Core.Option.{some}
 use mathlib.Core.List.{List, [], _∷_, _++_}
 use mathlib.Core.Path.{_≡_, refl, sym, ap, _∙_}
-use lib.Dec.{ltb, eqb, leb}
-use lib.ListN.{length, getD, List·getD-eq-default}
+use lib.Dec.{eqb, leb}
+use lib.ListN.{length, getD}
 use lib.Seq.{drop-cons}
-use borrow.Author.Tests.{ltb-true, ltb-false, leb-true, eqb-true, eqb-false, not-true}
+use borrow.Author.Tests.{ltb-true, lt-ltb, leb-true, eqb-true, eqb-false, not-true}
 use Rattle.laws.proofs.Bools.{and-split}
 use Rattle.keys.specs.Key.{validKey}
 use Rattle.keys.specs.Numbers.{isNumber}
-use Rattle.ledger_model.specs.Positions.{rowLength}
-use Rattle.ledger_model.specs.Book.{Place, free, row, closed, Book, place, desk, isFree, withTicks}
-use Rattle.ledger_model.specs.WellFormed.{IsSet, PlaceOk, DeskOk, keyOf, WellFormed}
+use Rattle.ledger_model.specs.Positions.{rowLength, Positions}
+use Rattle.ledger_model.specs.Book.{free, row, Book, place, isFree, withTicks}
+use Rattle.ledger_model.specs.WellFormed.{IsSet, WellFormed}
 use Rattle.octets.specs.Octets.{numberAt, bytesOf, part, all, zeroAt}
 use Rattle.octets.proofs.Laws.{Bytes, all-at}
 use Rattle.octets.proofs.Parts.{bytes-number, part-join, part-whole, zero-part, same-part}
-use Rattle.ledger_sheet.specs.Sheet.{sheetSize, usedWordSize, keyStart, keySize, firstAt, firstSize, ticksAt, rowSize, rowCount, rowsStart}
+use Rattle.ledger_sheet.specs.Sheet.{sheetSize, usedFlagSize, keyStart, keySize, firstAt, firstSize, ticksAt, rowSize, rowCount, rowsStart}
 use Rattle.ledger_sheet.specs.Sheet.{deskRowAt, deskZerosAt, deskZerosSize, openedAt, workedAt, deskSize, deskCount, desksStart, headerNumberSize, lengthAt}
 use Rattle.ledger_sheet.specs.Sheet.{usedAt, rowCountAt, rowsStartAt, deskCountAt, desksStartAt, rowAt, deskAt, headerNumber, used, isUsed}
 use Rattle.ledger_sheet.specs.Sheet.{isRow, keyAt, firstNumberAt, deskByte, deskRow, isClosed, carries, headerRight, validKeys, isNew}
 use Rattle.ledger_sheet.specs.Sheet.{differentKeys, firstNumbers, freeZero, closedZero, deskMarked, openNames, deskRight, right}
 use Rattle.ledger_layout.specs.Ticks.{ticksIn}
-use Rattle.octets.specs.Lists.{table}
 use Rattle.ledger_layout.specs.Bytes.{headerBytes, openDesk}
 use Rattle.ledger_sheet.proofs.Clauses.{Right, right-parts, row-parts}
 use Rattle.ledger_layout.specs.Layout.{placeBytes, deskBytes, countUsed, layout, placeIn, deskIn, bookOf}
+use Rattle.ledger_layout.proofs.FromParts.{RowsFine, DesksFine, well-formed}
 use Rattle.ledger_layout.proofs.Parts.{number-within}
 use Rattle.octets.proofs.Lists.{length-table, getD-table, laid-table}
 use Rattle.ledger_layout.proofs.Rows.{row-there}
@@ -45,7 +44,7 @@ module _ (s : List ℕ) where
   part-one a l = rw (drop-cons s a 0 l)
 
   -- a number is the same in equal parts
-  number-same : (a c m j n x y : ℕ) → part s a m ≡ part s c m → a + j ≡ x → c + j ≡ y → j + n ≤ m → numberAt s x n ≡ numberAt s y n
+  pub number-same : (a c m j n x y : ℕ) → part s a m ≡ part s c m → a + j ≡ x → c + j ≡ y → j + n ≤ m → numberAt s x n ≡ numberAt s y n
   number-same a c m j n x y e p q l =
       sym (number-within s a m j n x p l) ∙ ap (λ (t : List ℕ). numberAt t j n) e ∙ number-within s c m j n y q l
 
@@ -151,19 +150,6 @@ module _ (s : List ℕ) (bytes : Bytes s) (r : right s ≡ true) where
   unfolding placeIn
   row-at i h = let p = row-parts s i h in place-at i (p .0) ∙ rw (p .1)
 
-  -- a place is one of the rows that there are, or free
-  by-place : (P : Place → Type 0) (i : ℕ) → (isRow s i ≡ true → P (row (keyAt s (rowAt i)) (firstNumberAt s (rowAt i)) (ticksIn s (rowAt i)))) → P free
-      → P (place b i)
-  unfolding placeIn bookOf
-  by-place P i f g = by (ltb i rowCount) refl (isUsed s i) refl
-    where
-      by : (t : Bool) → ltb i rowCount ≡ t → (u : Bool) → isUsed s i ≡ u → P (place b i)
-      by true e true o = let h : isRow s i ≡ true = rw (e, o) in rw (row-at i h) (f h)
-      by true e false o = rw (place-at i (ltb-true _ _ e), o) g
-      by false e u o =
-          let past : rowCount ≤ i = ltb-false _ _ e in
-          rw (List·getD-eq-default (table rowCount (placeIn s)) free {n = i} (rw length-table past)) g
-
   used-at : (i : ℕ) → i < rowCount → isUsed s i ≡ not (isFree (place b i))
   unfolding placeIn
   used-at i l = rw (place-at i l) (by (isUsed s i))
@@ -177,19 +163,19 @@ module _ (s : List ℕ) (bytes : Bytes s) (r : right s ≡ true) where
   opened : (d : ℕ) → d < deskCount → isClosed s d ≡ false → Opened s d
   opened d l o = desk-parts s d (all-at deskCount d (deskRight s) (clauses .desks) l) o
 
-  -- a copy at c that carries the word, the key and the first number of row i
+  -- a copy at c that carries the flag, the key and the first number of row i
   copy-there : (i c : ℕ) → isRow s i ≡ true → c + rowSize ≤ sheetSize → carries s c i ≡ true
       → placeBytes (withTicks (ticksIn s c) (place b i)) ≡ part s c rowSize
   copy-there i c l h e =
       let there = row-parts s i l in
       let same = same-part s (rowAt i) s c ticksAt (omega (arith, long)) (omega (arith, long)) e in
-      let word : numberAt s (rowAt i) usedWordSize ≡ numberAt s c usedWordSize =
-      number-same s (rowAt i) c ticksAt 0 usedWordSize (rowAt i) c same (add-zero (rowAt i)) (add-zero c) (omega arith) in
+      let flag : numberAt s (rowAt i) usedFlagSize ≡ numberAt s c usedFlagSize =
+      number-same s (rowAt i) c ticksAt 0 usedFlagSize (rowAt i) c same (add-zero (rowAt i)) (add-zero c) (omega arith) in
       let key : keyAt s (rowAt i) ≡ keyAt s c =
       number-same s (rowAt i) c ticksAt keyStart keySize (rowAt i + keyStart) (c + keyStart) same refl refl (omega arith) in
       let first : firstNumberAt s (rowAt i) ≡ firstNumberAt s c =
       number-same s (rowAt i) c ticksAt firstAt firstSize (rowAt i + firstAt) (c + firstAt) same refl refl (omega arith) in
-      rw (row-at i l, key, first) (row-there s c bytes (omega (arith, long)) (sym word ∙ eqb-true _ _ (there .1)))
+      rw (row-at i l, key, first) (row-there s c bytes (omega (arith, long)) (sym flag ∙ eqb-true _ _ (there .1)))
 
   desk-there : (d : ℕ) → d < deskCount → deskBytes (b .places) (deskIn s d) ≡ part s (deskAt d) deskSize
   unfolding deskBytes deskIn deskRight closedZero openDesk
@@ -245,30 +231,6 @@ module _ (s : List ℕ) (bytes : Bytes s) (r : right s ≡ true) where
   asked : (P : ℕ → Bool) (i : ℕ) → all rowCount (λ k. not (isUsed s k) || P k) ≡ true → isRow s i ≡ true → P i ≡ true
   asked P i h r = let p = row-parts s i r in rw (p .1) at (all-at rowCount i (λ k. not (isUsed s k) || P k) h (p .0))
 
-  place-fine : (i : ℕ) → PlaceOk (place b i)
-  unfolding validKeys firstNumbers
-  place-fine i =
-      by-place PlaceOk i
-      (λ r. (
-        asked (λ k. validKey (keyAt s (rowAt k))) i (clauses .valid) r,
-        ltb-true _ _ (asked (λ k. isNumber (keyAt s (rowAt k)) (firstNumberAt s (rowAt k))) i (clauses .firsts) r),
-        set-there (rowAt i),
-      ))
-      tt
-
-  desk-fine : (d : ℕ) → DeskOk (b .places) (desk b d)
-  unfolding bookOf deskIn
-  desk-fine d = by (ltb d deskCount) refl (isClosed s d) refl
-    where
-      by : (t : Bool) → ltb d deskCount ≡ t → (u : Bool) → isClosed s d ≡ u → DeskOk (b .places) (desk b d)
-      by false e u o =
-          rw (List·getD-eq-default (table deskCount (deskIn s)) closed {n = d} (rw length-table (ltb-false _ _ e))) tt
-      by true e true o = rw (getD-table deskCount (deskIn s) d closed (ltb-true _ _ e), o) tt
-      by true e false o =
-          let l = ltb-true _ _ e in
-          rw (getD-table deskCount (deskIn s) d closed l, o)
-          (ap isFree (row-at (deskRow s d) (opened d l o .names)), set-there (deskAt d + openedAt), set-there (deskAt d + workedAt))
-
   keys-apart : (i j : ℕ) → isRow s i ≡ true → isRow s j ≡ true → j < i → keyAt s (rowAt j) ≡ keyAt s (rowAt i) → ⊥
   unfolding differentKeys isNew
   keys-apart i j ri rj m e =
@@ -276,27 +238,40 @@ module _ (s : List ℕ) (bytes : Bytes s) (r : right s ≡ true) where
       let other = all-at i j (λ q. not (isUsed s q) || not (eqb (keyAt s (rowAt q)) (keyAt s (rowAt i)))) new m in
       eqb-false _ _ (not-true _ (rw (row-parts s j rj .1) at other)) e
 
-  keys-fine : (i j key : ℕ) → keyOf (place b i) ≡ some key → keyOf (place b j) ≡ some key → i ≡ j
-  keys-fine i j key =
-      by-place (λ p. keyOf p ≡ some key → keyOf (place b j) ≡ some key → i ≡ j) i
-      (λ ri ei. by-place (λ p. keyOf p ≡ some key → i ≡ j) j (λ rj ej. same ri rj (cc)) (λ ej. cc))
-      (λ ei ej. cc)
-    where
-      same : isRow s i ≡ true → isRow s j ≡ true → keyAt s (rowAt i) ≡ keyAt s (rowAt j) → i ≡ j
-      same ri rj e = by (ltb i j) refl (ltb j i) refl
-        where
-          by : (t : Bool) → ltb i j ≡ t → (u : Bool) → ltb j i ≡ u → i ≡ j
-          by true p u q = absurd (keys-apart j i rj ri (ltb-true _ _ p) e)
-          by false p true q = absurd (keys-apart i j ri rj (ltb-true _ _ q) (sym e))
-          by false p false q = let x = ltb-false i j p in let y = ltb-false j i q in omega arith
+  abbrev key : ℕ → ℕ
+  key i = keyAt s (rowAt i)
+
+  abbrev first : ℕ → ℕ
+  first i = firstNumberAt s (rowAt i)
+
+  is-row : (i : ℕ) → i < rowCount → isUsed s i ≡ true → isRow s i ≡ true
+  is-row i l e = rw (lt-ltb i rowCount l, e)
+
+  rows-fine : RowsFine (isUsed s) key first (λ i. ticksIn s (rowAt i))
+  unfolding validKeys firstNumbers
+  rows-fine =
+      record {
+        valid = λ i l e. asked (λ k. validKey (key k)) i (clauses .valid) (is-row i l e);
+        numbers = λ i l e. ltb-true _ _ (asked (λ k. isNumber (key k) (first k)) i (clauses .firsts) (is-row i l e));
+        different = λ i j l e o m. keys-apart i j (is-row i l e) (is-row j (omega arith) o) m;
+        sets = λ i. set-there (rowAt i);
+      }
+
+  abbrev openedSet : ℕ → Positions
+  openedSet d = ticksIn s (deskAt d + openedAt)
+
+  abbrev workedSet : ℕ → Positions
+  workedSet d = ticksIn s (deskAt d + workedAt)
+
+  desks-fine : DesksFine (isUsed s) key first (λ i. ticksIn s (rowAt i)) (isClosed s) (deskRow s) openedSet workedSet
+  desks-fine =
+      record {
+        names = λ d l o. row-parts s (deskRow s d) (opened d l o .names);
+        opened-sets = λ d. set-there (deskAt d + openedAt);
+        worked-sets = λ d. set-there (deskAt d + workedAt);
+      }
 
   pub book-fine : WellFormed b
-  unfolding bookOf
+  unfolding bookOf placeIn deskIn
   book-fine =
-      record {
-        places-count = length-table rowCount (placeIn s);
-        desks-count = length-table deskCount (deskIn s);
-        place-ok = place-fine;
-        desk-ok = desk-fine;
-        keys-differ = keys-fine;
-      }
+      well-formed (isUsed s) key first (λ i. ticksIn s (rowAt i)) (isClosed s) (deskRow s) openedSet workedSet rows-fine desks-fine

@@ -1,4 +1,4 @@
--- What is read of a sheet's bytes is what its book has. Assumes nothing.
+-- What is read from a sheet's bytes is what its book has. Assumes nothing.
 use Prim.Native.Nat.{ℕ, zero, suc, _+_, _<_}
 use native.Mathlib.Omega.{arith}
 use mathlib.Core.Bool.{Bool, true, false, cond, not, _&&_, _||_, and-true, and-assoc}
@@ -51,12 +51,12 @@ module _ (s : List ℕ) where
   unfolding bookOf placeIn
   row-on i = by (ltb i rowCount) refl
     where
-      word : (t : Bool) → t ≡ not (isFree (cond t (row (keyAt s (rowAt i)) (firstNumberAt s (rowAt i)) (ticksIn s (rowAt i))) free))
-      word true = refl
-      word false = refl
+      flag : (t : Bool) → t ≡ not (isFree (cond t (row (keyAt s (rowAt i)) (firstNumberAt s (rowAt i)) (ticksIn s (rowAt i))) free))
+      flag true = refl
+      flag false = refl
 
       by : (t : Bool) → ltb i rowCount ≡ t → isRow s i ≡ not (isFree (place (bookOf s) i))
-      by true e = rw (e, getD-table rowCount (placeIn s) i free (ltb-true _ _ e)) (word (isUsed s i))
+      by true e = rw (e, getD-table rowCount (placeIn s) i free (ltb-true _ _ e)) (flag (isUsed s i))
       by false e = rw (e, List·getD-eq-default (table rowCount (placeIn s)) free {n = i} (rw length-table (ltb-false _ _ e)))
 
   -- a row as it is read

@@ -17,7 +17,7 @@ use Rattle.ledger_model.proofs.Basics.{row-in, has-row}
 use Rattle.octets.specs.Octets.{numberAt, part, zeroAt}
 use Rattle.octets.proofs.Laws.{part-at, all-each}
 use Rattle.octets.proofs.Parts.{part-same}
-use Rattle.ledger_sheet.specs.Sheet.{sheetSize, usedWordSize, ticksAt, rowSize, rowCount, deskRowAt, deskZerosAt, deskZerosSize, openedAt, workedAt, deskSize}
+use Rattle.ledger_sheet.specs.Sheet.{sheetSize, usedFlagSize, ticksAt, rowSize, rowCount, deskRowAt, deskZerosAt, deskZerosSize, openedAt, workedAt, deskSize}
 use Rattle.ledger_sheet.specs.Sheet.{deskCount, rowsStart, desksStart, headerNumberSize, rowAt, deskAt, headerNumber, used, isUsed, isRow, deskByte}
 use Rattle.ledger_sheet.specs.Sheet.{deskRow, carries, headerRight, countRight, validKeys, isNew, differentKeys, firstNumbers, freeZero, deskRight, right}
 use Rattle.ledger_layout.specs.Bytes.{openDesk}
@@ -41,10 +41,10 @@ desk-there [] d e = absurd (false≢true cc)
 desk-there (x ∷ ds) zero e = omega arith
 desk-there (x ∷ ds) (suc d) e = let h = desk-there ds d e in omega arith
 
--- the word of a free row
-free-word : numberAt (placeBytes free) 0 usedWordSize ≡ 0
+-- the flag of a free row
+free-flag : numberAt (placeBytes free) 0 usedFlagSize ≡ 0
 unfolding numberAt placeBytes
-free-word = refl
+free-flag = refl
 
 module _ (b : Book) (ok : WellFormed b) where
   abbrev s : List ℕ
@@ -72,16 +72,16 @@ module _ (b : Book) (ok : WellFormed b) where
       let lr = ok .places-count in
       row-says s (rowAt r) key first ticks (rw e at (ok .place-ok r)) (row-part b (shape ok) r (omega arith) ∙ ap placeBytes e)
 
-  -- its word
+  -- its flag
   pub row-used : (r : ℕ) → r < rowCount → isUsed s r ≡ not (isFree (place b r))
   row-used r l = by (place b r) refl
     where
       by : (p : Place) → place b r ≡ p → isUsed s r ≡ not (isFree (place b r))
       by free e =
-          let word = sym (number-within s (rowAt r) rowSize 0 usedWordSize (rowAt r) (add-zero (rowAt r)) (omega arith))
-          ∙ ap (λ (x : List ℕ). numberAt x 0 usedWordSize) (row-part b (shape ok) r l ∙ ap placeBytes e) ∙ free-word in
-          rw (e, word)
-      by (row key first ticks) e = rw (e, row-read r key first ticks e .word-is)
+          let flag = sym (number-within s (rowAt r) rowSize 0 usedFlagSize (rowAt r) (add-zero (rowAt r)) (omega arith))
+          ∙ ap (λ (x : List ℕ). numberAt x 0 usedFlagSize) (row-part b (shape ok) r l ∙ ap placeBytes e) ∙ free-flag in
+          rw (e, flag)
+      by (row key first ticks) e = rw (e, row-read r key first ticks e .flag-is)
 
   pub words : Words (isUsed s) (b .places)
   words r l = row-used r (omega (arith, ok .places-count))
@@ -225,7 +225,7 @@ module _ (b : Book) (ok : WellFormed b) where
           rw (row-used r l, e) (part-zero s (rowAt r) rowSize (row-part b (shape ok) r l ∙ ap placeBytes e))
       by r l (row key first ticks) e = rw (row-used r l, e)
 
-  -- a copy whose bytes are those of a row with another set carries its word, key and first number
+  -- a copy whose bytes are those of a row with another set carries its flag, key and first number
   carried : (r c key first : ℕ) (t u : Positions) → part s (rowAt r) rowSize ≡ placeBytes (row key first t)
       → part s c rowSize ≡ placeBytes (row key first u) → carries s c r ≡ true
   carried r c key first t u er ec =

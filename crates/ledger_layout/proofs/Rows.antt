@@ -1,4 +1,4 @@
--- A row's bytes: what is read of them is the row, and a row read from any bytes has these bytes. Assumes nothing.
+-- The bytes of a row read back as the row; and a row that is read from any bytes has these bytes. Assumes nothing.
 use Prim.Native.Nat.{ℕ, _+_, _-_, _≤_}
 use native.Mathlib.Nat.{lt-trans, zero-add, suc-add, add-zero}
 use native.Mathlib.Omega.{arith}
@@ -14,10 +14,10 @@ use Rattle.ledger_model.specs.WellFormed.{PlaceOk}
 use Rattle.octets.specs.Octets.{numberAt, bytesOf, part}
 use Rattle.octets.proofs.Laws.{Bytes, length-bytesOf, getD-past}
 use Rattle.octets.proofs.Parts.{bytes-number, part-join, part-first, part-whole}
-use Rattle.ledger_sheet.specs.Sheet.{usedWordSize, usedWord, keyStart, keySize, firstAt, firstSize, ticksAt, ticksSize, rowSize, keyAt, firstNumberAt}
+use Rattle.ledger_sheet.specs.Sheet.{usedFlagSize, usedFlag, keyStart, keySize, firstAt, firstSize, ticksAt, ticksSize, rowSize, keyAt, firstNumberAt}
 use Rattle.ledger_layout.specs.Ticks.{ticksIn}
 use Rattle.ledger_layout.specs.Rows.{rowBytes}
-use Rattle.ledger_layout.proofs.RowBytes.{length-row, row-word, row-key, row-first, row-ticks}
+use Rattle.ledger_layout.proofs.RowBytes.{length-row, row-flag, row-key, row-first, row-ticks}
 use Rattle.ledger_layout.specs.Layout.{tickBytes, placeBytes}
 use Rattle.ledger_layout.proofs.Parts.{number-within, part-within}
 use Rattle.ledger_layout.proofs.Ticks.{length-ticks, ticks-bytes, ticks-read}
@@ -26,12 +26,12 @@ use Rattle.ledger_layout.proofs.Ticks.{length-ticks, ticks-bytes, ticks
 
 module _ (key first : ℕ) (ts : List ℕ) where
   abbrev head : List ℕ
-  head = bytesOf usedWordSize usedWord ++ bytesOf keySize key ++ bytesOf firstSize first
+  head = bytesOf usedFlagSize usedFlag ++ bytesOf keySize key ++ bytesOf firstSize first
 
   length-head : length head ≡ ticksAt
   length-head = simp (length-append, length-bytesOf)
 
-  -- the word, the key and the first number
+  -- the flag, the key and the first number
   row-head : part (rowBytes key first ts) 0 ticksAt ≡ head
   unfolding rowBytes
   row-head =
@@ -62,7 +62,7 @@ length-place (row key first ticks) = length-row key first (tickBytes ticksSize t
 
 -- what the row at offset a says
 pub record Says (s : List ℕ) (a : ℕ) (key first : ℕ) (ticks : Positions) : Type 0 where
-  pub word-is : numberAt s a usedWordSize ≡ usedWord
+  pub flag-is : numberAt s a usedFlagSize ≡ usedFlag
   pub key-is : keyAt s a ≡ key
   pub first-is : firstNumberAt s a ≡ first
   pub ticks-are : ticksIn s a ≡ ticks
@@ -74,9 +74,9 @@ unfolding placeBytes
 row-says s a key first ticks ok e =
     let ts = tickBytes ticksSize ticks in
     record {
-      word-is =
-          sym (number-within s a rowSize 0 usedWordSize a (add-zero a) (omega arith)) ∙ ap (λ (t : List ℕ). numberAt t 0 usedWordSize) e
-          ∙ row-word key first ts;
+      flag-is =
+          sym (number-within s a rowSize 0 usedFlagSize a (add-zero a) (omega arith)) ∙ ap (λ (t : List ℕ). numberAt t 0 usedFlagSize) e
+          ∙ row-flag key first ts;
       key-is =
           sym (number-within s a rowSize keyStart keySize (a + keyStart) refl (omega arith)) ∙ ap (λ (t : List ℕ). numberAt t keyStart keySize) e
           ∙ row-key key first ts (lt-trans (below-valid key (ok .0)) (lit< tt));
@@ -96,24 +96,24 @@ row-same key first t u p q e =
     let whole = part-whole s rowSize (length-place (row key first t)) in
     sym (row-says s 0 key first t p whole .ticks-are) ∙ row-says s 0 key first u q (whole ∙ e) .ticks-are
 
--- a copy carries the row's word, key and first number, whatever its set
+-- a copy carries the row's flag, key and first number, whatever its set
 pub row-carries : (key first : ℕ) (t u : Positions) → part (placeBytes (row key first t)) 0 ticksAt ≡ part (placeBytes (row key first u)) 0 ticksAt
 unfolding placeBytes
 row-carries key first t u = row-head key first (tickBytes ticksSize t) ∙ sym (row-head key first (tickBytes ticksSize u))
 
 -- the bytes of a row that is read are the bytes that are there
-pub row-there : (s : List ℕ) (a : ℕ) → Bytes s → a + rowSize ≤ length s → numberAt s a usedWordSize ≡ usedWord
+pub row-there : (s : List ℕ) (a : ℕ) → Bytes s → a + rowSize ≤ length s → numberAt s a usedFlagSize ≡ usedFlag
     → placeBytes (row (keyAt s a) (firstNumberAt s a) (ticksIn s a)) ≡ part s a rowSize
 unfolding placeBytes rowBytes
 row-there s a bytes h one =
-    let word : bytesOf usedWordSize usedWord ≡ part s a usedWordSize =
-    ap (bytesOf usedWordSize) (sym one) ∙ bytes-number s a usedWordSize bytes (omega arith) in
+    let flag : bytesOf usedFlagSize usedFlag ≡ part s a usedFlagSize =
+    ap (bytesOf usedFlagSize) (sym one) ∙ bytes-number s a usedFlagSize bytes (omega arith) in
     rw (
-      word,
+      flag,
       bytes-number s (a + keyStart) keySize bytes (omega arith),
       bytes-number s (a + firstAt) firstSize bytes (omega arith),
       ticks-bytes s a bytes h,
-      part-join s a usedWordSize (a + keyStart) keySize firstAt refl refl,
+      part-join s a usedFlagSize (a + keyStart) keySize firstAt refl refl,
       part-join s a firstAt (a + firstAt) firstSize ticksAt refl refl,
     )
     (part-join s a ticksAt (a + ticksAt) ticksSize rowSize refl refl)

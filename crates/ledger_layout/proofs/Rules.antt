@@ -1,5 +1,5 @@
--- A call judged by its rules on a sheet is the model's call on the book that the sheet holds: one law for a refusal, one for a call that
--- none of its rules refuses. Assumes nothing.
+-- A call with its rules on a sheet is the model's call on the book that the sheet holds: one law for a refused call, one for an accepted call.
+-- Assumes nothing.
 use Prim.Native.Nat.{ℕ}
 use native.Mathlib.Omega.{arith}
 use mathlib.Core.Bool.{Bool, true, false}

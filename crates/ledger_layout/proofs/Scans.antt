@@ -1,4 +1,4 @@
--- The lowest number of which a test holds, as a loop finds it; the row with a key, and the lowest free one. Assumes nothing.
+-- The lowest number that satisfies a test, as a loop finds it; the row with a key, and the lowest free row. Assumes nothing.
 use Prim.Native.Nat.{ℕ, zero, suc, _+_, _≤_, _<_}
 use native.Mathlib.Nat.{not-suc-le-zero, le-of-suc-le-suc, eq-or-lt-of-le, zero-lt-suc}
 use native.Mathlib.Omega.{arith}
@@ -128,7 +128,7 @@ module _ (s : List ℕ) where
   pub free-in : allUsed (bookOf s .places) ≡ false → lowestFree (bookOf s .places) < rowCount
   free-in u = rw (place-count s) at (Basics.lowest (bookOf s .places) u .in-list)
 
-  -- a row by its word, and its key
+  -- a row by its flag, and its key
   pub free-place : (i : ℕ) → i < rowCount → {u : Bool} → u ≡ isUsed s i → isFree (place (bookOf s) i) ≡ not u
   unfolding bookOf placeIn
   free-place i l e = rw (e, getD-table rowCount (placeIn s) i free l) (by (isUsed s i))

@@ -1,5 +1,5 @@
--- A call on any slice of bytes is the model's call on the book that it holds, laid out again, where it is a right sheet, and else
--- 20: one law for all calls, and one for a fresh sheet. Assumes nothing.
+-- A call on a right sheet is the layout of the model's call on its book; on any other slice it is 20. One law for all calls, and one for a fresh sheet.
+-- Assumes nothing.
 use Prim.Native.Nat.{ℕ, _+_, _*_}
 use mathlib.Core.Bool.{Bool, true, false}
 use mathlib.Core.List.{List, _++_, append-assoc}

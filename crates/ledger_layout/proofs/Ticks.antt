@@ -1,5 +1,5 @@
--- A set of positions packed into bytes: a position is a bit of its byte; setting it adds the bit, clearing it takes it away; the
--- bytes and the set determine one another. Assumes nothing.
+-- A set of positions packed into bytes: a position is a bit of its byte; setting it adds the bit, clearing it subtracts the bit; the bytes and the
+-- set determine each other. Assumes nothing.
 use Prim.Native.Nat.{ℕ, zero, suc, _+_, _*_, _-_, _/_, _%_, _^_, _<_, _≤_}
 use native.Mathlib.Nat.{pow-suc, not-suc-le-zero, le-of-suc-le-suc, div-one, div-div-eq-div-mul, pow-succ', zero-div, le-min, add-sub-cancel}
 use native.Mathlib.Omega.{arith}

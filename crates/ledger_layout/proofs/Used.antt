@@ -1,4 +1,4 @@
--- Scans of the rows by their used words are scans of the places: the count, the lowest free one, the row with a key, the first gap.
+-- Searches of the rows by their used words are searches of the places: the count, the lowest free one, the row with a key, the first gap.
 -- Assumes nothing.
 use Prim.Native.Nat.{ℕ, zero, suc, _+_, _≤_, _<_, zero-le, suc-le-suc}
 use native.Mathlib.Nat.{zero-add, zero-lt-suc}

@@ -1,4 +1,4 @@
--- A book's desk or place is put where it stands in a right sheet, and the sheet is the layout of the book with it. Assumes nothing.
+-- Writing a desk or a place into a right sheet gives the layout of the book with that desk or place. Assumes nothing.
 use Prim.Native.Nat.{ℕ, _+_, _-_, _<_}
 use native.Mathlib.Omega.{arith}
 use mathlib.Core.Bool.{true, false, false≢true}

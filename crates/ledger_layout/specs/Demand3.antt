@@ -1,4 +1,4 @@
--- What demand 3 needs of a sheet: a call's answer as the model's, and the bytes before the desks. Assumes nothing.
+-- What demand 3 says about sheets: the answers of calls as answers of the model, and the bytes before the desks. Assumes nothing.
 use Prim.Native.Nat.{ℕ}
 use mathlib.Core.List.{List, [], _∷_}
 use Rattle.octets.specs.Octets.{part}
@@ -21,7 +21,7 @@ use Rattle.ledger_sheet.specs.declared.DeskAnswer.the-variants as D
 use Rattle.ledger_sheet.specs.declared.UnsavedAnswer.{UnsavedAnswer}
 use Rattle.ledger_sheet.specs.declared.UnsavedAnswer.the-variants as U
 
--- The cases of a call's answer, as the model's.
+-- The answers of calls as answers of the model.
 abbrev pub answerOf : sheet.Answer → Answer
 answerOf A.Done = done
 answerOf (A.Refused r) = refused (numberOf r)
@@ -53,6 +53,6 @@ abbrev pub unsavedAnswerOf : UnsavedAnswer → Answer
 unsavedAnswerOf (U.Unsaved ticks unticks) = gave (ticks ∷ unticks ∷ [])
 unsavedAnswerOf (U.Refused r) = refused (numberOf r)
 
--- The bytes before the desks: the header, with the count of rows, and the rows.
+-- The bytes before the desks: the header and the rows.
 abbrev pub headerAndRows : List ℕ → List ℕ
 headerAndRows s = part s 0 desksStart

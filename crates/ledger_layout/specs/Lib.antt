@@ -1,4 +1,4 @@
--- What the contracts on sheets cite.
+-- The definitions that contracts on sheets cite.
 pub mod Ticks
 pub mod Rows
 pub mod Bytes

@@ -1,2 +1,2 @@
-// The book that a sheet holds: laid out, and looked up in.
+// Lookups in the book that a sheet holds.
 pub mod lookup;

@@ -1,4 +1,4 @@
-// What is read of a sheet and changes nothing: the row with a key, a free row, a desk's row, a tick.
+// Reads a sheet: the row with a key, a free row, a desk's row, a tick. Changes nothing.
 use ledger_sheet as sheet;
 use ledger_sheet::right;
 ghost use mathlib.Core.Path.{_≡_};
@@ -13,7 +13,7 @@ ghost use Rattle.ledger_layout.specs.Layout.{bookOf};
 ghost use Rattle.ledger_layout.specs.Ticks.{tickedAt};
 ghost use Rattle.ledger_layout.specs.inner.Scans.{isRowOf};
 
-// The used row with the key, or 32 where there is none.
+// The used row with the key; 32 if there is none.
 pub fn find_row(s: &[u8], key: u64) -> usize
     requires { ⌜ IsSheet (now s) ⌝ }
     ensures { λ r. ⌜ r ≡ placeWith key (bookOf (now (s .entry)) .places) ⌝ }
@@ -45,7 +45,7 @@ pub fn has_key(s: &[u8], key: u64) -> bool
     find_row(s, key) < sheet::ROWS
 }
 
-// The lowest free row, or 32 where there is none.
+// The lowest free row; 32 if there is none.
 pub fn free_row(s: &[u8]) -> usize
     requires { ⌜ IsSheet (now s) ⌝ }
     ensures { λ r. ⌜ r ≡ lowestFree (bookOf (now (s .entry)) .places) ⌝ }
@@ -58,7 +58,7 @@ pub fn free_row(s: &[u8]) -> usize
     sheet::ROWS
 }
 
-// Whether there is a row with this number: a free place is none.
+// Whether there is a row with this number. A free place is no row.
 pub fn is_row(s: &[u8], row: usize) -> bool
     requires { ⌜ IsSheet (now s) ⌝ }
     ensures { λ r. ⌜ r ≡ not (isFree (place (bookOf (now (s .entry))) row)) ⌝ }
@@ -86,7 +86,7 @@ pub fn is_idle(s: &[u8], row: usize) -> bool
     idle
 }
 
-// The row that desk d has open; 0 where it is closed.
+// The row that desk d has open; 0 if it is closed.
 pub fn desk_row(s: &[u8], d: usize) -> usize
     requires { ⌜ IsSheet (now s) × (d < deskCount) ⌝ }
     ensures { λ r. ⌜ r ≡ placeOf (desk (bookOf (now (s .entry))) d) ⌝ }
@@ -94,7 +94,7 @@ pub fn desk_row(s: &[u8], d: usize) -> usize
     s[sheet::desk_at(d) + sheet::DESK_ROW_AT] as usize
 }
 
-// Whether position i of the row or the copy at offset a is ticked.
+// Whether position i of the row or copy at offset a is ticked.
 pub fn is_ticked(s: &[u8], a: usize, i: usize) -> bool
     requires { ⌜ (a + rowSize ≤ length (now s)) × (i < rowLength) ⌝ }
     ensures { λ r. ⌜ r ≡ tickedAt (now (s .entry)) a i ⌝ }
@@ -102,7 +102,7 @@ pub fn is_ticked(s: &[u8], a: usize, i: usize) -> bool
     s[a + sheet::TICKS_AT + i / sheet::BYTE_BITS] / tick_bit(i % sheet::BYTE_BITS) % 2 == 1
 }
 
-// The bit of position k of a tick byte.
+// The bit of position k in a byte of ticks.
 pub fn tick_bit(k: usize) -> u8
     requires { ⌜ k < byteBits ⌝ }
     ensures { λ r. ⌜ r ≡ 2 ^ k ⌝ }

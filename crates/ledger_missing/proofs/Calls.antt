@@ -1,4 +1,4 @@
--- The call by the rules that its code judges by. Assumes nothing.
+-- The missing list by the rules that its code tests. Assumes nothing.
 use Prim.Native.Nat.{ℕ}
 use mathlib.Core.Bool.{true, false}
 use mathlib.Core.List.{List, [], _∷_}

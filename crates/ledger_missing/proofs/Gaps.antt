@@ -1,4 +1,4 @@
--- The unticked positions that a scan of words finds, and the list that they make. Assumes nothing.
+-- The unticked positions that a search of blocks finds, and the list that they make. Assumes nothing.
 use Prim.Native.Nat.{ℕ, zero, suc, _+_, _-_, _*_, _/_, _%_, _^_, _≤_, _<_, min}
 use native.Mathlib.Nat.{add-zero, div-one, pow-succ', div-div-eq-div-mul, min-zero, zero-min}
 use native.Mathlib.Numerals.{add-one}
@@ -24,15 +24,15 @@ use Rattle.ledger_layout.specs.Layout.{bookOf}
 use Rattle.ledger_layout.proofs.Readers.{row-read-on}
 use Rattle.ledger_layout.specs.Ticks.{tickedAt, ticksIn}
 use Rattle.ledger_counts.specs.inner.Counts.{pastHighest, numberAtPosition}
-use Rattle.ledger_counts.specs.inner.Words.{wordBits, bitOf, IsWord}
+use Rattle.ledger_counts.specs.inner.Blocks.{blockBits, bitOf, IsBlock}
 use Rattle.ledger_counts.proofs.Highest.{Top, top-of}
 use Rattle.ledger_counts.proofs.Missing.{missing-count, after-first, ticked-after}
 use Rattle.ledger_counts.proofs.Reports.{row-count}
-use Rattle.ledger_counts.proofs.WordCounts.{not-bit}
+use Rattle.ledger_counts.proofs.BlockCounts.{not-bit}
 use Rattle.ledger_missing.specs.Missing.{fills, missingOf}
 use Rattle.ledger_missing.specs.inner.Gaps.{except, gapsIn, numbersAt}
 
--- ---- the ones of a word
+-- ---- the ones of a block
 
 module _ (f : ℕ → ℕ) (n x : ℕ) where
   abbrev next : ℕ → ℕ
@@ -187,7 +187,7 @@ module _ (s : List ℕ) (a : ℕ) where
 pub missing-is : (s : List ℕ) (i : ℕ) → isFree (place (bookOf s) i) ≡ false → missingOf s i ≡ missingAt s (rowAt i)
 missing-is s i f = ap missingNumbers (row-read-on s i f)
 
--- ---- the gaps, word by word
+-- ---- the gaps, block by block
 
 except-split : (p : ℕ → Bool) (f : ℕ → ℕ) (m n i : ℕ) → except p f i (m + n) ≡ except p f i m ++ except p f (i + m) n
 unfolding except
@@ -202,37 +202,37 @@ except-split p f (suc m) n i = by (p i) refl (rw up (except-split p f m n (suc i
     by true e rest = let more : suc m + n ≡ suc (m + n) = omega arith in rw (more, e) rest
     by false e rest = let more : suc m + n ≡ suc (m + n) = omega arith in rw (more, e) (ap (λ (l : List ℕ). f i ∷ l) rest)
 
--- those of a word's positions and those behind
-pub gaps-word : (s : List ℕ) (a end k : ℕ) → wordBits * k < end
-    → gapsIn s a (wordBits * k) (end - wordBits * k)
-    ≡ gapsIn s a (wordBits * k) (min wordBits (end - wordBits * k)) ++ gapsIn s a (wordBits * (k + 1)) (end - wordBits * (k + 1))
-gaps-word s a end k l = by (ltb (end - wordBits * k) wordBits) refl
+-- those of a block's positions and those behind
+pub gaps-block : (s : List ℕ) (a end k : ℕ) → blockBits * k < end
+    → gapsIn s a (blockBits * k) (end - blockBits * k)
+    ≡ gapsIn s a (blockBits * k) (min blockBits (end - blockBits * k)) ++ gapsIn s a (blockBits * (k + 1)) (end - blockBits * (k + 1))
+gaps-block s a end k l = by (ltb (end - blockBits * k) blockBits) refl
   where
     left : ℕ
-    left = end - wordBits * k
+    left = end - blockBits * k
 
-    by : (b : Bool) → ltb (end - wordBits * k) wordBits ≡ b
-        → gapsIn s a (wordBits * k) (end - wordBits * k)
-        ≡ gapsIn s a (wordBits * k) (min wordBits (end - wordBits * k)) ++ gapsIn s a (wordBits * (k + 1)) (end - wordBits * (k + 1))
+    by : (b : Bool) → ltb (end - blockBits * k) blockBits ≡ b
+        → gapsIn s a (blockBits * k) (end - blockBits * k)
+        ≡ gapsIn s a (blockBits * k) (min blockBits (end - blockBits * k)) ++ gapsIn s a (blockBits * (k + 1)) (end - blockBits * (k + 1))
     by true e =
-        let few = ltb-true (end - wordBits * k) wordBits e in
-        let least : min wordBits (end - wordBits * k) ≡ end - wordBits * k = omega arith in
-        let none : end - wordBits * (k + 1) ≡ 0 = omega arith in
-        rw (least, none, except-none (tickedAt s a) (numberAtPosition s a) (wordBits * (k + 1))) (sym (append-nil (gapsIn s a (wordBits * k) (end - wordBits * k))))
+        let few = ltb-true (end - blockBits * k) blockBits e in
+        let least : min blockBits (end - blockBits * k) ≡ end - blockBits * k = omega arith in
+        let none : end - blockBits * (k + 1) ≡ 0 = omega arith in
+        rw (least, none, except-none (tickedAt s a) (numberAtPosition s a) (blockBits * (k + 1))) (sym (append-nil (gapsIn s a (blockBits * k) (end - blockBits * k))))
     by false e =
-        let many = ltb-false (end - wordBits * k) wordBits e in
-        let least : min wordBits (end - wordBits * k) ≡ wordBits = omega arith in
-        let whole : end - wordBits * k ≡ wordBits + (end - wordBits * (k + 1)) = omega arith in
-        let up : wordBits * k + wordBits ≡ wordBits * (k + 1) = omega arith in
-        rw least (ap (gapsIn s a (wordBits * k)) whole ∙ rw up at (except-split (tickedAt s a) (numberAtPosition s a) wordBits (end - wordBits * (k + 1)) (wordBits * k)))
+        let many = ltb-false (end - blockBits * k) blockBits e in
+        let least : min blockBits (end - blockBits * k) ≡ blockBits = omega arith in
+        let whole : end - blockBits * k ≡ blockBits + (end - blockBits * (k + 1)) = omega arith in
+        let up : blockBits * k + blockBits ≡ blockBits * (k + 1) = omega arith in
+        rw least (ap (gapsIn s a (blockBits * k)) whole ∙ rw up at (except-split (tickedAt s a) (numberAtPosition s a) blockBits (end - blockBits * (k + 1)) (blockBits * k)))
 
--- the word of unticked positions has the numbers at the gaps
-pub word-gaps : (s : List ℕ) (a k m w x : ℕ) → IsWord s a k w → w < 2 ^ wordBits → m ≤ wordBits → x < 2 ^ m
-    → ((j : ℕ) → j < m → bitOf x j ≡ bitOf (2 ^ wordBits - 1 - w) j)
-    → numbersAt (λ i. numberAtPosition s a (wordBits * k + i)) wordBits x ≡ gapsIn s a (wordBits * k) m
-word-gaps s a k m w x word fits few l bits =
-    ones-except (tickedAt s a) (numberAtPosition s a) (λ i. numberAtPosition s a (wordBits * k + i)) wordBits m (wordBits * k) x few l
-    (λ j q. bits j q ∙ not-bit wordBits w j fits (omega arith) ∙ ap not (word j (omega arith))) (λ j. refl)
+-- the block of unticked positions has the numbers at the gaps
+pub block-gaps : (s : List ℕ) (a k m w x : ℕ) → IsBlock s a k w → w < 2 ^ blockBits → m ≤ blockBits → x < 2 ^ m
+    → ((j : ℕ) → j < m → bitOf x j ≡ bitOf (2 ^ blockBits - 1 - w) j)
+    → numbersAt (λ i. numberAtPosition s a (blockBits * k + i)) blockBits x ≡ gapsIn s a (blockBits * k) m
+block-gaps s a k m w x block fits few l bits =
+    ones-except (tickedAt s a) (numberAtPosition s a) (λ i. numberAtPosition s a (blockBits * k + i)) blockBits m (blockBits * k) x few l
+    (λ j q. bits j q ∙ not-bit blockBits w j fits (omega arith) ∙ ap not (block j (omega arith))) (λ j. refl)
 
 -- ---- stored one after the other
 

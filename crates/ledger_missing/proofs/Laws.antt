@@ -1,4 +1,4 @@
--- The laws of the missing list, of sheets. Assumes nothing.
+-- The laws of the missing list for sheets. Assumes nothing.
 use Prim.Native.Nat.{ℕ}
 use native.Mathlib.Omega.{arith}
 use mathlib.Core.Path.{_≡_, refl, sym, ap, _∙_}

@@ -15,12 +15,12 @@ use Rattle.ledger_layout.specs.Layout.{bookOf, call, onSheet}
 use Rattle.octets.specs.Octets.{AreBytes}
 use Rattle.ledger_missing.specs.Missing.{missingOf, missingOn}
 
--- Of a row of a right sheet.
+-- The missing list of a row of a right sheet.
 pub record MissingList (s : List ℕ) (row : ℕ) : Type 0 where
-  -- Row report's missing count is the list's length, and its lowest missing number the list's first.
+  -- Row report gives the list's length as missing count, and the list's first number as lowest missing number.
   pub as-reported : onSheet (call (Ask (RowReport row))) s .0
       ≡ 0 ∷ size (ticksOf (place (bookOf s) row)) ∷ length (missingOf s row) ∷ take 1 (missingOf s row)
-  -- A number stands in it exactly where its position in the row is missing.
+  -- A number is in the list exactly if its position in the row is missing.
   pub exactly : (n : ℕ) → List·Memᴰ n (missingOf s row)
       ↔ (has (missing (ticksOf (place (bookOf s) row))) (positionAt (place (bookOf s) row) n) ≡ true)
 

@@ -1,6 +1,5 @@
--- Demand 3's claim: from a promise for each call to the whole list. Where every call on a book laid out answers as the model and
--- leaves the model's next book laid out, so does every list of calls, and all that holds of the model's lists holds of it.
--- Assumes nothing.
+-- Demand 3's claim, from a promise for each call to the whole list. If every call on the layout of a book answers as the model does and leaves the
+-- layout of the model's next book, so does every list of calls, and all that holds of the model's lists holds of it. Assumes nothing.
 use Prim.Native.Nat.{ℕ}
 use mathlib.Core.Path.{_≡_, refl, sym, ap, _∙_, subst}
 use mathlib.Core.Bool.{true}

@@ -1,5 +1,4 @@
--- Laws of the counts: what is missing and what is the lowest, position by position; bounds; and what a tick or untick does to
--- the count. Assumes nothing.
+-- Laws of the counts: what is missing and what is the lowest, position by position; bounds; and how a tick or untick changes the count. Assumes nothing.
 use Prim.Native.Nat.{ℕ, zero, suc, _+_, _≤_, _<_, zero-le, suc-le-suc}
 use native.Mathlib.Nat.{zero-lt-suc}
 use native.Mathlib.Omega.{arith}

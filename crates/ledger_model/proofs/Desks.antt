@@ -1,4 +1,4 @@
--- What the questions about a desk tell of its save. Assumes nothing.
+-- What the questions about a desk say of its save. Assumes nothing.
 use Prim.Native.Nat.{ℕ, _+_}
 use native.Mathlib.Omega.{arith}
 use mathlib.Core.Path.{_≡_, refl, sym, ap, _∙_}

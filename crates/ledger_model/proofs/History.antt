@@ -1,6 +1,6 @@
--- Checks on the definition of the serial history, that hold of every log, also of one that no run gives: its entries are entries of
--- the log; its accepted enrolments and saves are those of the log, in their order; and a transaction is the desk's last accepted
--- open and all its ticks and unticks since. Assumes nothing.
+-- Laws of the serial history that hold of every log, also of a log that no run gives: its entries are entries of the log; its accepted enrolments,
+-- strikes and saves are those of the log, in their order; and a transaction is the desk's last accepted open and all its ticks and unticks since.
+-- Assumes nothing.
 use Prim.Native.Nat.{ℕ}
 use mathlib.Core.Path.{_≡_, refl, sym, ap, _∙_, subst⁻¹}
 use mathlib.Core.Bool.{Bool, true, false, cond, _&&_}
@@ -10,7 +10,7 @@ use lib.Dec.{eqb}
 use lib.Seq.{append-snoc}
 use borrow.Author.Tests.{eq-eqb}
 use Rattle.laws.proofs.Bools.{by-test}
-use Rattle.ledger_model.specs.Lists.{only}
+use Rattle.ledger_model.specs.Lists.{filtered}
 use Rattle.ledger_model.specs.Step.{Enrol, Ask, Open, Mark, Save, Drop, Strike, Answer, gave, refused, accepted, Entry, _⇒_, callOf}
 use Rattle.ledger_model.specs.History.{noted, transactionFrom, transaction, marks, marksOf, kept, serialFrom, serial, isResult, results}
 use Rattle.ledger_model.specs.Stale.{openedBy, later, lastOpened, LastOpen}
@@ -86,22 +86,22 @@ serial-entries log =
 
 -- ---- the results
 
-pub only-append : {A : Type 0} (f : A → Bool) (xs ys : List A) → only f (xs ++ ys) ≡ only f xs ++ only f ys
-unfolding only
-only-append f [] ys = refl
-only-append f (x ∷ xs) ys = at (f x) (only-append f xs ys)
+pub filtered-append : {A : Type 0} (f : A → Bool) (xs ys : List A) → filtered f (xs ++ ys) ≡ filtered f xs ++ filtered f ys
+unfolding filtered
+filtered-append f [] ys = refl
+filtered-append f (x ∷ xs) ys = at (f x) (filtered-append f xs ys)
   where
-    at : (t : Bool) → only f (xs ++ ys) ≡ only f xs ++ only f ys
-        → cond t (x ∷ only f (xs ++ ys)) (only f (xs ++ ys)) ≡ cond t (x ∷ only f xs) (only f xs) ++ only f ys
+    at : (t : Bool) → filtered f (xs ++ ys) ≡ filtered f xs ++ filtered f ys
+        → cond t (x ∷ filtered f (xs ++ ys)) (filtered f (xs ++ ys)) ≡ cond t (x ∷ filtered f xs) (filtered f xs) ++ filtered f ys
     at true e = rw e
     at false e = e
 
 results-append : (xs ys : List Entry) → results (xs ++ ys) ≡ results xs ++ results ys
-results-append = only-append isResult
+results-append = filtered-append isResult
 
 -- A transaction holds no results.
 noted-none : (d : ℕ) (t : List Entry) (e : Entry) → results t ≡ [] → results (noted d t e) ≡ []
-unfolding noted only isResult
+unfolding noted filtered isResult
 noted-none d t (Enrol key first ⇒ a) h = h
 noted-none d t (Ask q ⇒ a) h = h
 noted-none d t (Open e r ⇒ a) h = by-test (λ es. results es ≡ []) (accepted a && eqb e d) (λ _. refl) (λ _. h)
@@ -116,7 +116,7 @@ transaction-none d t [] h = h
 transaction-none d t (e ∷ log) h = transaction-none d (noted d t e) log (noted-none d t e h)
 
 kept-results : (past : List Entry) (e : Entry) → results (kept past e) ≡ results (e ∷ [])
-unfolding kept only isResult
+unfolding kept filtered isResult
 kept-results past (Enrol key first ⇒ gave words) = refl
 kept-results past (Enrol key first ⇒ refused number) = refl
 kept-results past (Ask q ⇒ a) = refl
@@ -129,19 +129,19 @@ kept-results past (Strike r ⇒ gave words) = refl
 kept-results past (Strike r ⇒ refused number) = refl
 
 serialFrom-results : (past log : List Entry) → results (serialFrom past log) ≡ results log
-unfolding serialFrom only
+unfolding serialFrom filtered
 serialFrom-results past [] = refl
 serialFrom-results past (e ∷ log) =
     rw (results-append (kept past e) _, kept-results past e, serialFrom-results (past ++ e ∷ []) log) (sym (results-append (e ∷ []) log))
 
 pub serial-order : (log : List Entry) → results (serial log) ≡ results log
-unfolding only
+unfolding filtered
 serial-order log = serialFrom-results [] log
 
 -- ---- a transaction
 
 noted-mark : (d : ℕ) (t : List Entry) (e : Entry) → openedBy d e ≡ none → noted d t e ≡ t ++ marksOf d (e ∷ [])
-unfolding noted openedBy marks only
+unfolding noted openedBy marks filtered
 noted-mark d t (Enrol key first ⇒ a) o = sym (append-nil t)
 noted-mark d t (Ask q ⇒ a) o = sym (append-nil t)
 noted-mark d t (Open e r ⇒ a) o = at (accepted a && eqb e d) o
@@ -164,11 +164,11 @@ later-is-none o (some r) e = (cc, cc)
 
 -- Where the desk opens nothing, its transaction goes on by its ticks and unticks.
 goes-on : (d : ℕ) (t log : List Entry) → lastOpened d log ≡ none → transactionFrom d t log ≡ t ++ marksOf d log
-unfolding transactionFrom lastOpened only
+unfolding transactionFrom lastOpened filtered
 goes-on d t [] n = sym (append-nil t)
 goes-on d t (e ∷ log) n =
     let m = later-is-none (openedBy d e) (lastOpened d log) n in
-    let split = ap (λ u. t ++ u) (sym (only-append (λ x. marks d (callOf x)) (e ∷ []) log)) in
+    let split = ap (λ u. t ++ u) (sym (filtered-append (λ x. marks d (callOf x)) (e ∷ []) log)) in
     goes-on d (noted d t e) log (m .1) ∙ rw (noted-mark d t e (m .0)) (append-assoc t _ _ ∙ split)
 
 transaction-append : (d : ℕ) (t xs ys : List Entry) → transactionFrom d t (xs ++ ys) ≡ transactionFrom d (transactionFrom d t xs) ys

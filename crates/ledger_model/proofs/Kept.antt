@@ -1,4 +1,4 @@
--- A tick stays, over the whole list. Assumes nothing.
+-- A tick stays, for every list of calls. Assumes nothing.
 use Prim.Native.Nat.{ℕ, zero, suc, _<_}
 use native.Mathlib.Decide.{ℕ-discrete}
 use mathlib.Core.Path.{_≡_, refl, sym, ap, _∙_}

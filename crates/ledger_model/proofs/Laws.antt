@@ -1,5 +1,5 @@
--- Laws of the model that what stands on it needs: an enrolment's refusals, find, reports, strikes, the places that are used, what a
--- tick or untick does to the count, and answers as numbers. Assumes nothing.
+-- Laws of the model that other crates need: an enrolment's refusals, find, reports, strikes, the used places, how a tick or untick changes the count,
+-- and answers as numbers. Assumes nothing.
 use Prim.Native.Nat.{ℕ, zero, suc, _+_, _≤_, _<_, zero-le, suc-le-suc}
 use native.Mathlib.Nat.{zero-lt-suc}
 use native.Mathlib.Omega.{arith}

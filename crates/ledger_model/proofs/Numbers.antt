@@ -1,4 +1,4 @@
--- Positions and numbers of each kind of stream; and they undo each other, over whatever modulus. Assumes nothing.
+-- Positions and numbers of each kind of stream: each determines the other, for any modulus. Assumes nothing.
 use Prim.Native.Nat.{ℕ, _+_, _-_, _^_, _%_, _≤_, _<_}
 use native.Mathlib.Nat.{mod-lt, mod-eq-of-lt, mod-add-mod, add-mod-mod, add-mod-right}
 use native.Mathlib.Omega.{arith}

@@ -1,4 +1,4 @@
--- What a call can come to, and what is known in each case: a proof about every step goes by these cases. Assumes nothing.
+-- The possible outcomes of a call, and what is known in each case. Proofs about every step use these cases. Assumes nothing.
 use Prim.Native.Nat.{ℕ}
 use mathlib.Core.Path.{_≡_, refl, sym, _∙_}
 use mathlib.Core.Bool.{Bool, true, false, cond, not, false≢true}
@@ -14,7 +14,7 @@ use Rattle.ledger_model.specs.Positions.{Positions, noTicks, same}
 use Rattle.ledger_model.specs.Book.{free, row, Desk, closed, working, Book, place, desk, putPlace, putDesk}
 use Rattle.ledger_model.specs.Book.{isFree, ticksOf, withTicks, isDesk, isOpen, hasKey, allUsed, lowestFree, anyHasOpen, positionAt}
 use Rattle.ledger_model.specs.Step.{Question, Call, Enrol, Ask, Open, Mark, Save, Drop, Strike, gave}
-use Rattle.ledger_model.specs.Step.{done, atRow, refused, Reply, reply, refusals, effect, afterRefusal, judged, step}
+use Rattle.ledger_model.specs.Step.{done, atRow, refused, Reply, reply, refusals, effect, afterRefusal, replyGiven, step}
 use Rattle.ledger_model.proofs.Basics.{Lowest, lowest, HasRow, has-row}
 use Rattle.ledger_model.proofs.Steps.{markVerdict, mark-step, save-step, mark-closed, save-closed, mark-no-desk, save-no-desk}
 
@@ -84,7 +84,7 @@ outcome (Enrol key first) b =
     enrolment record { is-valid = not-false _ v; is-number = not-false _ n; is-new = k; not-full = u; is-lowest = lowest (b .places) u }
   where
     P : ℕ → Type 0
-    P number = Outcome b (Enrol key first) (judged number (Enrol key first) b)
+    P number = Outcome b (Enrol key first) (replyGiven number (Enrol key first) b)
 outcome (Ask q) b = by-test (Outcome b (Ask q)) (eqb (verdict (refusals (Ask q) b)) 0) (λ _. asking _) (λ _. refusal _ refl)
 outcome (Open d r) b =
     by-test P (not (isDesk d)) (λ _. refusal 21 refl) λ t.
@@ -93,7 +93,7 @@ outcome (Open d r) b =
     at (not-false _ t) (has-row (place b r) f) (desk-closed (desk b d) x)
   where
     P : ℕ → Type 0
-    P number = Outcome b (Open d r) (judged number (Open d r) b)
+    P number = Outcome b (Open d r) (replyGiven number (Open d r) b)
 
     at : isDesk d ≡ true → HasRow (place b r) → desk b d ≡ closed → P 0
     at t h x = rw (h .is) (opening (h .key) (h .first) (h .ticks) t (h .is) x)
@@ -127,11 +127,11 @@ outcome (Drop d) b =
     dropping (not-false _ t) (not-false _ x)
   where
     P : ℕ → Type 0
-    P number = Outcome b (Drop d) (judged number (Drop d) b)
+    P number = Outcome b (Drop d) (replyGiven number (Drop d) b)
 outcome (Strike r) b =
     by-test P (isFree (place b r)) (λ _. refusal 25 refl) λ f.
     by-test P (anyHasOpen r (b .desks)) (λ _. refusal 36 refl) λ o.
     striking f o
   where
     P : ℕ → Type 0
-    P number = Outcome b (Strike r) (judged number (Strike r) b)
+    P number = Outcome b (Strike r) (replyGiven number (Strike r) b)

@@ -10,7 +10,7 @@ use lib.ListN.{getD, set}
 use lib.Seq.{getD-set-other, set-set, set-comm}
 use borrow.Author.Tests.{eqb-true, eqb-false}
 use Rattle.refusals.specs.Judge.{judge, verdict}
-use Rattle.ledger_model.specs.Lists.{only}
+use Rattle.ledger_model.specs.Lists.{filtered}
 use Rattle.keys.specs.Key.{validKey}
 use Rattle.keys.specs.Numbers.{modulus}
 use Rattle.ledger_model.specs.Positions.{position, Positions, noTicks, same, size, missing, anyTicked, least}
@@ -182,17 +182,17 @@ module _ (d : ℕ) (b : Book) where
 
 -- The first call of a list in which desk d makes no save, and the others.
 no-save : (d : ℕ) (c : Call) (calls : List Call) → NoSave d (c ∷ calls) → (saves d c ≡ false) × NoSave d calls
-unfolding only
+unfolding filtered
 no-save d c calls n = at (saves d c) n
   where
-    at : (t : Bool) → cond t (c ∷ only (saves d) calls) (only (saves d) calls) ≡ [] → (t ≡ false) × NoSave d calls
+    at : (t : Bool) → cond t (c ∷ filtered (saves d) calls) (filtered (saves d) calls) ≡ [] → (t ≡ false) × NoSave d calls
     at true e = (cc, cc)
     at false e = (refl, e)
 
 -- The run without desk d's ticks and unticks, from a book in which desk d made none.
 without : (d : ℕ) (calls : List Call) (b : Book) → NoSave d calls
     → run (untouched d b) (withoutOwn d calls) ≡ record { log = withoutOwnLog d (run b calls .log); book = untouched d (run b calls .book) }
-unfolding run only
+unfolding run filtered
 without d [] b n = refl
 without d (c ∷ calls) b n = at (isOwn d c) refl (no-save d c calls n) (without d calls (step c b .book))
   where
@@ -228,6 +228,6 @@ model-private d xs ys k =
 
 -- Where desk 0 saves, the tick is seen: that it makes no save is needed.
 pub save-shows : SaveShows
-unfolding only isOwn run step refusals judge effect asked afterRefusal validKey modulus position noTicks hasKey allUsed lowestFree same size missing
+unfolding filtered isOwn run step refusals judge effect asked afterRefusal validKey modulus position noTicks hasKey allUsed lowestFree same size missing
     anyTicked least
 save-shows = (refl, refl, refl)

@@ -1,4 +1,4 @@
--- The stale rule, over the whole list. Assumes nothing.
+-- The stale rule, for every list of calls. Assumes nothing.
 use Prim.Native.Nat.{ℕ}
 use native.Mathlib.Decide.{ℕ-discrete}
 use mathlib.Core.Path.{_≡_, refl, sym, ap, _∙_}

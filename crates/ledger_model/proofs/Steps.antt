@@ -1,4 +1,4 @@
--- What a step computes to, from what is known of its desk and place: the equations that proofs about steps go by.
+-- What a step computes to, from what is known of its desk and place. Proofs about steps use these equations.
 -- Assumes nothing.
 use Prim.Native.Nat.{ℕ}
 use mathlib.Core.Path.{_≡_, refl}

@@ -1,4 +1,4 @@
--- Request 13's identity, of every list of calls on a fresh book. Assumes nothing.
+-- Request 13's identity, for every list of calls on a fresh book. Assumes nothing.
 use Prim.Native.Nat.{ℕ, zero, suc, _+_, _<_}
 use native.Mathlib.Omega.{arith}
 use mathlib.Core.Path.{_≡_, refl, sym, ap, _∙_}
@@ -13,7 +13,7 @@ use Rattle.laws.proofs.Bools.{by-test}
 use Rattle.refusals.specs.Judge.{judge}
 use Rattle.keys.specs.Key.{validKey}
 use Rattle.keys.specs.Numbers.{modulus}
-use Rattle.ledger_model.specs.Lists.{only}
+use Rattle.ledger_model.specs.Lists.{filtered}
 use Rattle.ledger_model.specs.Positions.{position, Positions, noTicks, same, size}
 use Rattle.ledger_model.specs.Book.{Place, free, row, Desk, closed, working, Book, fresh}
 use Rattle.ledger_model.specs.Book.{place, desk, ticksOf, withTicks, hasKey, allUsed, lowestFree, anyHasOpen}
@@ -30,7 +30,7 @@ use Rattle.ledger_model.proofs.Outcome.{marking, saving, stale, droppin
 use Rattle.ledger_model.proofs.WellFormed.{well-formed, fresh-well-formed}
 use Rattle.ledger_model.proofs.Replay.{transaction-snoc}
 use Rattle.ledger_model.proofs.Stale.{lastOpened-append, refused-opens}
-use Rattle.ledger_model.proofs.History.{only-append}
+use Rattle.ledger_model.proofs.History.{filtered-append}
 use Rattle.ledger_model.proofs.Claim.{chain-run, log-calls}
 use Rattle.ledger_model.proofs.Laws.{changes, Counted, size-mark}
 
@@ -96,7 +96,7 @@ abbrev Uncounted : ℕ → Entry → Type 0
 Uncounted d e = (openedBy d e ≡ none) × ((flag : Bool) (t : List Entry) → markCount flag (noted d t e) ≡ markCount flag t)
 
 count-snoc : (flag : Bool) (t : List Entry) (e : Entry) → markCount flag (t ++ e ∷ []) ≡ markCount flag t + markCount flag (e ∷ [])
-count-snoc flag t e = rw (only-append (marked flag) t (e ∷ [])) (length-append (only (marked flag) t) _)
+count-snoc flag t e = rw (filtered-append (marked flag) t (e ∷ [])) (length-append (filtered (marked flag) t) _)
 
 pub last-snoc : (past : List Entry) (e : Entry) (d r : ℕ) → openedBy d e ≡ none → lastOpened d past ≡ some r → lastOpened d (past ++ e ∷ []) ≡ some r
 unfolding lastOpened
@@ -112,7 +112,7 @@ grown past e d (working r opened worked) u k =
 
 -- A refused call counts nothing, nor does a call that is no mark of desk d.
 refused-mark : (flag f : Bool) (e n number : ℕ) → markCount flag ((Mark f e n ⇒ refused number) ∷ []) ≡ 0
-unfolding only marked
+unfolding filtered marked
 refused-mark true true e n number = refl
 refused-mark true false e n number = refl
 refused-mark false true e n number = refl
@@ -136,7 +136,7 @@ refused-uncounted d c number = (refused-opens d c number, refused-count d c numb
 
 -- An accepted mark counts one.
 mark-count : (flag f : Bool) (d n : ℕ) (t : List Entry) → markCount flag (t ++ (Mark f d n ⇒ done) ∷ []) ≡ markCount flag t + cond (Bool·beq f flag) 1 0
-unfolding only marked
+unfolding filtered marked
 mark-count true true d n t = count-snoc true t _
 mark-count true false d n t = count-snoc true t _
 mark-count false true d n t = count-snoc false t _
@@ -169,7 +169,7 @@ module _ (past : List Entry) (b : Book) (w : WellFormed b) (k : Balances past b)
       at false c = omega (arith, h .balance, mark-count false false d n (transaction d past), mark-count true false d n (transaction d past))
 
   balances : {c : Call} {s : Reply} → Outcome b c s → Balances (past ++ (c ⇒ s .answer) ∷ []) (s .book)
-  unfolding noted openedBy lastOpened only marked
+  unfolding noted openedBy lastOpened filtered marked
   balances (refusal {c = c} number m) = kept-desks _ (λ d. refused-uncounted d c number)
   balances (enrolment a) = kept-desks _ (λ d. (refl, λ flag t. refl))
   balances (asking words) = kept-desks _ (λ d. (refl, λ flag t. refl))
@@ -310,5 +310,5 @@ pub example-13 : (savedTicks (run fresh example .log) ≡ 2)
     × (savedUnticks (run fresh example .log) ≡ 1)
     × (ticked (run fresh example .book .places) ≡ 1)
 unfolding run step refusals judge effect afterRefusal validKey modulus position noTicks same size hasKey allUsed lowestFree anyHasOpen noted
-    transactionFrom openedBy lastOpened only marked strikes struckIn counted savedFrom ticked
+    transactionFrom openedBy lastOpened filtered marked strikes struckIn counted savedFrom ticked
 example-13 = (refl, refl, refl)

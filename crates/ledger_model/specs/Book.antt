@@ -1,4 +1,4 @@
--- The state of the model, document 01's "plain book": 32 row places and eight desks, and what is read of them. Assumes nothing.
+-- The state of the model, which document 01 calls the "plain book": 32 places for rows, and eight desks. Assumes nothing.
 -- The manual, docs/INTERFACE.md: "The ledger".
 use Prim.Native.Nat.{ℕ, zero, suc}
 use mathlib.Core.Bool.{Bool, true, false, cond, _||_}
@@ -9,12 +9,12 @@ use Rattle.ledger_model.specs.Positions.{rowLength, position, Positions}
 
 -- ---- the book
 
--- A place: free, or a stream's key and first number and the positions ticked.
+-- A place: free, or the row of a stream with its key, its first number and its set of ticked positions.
 pub data Place : Type 0 where
   free : Place
   row : (key first : ℕ) (ticks : Positions) → Place
 
--- A desk: closed, or a place with two sets, as opened and as worked on.
+-- A desk: closed, or working on a place with two sets of positions: as opened, and as worked on.
 pub data Desk : Type 0 where
   closed : Desk
   working : (place : ℕ) (opened worked : Positions) → Desk
@@ -30,15 +30,15 @@ placeCount = 32
 abbrev pub deskCount : ℕ
 deskCount = 8
 
--- The book with these places and all desks closed.
+-- The book with these places and every desk closed.
 abbrev pub idle : List Place → Book
 idle ps = record { places = ps; desks = replicate deskCount closed }
 
--- The book at first: nothing in any place, no desk open.
+-- The book at first: every place is free, every desk is closed.
 abbrev pub fresh : Book
 fresh = idle (replicate placeCount free)
 
--- Place r and desk d. A place that is not there counts as free, a desk as closed.
+-- Place r and desk d. A place that does not exist counts as free, a desk that does not exist as closed.
 abbrev pub place : Book → ℕ → Place
 place b r = getD (b .places) r free
 
@@ -51,7 +51,7 @@ putPlace r p b = record { places = set (b .places) r p; desks = b .desks }
 abbrev pub putDesk : ℕ → Desk → Book → Book
 putDesk d x b = record { places = b .places; desks = set (b .desks) d x }
 
--- ---- what is read of places and desks; of a free place and a closed desk, what no call comes to use
+-- ---- reading places and desks; no call uses what is given here for a free place or a closed desk
 
 abbrev pub isFree : Place → Bool
 isFree free = true
@@ -97,7 +97,7 @@ hasKey k [] = false
 hasKey k (free ∷ ps) = hasKey k ps
 hasKey k (row key first ticks ∷ ps) = eqb key k || hasKey k ps
 
--- The place with the key, where there is one.
+-- The place of the key, if there is one.
 unfoldable pub placeWith : ℕ → List Place → ℕ
 placeWith k [] = zero
 placeWith k (free ∷ ps) = suc (placeWith k ps)
@@ -108,19 +108,19 @@ allUsed [] = true
 allUsed (free ∷ ps) = false
 allUsed (row key first ticks ∷ ps) = allUsed ps
 
--- The lowest free place, where there is one.
+-- The lowest free place, if there is one.
 unfoldable pub lowestFree : List Place → ℕ
 lowestFree [] = zero
 lowestFree (free ∷ ps) = zero
 lowestFree (row key first ticks ∷ ps) = suc (lowestFree ps)
 
--- Whether a desk has place r open.
+-- Whether some desk has place r open.
 unfoldable pub anyHasOpen : (r : ℕ) → List Desk → Bool
 anyHasOpen r [] = false
 anyHasOpen r (closed ∷ ds) = anyHasOpen r ds
 anyHasOpen r (working q opened worked ∷ ds) = eqb q r || anyHasOpen r ds
 
--- The position of number n at a place. In a free place no number has one in the row.
+-- The position of number n in the row at a place. In a free place every number is outside the row.
 abbrev pub positionAt : Place → ℕ → ℕ
 positionAt free n = rowLength
 positionAt (row key first ticks) n = position key first n

@@ -1,5 +1,5 @@
--- A list of calls made one after another on some store S, each with what it answered. `Meets c s a t` is what is promised of one
--- call c on the store s that answered a and left t, as a function's contract has it. Assumes nothing.
+-- A list of calls, made one after another on a store S, with their answers. `Meets c s a t` is the contract of one call: c on the store s answers a
+-- and leaves the store t. Assumes nothing.
 use mathlib.Core.List.{List, [], _∷_}
 use Rattle.ledger_model.specs.Step.{Call, Answer, Entry, _⇒_}
 

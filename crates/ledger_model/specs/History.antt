@@ -1,14 +1,14 @@
--- The serial history of a log, document 01's "tidy list": the accepted enrolments, strikes and saves in their order, each save
--- with its transaction (a visit, in document 01) before it, as if the desks had taken turns. Assumes nothing.
+-- The serial history of a log, which document 01 calls the "tidy list": the accepted enrolments, strikes and saves in their order, each save right
+-- after its transaction (document 01's "visit"), as if the desks had taken turns. Assumes nothing.
 use Prim.Native.Nat.{ℕ}
 use mathlib.Core.Bool.{Bool, false, cond, _&&_}
 use mathlib.Core.List.{List, [], _∷_, _++_}
 use lib.Dec.{eqb}
-use Rattle.ledger_model.specs.Lists.{only}
+use Rattle.ledger_model.specs.Lists.{filtered}
 use Rattle.ledger_model.specs.Step.{Call, Enrol, Ask, Open, Mark, Save, Drop, Strike, accepted, Entry, _⇒_, callOf}
 
--- Desk d's transaction t, after one more entry of the log: an accepted open of the desk begins it anew, and a tick or
--- untick of the desk goes on with it, a refused one too.
+-- Desk d's transaction t, after one more entry of the log. An accepted open of the desk begins a new transaction. A tick or untick of the desk, also
+-- a refused one, is added to it.
 unfoldable pub noted : ℕ → List Entry → Entry → List Entry
 noted d t (Enrol key first ⇒ a) = t
 noted d t (Ask q ⇒ a) = t
@@ -22,11 +22,11 @@ unfoldable pub transactionFrom : ℕ → List Entry → List Entry → List Entr
 transactionFrom d t [] = t
 transactionFrom d t (e ∷ log) = transactionFrom d (noted d t e) log
 
--- Desk d's transaction in a log: its last accepted open, and its ticks and unticks since.
+-- Desk d's transaction at the end of a log: its last accepted open, and its ticks and unticks since.
 abbrev pub transaction : ℕ → List Entry → List Entry
 transaction d log = transactionFrom d [] log
 
--- A tick or untick of desk d.
+-- Whether a call is a tick or untick of desk d.
 unfoldable pub marks : (d : ℕ) → Call → Bool
 marks d (Enrol key first) = false
 marks d (Ask q) = false
@@ -36,11 +36,11 @@ marks d (Save e) = false
 marks d (Drop e) = false
 marks d (Strike r) = false
 
--- Desk d's ticks and unticks in a log, the refused ones too.
+-- Desk d's ticks and unticks in a log, also the refused ones.
 abbrev pub marksOf : (d : ℕ) → List Entry → List Entry
-marksOf d log = only (λ e. marks d (callOf e)) log
+marksOf d log = filtered (λ e. marks d (callOf e)) log
 
--- What an entry adds to the serial history, where the log has `past` before it.
+-- What an entry adds to the serial history; `past` is the log before the entry.
 unfoldable pub kept : List Entry → Entry → List Entry
 kept past (Enrol key first ⇒ a) = cond (accepted a) ((Enrol key first ⇒ a) ∷ []) []
 kept past (Ask q ⇒ a) = []
@@ -57,7 +57,7 @@ serialFrom past (e ∷ log) = kept past e ++ serialFrom (past ++ e ∷ []) log
 abbrev pub serial : List Entry → List Entry
 serial log = serialFrom [] log
 
--- What the serial history is made for: the accepted enrolments, strikes and saves of a log, in their order.
+-- The accepted enrolments, strikes and saves of a log, in their order.
 unfoldable pub isResult : Entry → Bool
 isResult (Enrol key first ⇒ a) = accepted a
 isResult (Ask q ⇒ a) = false
@@ -68,4 +68,4 @@ isResult (Drop d ⇒ a) = false
 isResult (Strike r ⇒ a) = accepted a
 
 abbrev pub results : List Entry → List Entry
-results log = only isResult log
+results log = filtered isResult log

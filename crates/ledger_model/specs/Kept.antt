@@ -1,5 +1,4 @@
--- A tick stays: a record that is ticked in a row is on no list of records to order, until a desk that unticked it saves, or the row is
--- struck. Assumes nothing.
+-- A tick stays. A record that is ticked in a row is on no missing list, until a desk that unticked it saves or the row is struck. Assumes nothing.
 use Prim.Native.Nat.{ℕ}
 use mathlib.Core.Path.{_≡_}
 use mathlib.Core.Bool.{Bool, true, false, not, _&&_, _||_}
@@ -14,13 +13,13 @@ use Rattle.ledger_model.specs.Stale.{lastOpened}
 use Rattle.ledger_model.specs.Tally.{strikes}
 use Rattle.ledger_model.specs.Missing.{missingNumbers}
 
--- Row r is that of the stream with this key, from its number `first` on, and has number n ticked.
+-- Row r is the row of the stream with this key and first number, and number n is ticked in it.
 pub record TickedIn (b : Book) (r key first n : ℕ) : Type 0 where
   pub ticks : Positions
   pub is-row : place b r ≡ row key first ticks
   pub is-ticked : has ticks (position key first n) ≡ true
 
--- An accepted untick of number n, by any desk; and whether one of a list of entries is.
+-- Whether an entry is an accepted untick of number n by any desk; and whether a list of entries has one.
 unfoldable pub unticks : (n : ℕ) → Entry → Bool
 unticks n (Enrol key first ⇒ a) = false
 unticks n (Ask q ⇒ a) = false
@@ -34,13 +33,13 @@ unfoldable pub untickedIn : (n : ℕ) → List Entry → Bool
 untickedIn n [] = false
 untickedIn n (e ∷ log) = unticks n e || untickedIn n log
 
--- A desk's last accepted open was of row r.
+-- Whether a desk's last accepted open was of row r.
 abbrev pub wasOf : (r : ℕ) → Option ℕ → Bool
 wasOf r none = false
 wasOf r (some q) = eqb q r
 
--- An entry takes number n out of row r, where the log has `past` before it: an accepted save of the row whose transaction has an accepted
--- untick of the number, or an accepted strike of the row.
+-- Whether an entry takes number n out of row r; `past` is the log before the entry. It does if it is an accepted save of the row whose transaction
+-- has an accepted untick of the number, or an accepted strike of the row.
 unfoldable pub takesOut : (r n : ℕ) (past : List Entry) → Entry → Bool
 takesOut r n past (Enrol key first ⇒ a) = false
 takesOut r n past (Ask q ⇒ a) = false
@@ -50,20 +49,19 @@ takesOut r n past (Save d ⇒ a) = accepted a && wasOf r (lastOpened d past) && 
 takesOut r n past (Drop d ⇒ a) = false
 takesOut r n past (Strike q ⇒ a) = strikes r (Strike q ⇒ a)
 
--- One of the entries of `future` does, where the log has `past` before them.
+-- Whether an entry of `future` takes number n out of row r; `past` is the log before them.
 unfoldable pub takenOut : (r n : ℕ) (past future : List Entry) → Bool
 takenOut r n past [] = false
 takenOut r n past (e ∷ future) = takesOut r n past e || takenOut r n (past ++ e ∷ []) future
 
--- Of any calls on a fresh book, and any more calls: a number that is ticked in a row is ticked there at the end, and the row is still that
--- stream's, where none of the further calls takes it out.
+-- If a number is ticked in a row after any calls, and no later call takes it out, it is ticked at the end, and the row is still the same stream's.
 abbrev pub TickStays : Type 0
 TickStays = (calls more : List Call) (r key first n : ℕ)
     → let before = run fresh calls in
     let after = run (before .book) more in
     TickedIn (before .book) r key first n → takenOut r n (before .log) (after .log) ≡ false → TickedIn (after .book) r key first n
 
--- And while it is ticked it is not on the row's missing list.
+-- A ticked number is not on the row's missing list.
 abbrev pub TickedNotMissing : Type 0
 TickedNotMissing = (calls : List Call) (r key first n : ℕ)
     → let b = run fresh calls .book in

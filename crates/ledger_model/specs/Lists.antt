@@ -2,7 +2,7 @@
 use mathlib.Core.Bool.{Bool, cond}
 use mathlib.Core.List.{List, [], _∷_}
 
--- The elements that pass a test, in their order.
-unfoldable pub only : {A : Type 0} → (A → Bool) → List A → List A
-only f [] = []
-only f (x ∷ xs) = cond (f x) (x ∷ only f xs) (only f xs)
+-- The elements for which f is true, in their order.
+unfoldable pub filtered : {A : Type 0} → (A → Bool) → List A → List A
+filtered f [] = []
+filtered f (x ∷ xs) = cond (f x) (x ∷ filtered f xs) (filtered f xs)

@@ -1,4 +1,4 @@
--- Positions of a row: the position of a number, sets of positions, and how they are counted. Assumes nothing.
+-- Positions of a row: the position of a number, and sets of positions. Assumes nothing.
 -- The manual, docs/INTERFACE.md: "Calls on the ledger".
 use Prim.Native.Nat.{ℕ, zero, suc, _+_, _-_, _%_}
 use mathlib.Core.Bool.{Bool, true, false, cond, not, _&&_, _||_, Bool·beq}
@@ -14,8 +14,8 @@ rowLength = 1024
 
 -- ---- numbers
 
--- The position of number n: how far it is past the first, counted modulo 2^32, for RSR modulo 65,536 (request 03). A number that no
--- record of the stream has is outside the row.
+-- The position of number n: how far it is past the first number, modulo 2^32, or modulo 65,536 for RSR (request 03). A number that no record of the
+-- stream can have is outside the row.
 unfoldable pub position : (key first n : ℕ) → ℕ
 position key first n = cond (isNumber key n) ((n + (modulus key - first % modulus key)) % modulus key) rowLength
 
@@ -29,7 +29,7 @@ inRow i = ltb i rowLength
 
 -- ---- sets
 
--- A set of positions: flag i says whether position i is in it, that is, ticked.
+-- A set of positions: flag i says whether position i is in the set, which means ticked.
 abbrev pub Positions : Type 0
 Positions = List Bool
 
@@ -46,7 +46,7 @@ same [] (y ∷ t) = false
 same (x ∷ s) [] = false
 same (x ∷ s) (y ∷ t) = Bool·beq x y && same s t
 
--- The positions of the first set that the second has not.
+-- The positions that are in the first set but not in the second.
 unfoldable pub minus : Positions → Positions → Positions
 minus [] t = []
 minus (x ∷ s) [] = x ∷ s
@@ -62,7 +62,7 @@ unfoldable pub anyTicked : Positions → Bool
 anyTicked [] = false
 anyTicked (x ∷ s) = x || anyTicked s
 
--- The missing positions: unticked, with a ticked one above.
+-- The missing positions: not ticked, with a ticked position above.
 unfoldable pub missing : Positions → Positions
 missing [] = []
 missing (x ∷ s) = (not x && anyTicked s) ∷ missing s

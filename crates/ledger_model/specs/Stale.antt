@@ -1,5 +1,5 @@
--- A desk's last accepted open in a log; and the stale rule's cause: between that open and the stale save stands another desk's
--- accepted save of the row. Assumes nothing.
+-- A desk's last accepted open in a log, and why a save is stale: another desk's accepted save of the row stands between that open and this save.
+-- Assumes nothing.
 use Prim.Native.Nat.{ℕ}
 use mathlib.Core.Path.{_≡_}
 use mathlib.Core.Logic.{_≢_}
@@ -9,7 +9,7 @@ use mathlib.Core.List.{List, [], _∷_, _++_}
 use lib.Dec.{eqb}
 use Rattle.ledger_model.specs.Step.{Enrol, Ask, Open, Mark, Save, Drop, Strike, Answer, done, accepted, Entry, _⇒_}
 
--- The row that an entry opened at desk d: none, unless it is an accepted open of that desk.
+-- The row that an entry opens at desk d, if it is an accepted open of that desk.
 unfoldable pub openedBy : ℕ → Entry → Option ℕ
 openedBy d (Enrol key first ⇒ a) = none
 openedBy d (Ask q ⇒ a) = none
@@ -28,7 +28,7 @@ unfoldable pub lastOpened : ℕ → List Entry → Option ℕ
 lastOpened d [] = none
 lastOpened d (e ∷ log) = later (openedBy d e) (lastOpened d log)
 
--- Where it stands: desk d opened row r, and has opened nothing since.
+-- Where that open stands: desk d opened row r, and has opened nothing since.
 pub record LastOpen (log : List Entry) (d r : ℕ) : Type 0 where
   pub before : List Entry
   pub since : List Entry
@@ -37,7 +37,7 @@ pub record LastOpen (log : List Entry) (d r : ℕ) : Type 0 where
   pub was-accepted : accepted answer ≡ true
   pub not-since : lastOpened d since ≡ none
 
--- In the log, desk d opened row r, then another desk that had opened row r saved it, and desk d has opened nothing since.
+-- In the log, desk d opened row r; then another desk that had opened row r saved it; and desk d has opened nothing since.
 pub record Overtaken (log : List Entry) (d r : ℕ) : Type 0 where
   pub before : List Entry
   pub since : List Entry

@@ -1,5 +1,5 @@
--- The model of the ledger, document 01's "The plain book": what each call answers, and what it changes. It has places and
--- desks and no bytes, and its calls have no sheet, so none is refused with 20. Assumes nothing.
+-- The model of the ledger, document 01's "plain book": what each call answers and what it changes. The model has no bytes, so no call on it is
+-- refused with 20. Assumes nothing.
 -- The manual, docs/INTERFACE.md: "Calls on the ledger".
 use Prim.Native.Nat.{ℕ}
 use mathlib.Core.Bool.{Bool, true, false, cond, not, Bool·beq}
@@ -17,7 +17,7 @@ use Rattle.ledger_model.specs.Counts.{placeReport, firstGapFrom, placeSt
 
 -- ---- calls and answers
 
--- A question is answered from the book, and changes nothing.
+-- A question reads the book and changes nothing.
 pub data Question : Type 0 where
   Find : (key : ℕ) → Question
   RowReport : (r : ℕ) → Question
@@ -40,12 +40,12 @@ Tick d n = Mark true d n
 abbrev pub Untick : (d n : ℕ) → Call
 Untick d n = Mark false d n
 
--- Accepted, with what the call gives; or refused, with the table's number.
+-- An accepted call gives words; a refused one has the table's number.
 pub data Answer : Type 0 where
   gave : (words : List ℕ) → Answer
   refused : (number : ℕ) → Answer
 
--- Most calls give nothing; enrol and find give the row.
+-- Most calls give no words; enrol and find give the row.
 abbrev pub done : Answer
 done = gave []
 
@@ -56,7 +56,7 @@ abbrev pub accepted : Answer → Bool
 accepted (gave words) = true
 accepted (refused number) = false
 
--- The numbers of an answer: 0 first where the call is accepted, else the refusal's number alone.
+-- The words of an answer: 0 and what the call gives, or the refusal's number alone.
 abbrev pub answerWords : Answer → List ℕ
 answerWords (gave words) = 0 ∷ words
 answerWords (refused number) = number ∷ []
@@ -70,12 +70,12 @@ reply a b = record { answer = a; book = b }
 
 -- ---- a call on a book
 
--- 29 for a tick of a ticked position, 30 for an untick of one that is not.
+-- 29 for a tick of a position that is ticked, 30 for an untick of one that is not.
 abbrev pub alreadySo : Bool → ℕ
 alreadySo true = 29
 alreadySo false = 30
 
--- What each call is refused for, in the table's order.
+-- The refusals of each call, in the order of the table.
 unfoldable pub refusals : Call → Book → List (Rule ℕ)
 refusals (Enrol key first) b =
     (22 when not (validKey key))
@@ -104,7 +104,7 @@ refusals (Save d) b =
 refusals (Drop d) b = (21 when not (isDesk d)) ∷ (27 when not (isOpen (desk b d))) ∷ []
 refusals (Strike r) b = (25 when isFree (place b r)) ∷ (36 when anyHasOpen r (b .desks)) ∷ []
 
--- What a question gives.
+-- The words that a question gives.
 unfoldable pub asked : Question → Book → List ℕ
 asked (Find key) b = placeWith key (b .places) ∷ []
 asked (RowReport r) b = placeReport (place b r)
@@ -113,7 +113,7 @@ asked (RowStream r) b = placeStream (place b r)
 asked (DeskState d) b = deskState (b .places) (desk b d)
 asked (Unsaved d) b = deskUnsaved (desk b d)
 
--- What each call answers and changes where it is accepted.
+-- What each call answers and changes if it is accepted.
 unfoldable pub effect : Call → Book → Reply
 effect (Enrol key first) b =
     reply (atRow (lowestFree (b .places))) (putPlace (lowestFree (b .places)) (row key first noTicks) b)
@@ -126,7 +126,7 @@ effect (Save d) b =
 effect (Drop d) b = reply done (putDesk d closed b)
 effect (Strike r) b = reply done (putPlace r free b)
 
--- A refusal leaves the book as it is, save that 31 closes the desk.
+-- A refusal leaves the book unchanged, except that 31 closes the desk.
 unfoldable pub afterRefusal : ℕ → Call → Book → Book
 afterRefusal number (Enrol key first) b = b
 afterRefusal number (Ask q) b = b
@@ -136,15 +136,15 @@ afterRefusal number (Save d) b = cond (eqb number 31) (putDesk d closed b) b
 afterRefusal number (Drop d) b = b
 afterRefusal number (Strike r) b = b
 
-abbrev pub judged : (number : ℕ) → Call → Book → Reply
-judged number c b = cond (eqb number 0) (effect c b) (reply (refused number) (afterRefusal number c b))
+abbrev pub replyGiven : (number : ℕ) → Call → Book → Reply
+replyGiven number c b = cond (eqb number 0) (effect c b) (reply (refused number) (afterRefusal number c b))
 
 unfoldable pub step : Call → Book → Reply
-step c b = judged (verdict (refusals c b)) c b
+step c b = replyGiven (verdict (refusals c b)) c b
 
 -- ---- a list of calls
 
--- A call with the answer it got.
+-- A call and its answer.
 infix 40 _⇒_
 pub data Entry : Type 0 where
   _⇒_ : Call → Answer → Entry
@@ -152,7 +152,7 @@ pub data Entry : Type 0 where
 abbrev pub callOf : Entry → Call
 callOf (c ⇒ a) = c
 
--- The log, each call with its answer in order, and the book at the end.
+-- The log, which is each call with its answer, in order; and the book at the end.
 pub record Run : Type 0 where
   pub log : List Entry
   pub book : Book

@@ -1,4 +1,4 @@
--- What holds of every book that calls can reach, whatever the calls: what a ledger sheet needs of it. Assumes nothing.
+-- What holds of every book that calls can reach. The layout as a sheet needs it. Assumes nothing.
 use Prim.Native.Nat.{ℕ, _<_}
 use mathlib.Core.Path.{_≡_}
 use mathlib.Core.Bool.{true, false}
@@ -29,6 +29,6 @@ pub record WellFormed (b : Book) : Type 0 where
   pub places-count : length (b .places) ≡ placeCount
   pub desks-count : length (b .desks) ≡ deskCount
   pub place-ok : (r : ℕ) → PlaceOk (place b r)
-  -- An open desk's place is used.
+  -- The place of an open desk is used.
   pub desk-ok : (d : ℕ) → DeskOk (b .places) (desk b d)
   pub keys-differ : (r q key : ℕ) → keyOf (place b r) ≡ some key → keyOf (place b q) ≡ some key → r ≡ q

@@ -1,11 +1,10 @@
-// The model of the ledger is in specs/; its one twin in code is the arithmetic of positions.
+// The model of the ledger is in specs/. Code has only the arithmetic of positions.
 ghost use mathlib.Core.Path.{_≡_};
 ghost use Rattle.ledger_model.specs.Positions as Positions;
 
-// How many positions a row has.
 const ROW_LENGTH: u32 = 1024;
 
-// The position of number n in a row of the stream `key` that starts at `first`. Below 1,024 the number is in the row.
+// The position of number n in a row of the stream `key` whose first number is `first`. A number is in the row if its position is below 1,024.
 pub fn position(key: u64, first: u32, n: u32) -> u32
     ensures { λ r. ⌜ r ≡ Positions.position key first n ⌝ }
 {
@@ -19,7 +18,7 @@ pub fn position(key: u64, first: u32, n: u32) -> u32
     ROW_LENGTH
 }
 
-// The number at a position of such a row.
+// The number at a position of that row.
 pub fn number_at(key: u64, first: u32, position: u32) -> u32
     ensures { λ r. ⌜ r ≡ Positions.positionNumber key first position ⌝ }
 {

@@ -20,11 +20,11 @@ use Rattle.ledger_model.proofs.WellFormed.{fresh-well-formed, well-formed-from}
 use Rattle.ledger_layout.specs.Layout.{layout, bookOf}
 use Rattle.ledger_layout.proofs.Sheets.{fresh-layout}
 use Rattle.ledger.specs.Demand3.{Promised}
-use Rattle.ledger.specs.Private.{Night}
+use Rattle.ledger.specs.Private.{History}
 use Rattle.ledger.proofs.Demand3.{meets, made-fresh}
 use Rattle.ledger.proofs.Every.{chain-from}
 use Rattle.ledger_receive.specs.Visits.{Arrival, unread, arrived, visits, outcomes, WasReceived, NotOrdered}
-use Rattle.ledger_receive.specs.Laws.{handled, callsOf, Accepted, listAfter, sheetAfter, ReceiveIsCalls, NightGoesOn, WalksAsListed}
+use Rattle.ledger_receive.specs.Laws.{handled, callsOf, Accepted, listAfter, sheetAfter, ReceiveIsCalls, HistoryGoesOn, WalksAsListed}
 use Rattle.ledger_receive.specs.Laws.{NotOrderedIn, ReceivedIsNotOrdered}
 use Rattle.ledger_receive.proofs.Sheets.{Holds, holds-own, holds-book, after}
 use Rattle.ledger_receive.proofs.Receives.{ready, made-is}
@@ -72,11 +72,11 @@ ran (next {c = c} {a = a} {es = es} p k) b h =
     one-more e q = cc
 
 -- The book of a night's sheet.
-pub night-ran : (past : List Entry) (s : List ℕ) → Night past s → Ran fresh past s
-night-ran past s n =
+pub history-ran : (past : List Entry) (s : List ℕ) → History past s → Ran fresh past s
+history-ran past s n =
     ran (n .calls-made) fresh (record { is-well = fresh-well-formed; is-laid = made-fresh (n .slice) (n .start) (n .made-fresh) ∙ fresh-layout })
 
--- A night goes on.
+-- A history goes on.
 pub chain-append : {s t u : List ℕ} {es fs : List Entry} → Chain Promised s es t → Chain Promised t fs u → Chain Promised s (es ++ fs) u
 chain-append stop q = q
 chain-append (next p k) q = next p (chain-append k q)
@@ -89,13 +89,13 @@ receive-chain d stream list s b h a =
     let laid : s ≡ layout (bookOf s) = h .is-laid ∙ ap layout (sym (holds-book h)) in
     rw (sheet-is d stream list s a) (from-laid s (bookOf s) laid (chain-from (callsOf d stream list s) (bookOf s) well))
 
-pub night-goes-on : NightGoesOn
-night-goes-on past s n d stream list a =
+pub history-goes-on : HistoryGoesOn
+history-goes-on past s n d stream list a =
     record {
       slice = n .slice;
       start = n .start;
       made-fresh = n .made-fresh;
-      calls-made = chain-append (n .calls-made) (receive-chain d stream list s _ (night-ran past s n .holds) a);
+      calls-made = chain-append (n .calls-made) (receive-chain d stream list s _ (history-ran past s n .holds) a);
     }
 
 -- ---- what was received is not ordered
@@ -130,10 +130,10 @@ listed-outcome d xs b list i key n e = List·getD-append (outcomes d xs b) _ 12 
     by false q = absurd (not-unread (sym (List·getD-eq-default xs unread {n = i} (ltb-false i (length xs) q)) ∙ e))
 
 pub received-is-not-ordered : ReceivedIsNotOrdered
-received-is-not-ordered past s night d stream list a more last chain i key n e o =
+received-is-not-ordered past s history d stream list a more last chain i key n e o =
     let calls = map callOf past in
     let xs = handled stream list in
-    let k = night-ran past s night in
+    let k = history-ran past s history in
     let b = run fresh calls .book in
     let b-is : bookOf s ≡ b = holds-book (k .holds) in
     let r = ready d s a in

@@ -4,5 +4,5 @@ pub mod Arrivals
 pub mod Rounds
 pub mod Receives
 pub mod Laws
-pub mod Nights
+pub mod Histories
 pub mod Again

@@ -363,19 +363,19 @@ module _ (d : ℕ) (t : isDesk d ≡ true) where
 pub received-not-ordered : ReceivedNotOrdered
 received-not-ordered calls more d t x xs i key n e o =
     let b = run fresh calls .book in
-    let night = calls ++ visits d xs b in
-    let joined : run fresh night .book ≡ run b (visits d xs b) .book = ap (λ (u : Run). u .book) (run-append fresh calls (visits d xs b)) in
+    let history = calls ++ visits d xs b in
+    let joined : run fresh history .book ≡ run b (visits d xs b) .book = ap (λ (u : Run). u .book) (run-append fresh calls (visits d xs b)) in
     let k = visits-shelve d t xs b (run-well-formed calls) x i key n e o in
-    let here : TickedIn (run fresh night .book) (k .row) key (k .first) n = rw joined (k .ticked) in
+    let here : TickedIn (run fresh history .book) (k .row) key (k .first) n = rw joined (k .ticked) in
     record {
       row = k .row;
       first = k .first;
       ticked = here;
-      not-missing = not-missing (run fresh night .book) (run-well-formed night) (k .row) key (k .first) n here;
-      stays = tick-stays night more (k .row) key (k .first) n here;
+      not-missing = not-missing (run fresh history .book) (run-well-formed history) (k .row) key (k .first) n here;
+      stays = tick-stays history more (k .row) key (k .first) n here;
       stays-not-missing = λ z.
-          not-missing (run (run fresh night .book) more .book) (well-formed-from more _ (run-well-formed night)) (k .row) key (k .first) n
-          (tick-stays night more (k .row) key (k .first) n here z);
+          not-missing (run (run fresh history .book) more .book) (well-formed-from more _ (run-well-formed history)) (k .row) key (k .first) n
+          (tick-stays history more (k .row) key (k .first) n here z);
     }
 
 -- ---- a visit as its code goes

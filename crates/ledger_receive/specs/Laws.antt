@@ -1,5 +1,5 @@
--- What holds of every receive: it is a list of the ledger's calls, so that demand 3 covers it; it walks the stream as a list does; and what it
--- received is not ordered. Assumes nothing.
+-- What holds of every receive. It is a list of the ledger's calls, so demand 3 covers it. It walks the stream as a list does. A received record is
+-- not ordered. Assumes nothing.
 -- The manual, docs/INTERFACE.md: "Calls on the ledger".
 use Prim.Native.Nat.{ℕ}
 use mathlib.Core.Path.{_≡_}
@@ -17,23 +17,23 @@ use Rattle.ledger_model.specs.Kept.{takenOut}
 use Rattle.ledger_layout.specs.Layout.{bookOf}
 use Rattle.octets.specs.Octets.{AreBytes}
 use Rattle.ledger.specs.Demand3.{Promised}
-use Rattle.ledger.specs.Private.{Night}
+use Rattle.ledger.specs.Private.{History}
 use Rattle.ledger_missing.specs.Missing.{missingOf}
 use Rattle.ledger_receive.specs.Visits.{Arrival, unread, arrived, visits, outcomes, WasReceived}
 use Rattle.ledger_receive.specs.Receive.{arrivals, receiveRules, tickedIn, receiveOn}
 
--- The records that a receive handles, and the calls that they make.
+-- The records that a receive handles, and the calls that it makes for them.
 abbrev pub handled : (stream list : List ℕ) → List Arrival
 handled stream list = arrivals stream (listing (length list) stream 0 .entries)
 
 abbrev pub callsOf : (d : ℕ) (stream list s : List ℕ) → List Call
 callsOf d stream list s = visits d (handled stream list) (bookOf s)
 
--- The call is not refused.
+-- The receive is not refused.
 abbrev pub Accepted : (d : ℕ) (s : List ℕ) → Type 0
 Accepted d s = verdict (receiveRules d s) ≡ 0
 
--- What the call leaves: the list, and the sheet.
+-- What a receive leaves: the list, and the sheet.
 abbrev pub listAfter : (d : ℕ) (stream list s : List ℕ) → List ℕ
 listAfter d stream list s = receiveOn d stream list s .1
 
@@ -42,8 +42,8 @@ sheetAfter d stream list s = receiveOn d stream list s .2
 
 -- ---- a receive is a list of calls
 
--- These calls, made on the sheet one after the other, each keeping its contract, leave the sheet that the receive leaves. `log` is the
--- calls with what they answer.
+-- These calls, made one after the other on the sheet, each keeping its contract, leave the sheet that the receive leaves. `log` is the calls with
+-- their answers.
 pub record IsCalls (d : ℕ) (stream list s : List ℕ) : Type 0 where
   pub log : List Entry
   pub of-these : map callOf log ≡ callsOf d stream list s
@@ -52,23 +52,23 @@ pub record IsCalls (d : ℕ) (stream list s : List ℕ) : Type 0 where
 abbrev pub ReceiveIsCalls : Type 0
 ReceiveIsCalls = (d : ℕ) (stream list s : List ℕ) → AreBytes s → Accepted d s → IsCalls d stream list s
 
--- So a night with a receive is a night: what is stated of every night holds of it.
-abbrev pub NightGoesOn : Type 0
-NightGoesOn = (past : List Entry) (s : List ℕ) → Night past s → (d : ℕ) (stream list : List ℕ) → Accepted d s
-    → Night (past ++ run (bookOf s) (callsOf d stream list s) .log) (sheetAfter d stream list s)
+-- A history that goes on with a receive is a history: what holds of every history holds of it.
+abbrev pub HistoryGoesOn : Type 0
+HistoryGoesOn = (past : List Entry) (s : List ℕ) → History past s → (d : ℕ) (stream list : List ℕ) → Accepted d s
+    → History (past ++ run (bookOf s) (callsOf d stream list s) .log) (sheetAfter d stream list s)
 
 -- ---- the walk
 
--- The count, the stop place, the stop number and what goes with it are those that `list_numbers` answers for lists of that length; then
--- stands how many were ticked.
+-- The count, the stop place, the stop number and its second number are those that `list_numbers` answers for lists of the same length. Then comes how
+-- many records were ticked.
 abbrev pub WalksAsListed : Type 0
 WalksAsListed = (d : ℕ) (stream list s : List ℕ) → Accepted d s → (columns : Columns) → shortest columns ≡ length list
     → receiveOn d stream list s .0 ≡ 0 ∷ listNumbers stream columns .0 ++ (tickedIn (outcomes d (handled stream list) (bookOf s)) ∷ [])
 
--- ---- what was received is not ordered
+-- ---- a received record is not ordered
 
--- Number n of the stream with this key stands in row `row` of the sheet t, which the calls of `past` left, and is not on its missing list; and
--- when the calls of `more` have been made, from t to the sheet `last`, and none of them took it out, it is still so.
+-- Number n of the stream with this key belongs to row `row` of the sheet t, which the calls of `past` left, and is not on its missing list. This
+-- still holds after the calls of `more`, from t to the sheet `last`, if none of them takes the number out.
 pub record NotOrderedIn (past : List Entry) (t : List ℕ) (more : List Entry) (last : List ℕ) (key n : ℕ) : Type 0 where
   pub row : ℕ
   pub is-its-row : keyOf (place (bookOf t) row) ≡ some key
@@ -76,10 +76,10 @@ pub record NotOrderedIn (past : List Entry) (t : List ℕ) (more : List Entry) (
   pub still-its-row : takenOut row n past more ≡ false → keyOf (place (bookOf last) row) ≡ some key
   pub still-not-missing : takenOut row n past more ≡ false → List·Memᴰ n (missingOf last row) → ⊥
 
--- A night of any calls, from a sheet that `fresh` made to the sheet s; then desk d receives a stream; then any calls, from the sheet that it
--- leaves to the sheet `last`. A record of the stream whose outcome in the list is 0 or 29 is not ordered.
+-- Any calls, from a sheet that `fresh` made to the sheet s; then desk d receives a stream; then any calls, to the sheet `last`. A record of the
+-- stream whose outcome in the list is 0 or 29 is not ordered.
 abbrev pub ReceivedIsNotOrdered : Type 0
-ReceivedIsNotOrdered = (past : List Entry) (s : List ℕ) → Night past s
+ReceivedIsNotOrdered = (past : List Entry) (s : List ℕ) → History past s
     → (d : ℕ) (stream list : List ℕ) → Accepted d s
     → (more : List Entry) (last : List ℕ) → Chain Promised (sheetAfter d stream list s) more last
     → (i key n : ℕ) → getD (handled stream list) i unread ≡ arrived key n → WasReceived (getD (listAfter d stream list s) i 12)

@@ -1,5 +1,5 @@
 pub mod Visits
 pub mod Receive
 pub mod Laws
-pub mod Nights
+pub mod Histories
 pub mod inner

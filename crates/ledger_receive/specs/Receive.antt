@@ -1,4 +1,4 @@
--- What `receive` answers, what the lent list holds after it, and what becomes of the sheet. Assumes nothing.
+-- What `receive` answers, the lent list after it, and the sheet after it. Assumes nothing.
 -- The manual, docs/INTERFACE.md: "Calls on the ledger".
 use Prim.Native.Nat.{ℕ, suc}
 use mathlib.Core.Path.{_≡_}
@@ -23,9 +23,9 @@ use Rattle.ledger_receive.specs.declared.Received.{Received}
 use Rattle.ledger_receive.specs.declared.Received.the-variants.{Records, Refused}
 use Rattle.ledger_receive.specs.Visits.{Arrival, unread, arrived, visits, outcomes}
 
--- ---- what the answer says
+-- ---- the words of the answer
 
--- 0, then the count, the stop place and why there, as a list's; and how many were ticked. Or the refusal's number.
+-- 0; the count, the stop place, the stop number and its second number, as a list answers them; and how many records were ticked. Or the refusal's number.
 abbrev pub receivedWords : Received → List ℕ
 receivedWords (Records walked ticked) = 0 ∷ wordsOf walked ++ (ticked ∷ [])
 receivedWords (Refused r) = numberOf r ∷ []
@@ -34,19 +34,19 @@ receivedWords (Refused r) = numberOf r ∷ []
 abbrev pub DifferentReceived : Type 0
 DifferentReceived = (a b : Received) → receivedWords a ≡ receivedWords b → a ≡ b
 
--- ---- what the records bring
+-- ---- what the records say
 
--- The whole record at the start of s brings its stream's key and its number, where no field of its header is out of range.
+-- What the whole record at the start of s says: its stream's key and its number; nothing if a field of its header is out of range.
 unfoldable pub arrivalIn : List ℕ → Arrival
 arrivalIn s = cond (noneApplies (fieldRules (kindOf s) s)) (arrived (keyOf (kindOf s) s) (recordNumber (kindOf s) s)) unread
 
--- The records of a stream that a list has entries of.
+-- What the records say that a list has entries for.
 abbrev pub arrivals : (stream : List ℕ) → List Entry → List Arrival
 arrivals stream entries = map (λ (e : Entry). arrivalIn (drop (e .place) stream)) entries
 
 -- ---- the call
 
--- 20, 21, 26, in this order.
+-- The refusals, in this order: 20, 21, 26.
 abbrev pub receiveRules : (d : ℕ) (s : List ℕ) → List (Rule ℕ)
 receiveRules d s = (20 when not (right s)) ∷ (21 when not (isDesk d)) ∷ (26 when isOpen (desk (bookOf s) d)) ∷ []
 
@@ -55,8 +55,8 @@ unfoldable pub tickedIn : List ℕ → ℕ
 tickedIn [] = 0
 tickedIn (o ∷ outcomes) = cond (eqb o 0) (suc (tickedIn outcomes)) (tickedIn outcomes)
 
--- Words, list and sheet of a call on a right sheet that holds the book b: the records are those that a list of that length has entries of; each
--- makes its visit, and its outcome stands in the list.
+-- Words, list and sheet of a receive on a right sheet with the book b. It handles the records that a list of this length has entries for; each makes
+-- its visit, and its outcome is written into the list.
 abbrev pub receiving : (d : ℕ) (stream list : List ℕ) → Book → List ℕ × List ℕ × List ℕ
 receiving d stream list b =
     let listed = listing (length list) stream 0 in
@@ -64,6 +64,6 @@ receiving d stream list b =
     let outs = outcomes d xs b in
     (0 ∷ answer listed ++ (tickedIn outs ∷ []), fills outs list, layout (run b (visits d xs b) .book))
 
--- A refusal leaves list and sheet as they were.
+-- A refusal leaves list and sheet unchanged.
 unfoldable pub receiveOn : (d : ℕ) (stream list s : List ℕ) → List ℕ × List ℕ × List ℕ
 receiveOn d stream list s = judge (λ number. (number ∷ [], list, s)) (receiveRules d s) (receiving d stream list (bookOf s))

@@ -1,6 +1,5 @@
--- A desk receives records: each makes a visit, a short list of calls, so that what is received is a list of calls like any other. And what
--- the ledger keeps of it: a record that was received is on no list of records to order, until it is unticked or its row is struck.
--- Assumes nothing.
+-- A desk receives records. Each record makes a visit, which is a short list of calls. So a receive is a list of calls like any other. A received
+-- record is on no missing list, until it is unticked or its row is struck. Assumes nothing.
 use Prim.Native.Nat.{ℕ}
 use mathlib.Core.Path.{_≡_}
 use mathlib.Core.Logic.{_⊎_}
@@ -17,29 +16,28 @@ use Rattle.ledger_model.specs.Kept.{TickedIn, takenOut}
 
 -- ---- the visit of one record
 
--- What a record brings: its stream's key and its number; or nothing, where a field of its header is out of range.
+-- What a record says: its stream's key and its number; nothing (unread) if a field of its header is out of range.
 pub data Arrival : Type 0 where
   unread : Arrival
   arrived : (key n : ℕ) → Arrival
 
--- What the tick answers, after the open.
+-- The answer of the tick, after the open.
 abbrev pub tickAnswer : (d r n : ℕ) → Book → Answer
 tickAnswer d r n b = step (Tick d n) (step (Open d r) b .book) .answer
 
--- The visit's last call: a save where the tick is accepted, else a drop.
+-- The visit's last call: a save if the tick is accepted, else a drop.
 abbrev pub leaving : (d : ℕ) → Answer → Call
 leaving d (gave words) = Save d
 leaving d (refused number) = Drop d
 
--- The calls of a visit to desk d: find the stream's row; where it has one, open it, tick the number, and save or drop.
+-- The calls of a visit at desk d: find the stream's row; if there is one, open it, tick the number, and save or drop.
 unfoldable pub visit : (d : ℕ) → Arrival → Book → List Call
 visit d unread b = []
 visit d (arrived key n) b =
     let r = placeWith key (b .places) in
     Ask (Find key) ∷ cond (hasKey key (b .places)) (Open d r ∷ Tick d n ∷ leaving d (tickAnswer d r n b) ∷ []) []
 
--- What becomes of the record: 0 where it is ticked and saved; 12 where it brings nothing; 25 where no row has its key; else what the tick
--- is refused for.
+-- The outcome of a record: 0 if it is ticked and saved; 12 if it is unread; 25 if no row has its key; else the refusal of the tick.
 abbrev pub refusalIn : Answer → ℕ
 refusalIn (gave words) = 0
 refusalIn (refused number) = number
@@ -60,7 +58,7 @@ outcomes d (x ∷ xs) b = outcome d x b ∷ outcomes d xs (run b (visit d x b) .
 
 -- ---- what holds of every visit
 
--- The outcome, by what the book holds.
+-- The outcome, from what the book holds.
 abbrev pub visitRules : Arrival → Book → List (Rule ℕ)
 visitRules unread b = (12 when true) ∷ []
 visitRules (arrived key n) b =
@@ -80,20 +78,20 @@ filed (arrived key n) b =
 
 pub record Visited (d : ℕ) (x : Arrival) (b : Book) : Type 0 where
   pub told : outcome d x b ≡ verdict (visitRules x b)
-  -- The desk is closed again, and nothing is changed but the tick of a record that is accepted.
+  -- The desk is closed again. Nothing has changed, except the tick of an accepted record.
   pub left : run b (visit d x b) .book ≡ cond (eqb (outcome d x b) 0) (filed x b) b
 
--- Of any calls on a fresh book, and a desk that then has no row open.
+-- This holds after any calls on a fresh book, for a desk that has no row open.
 abbrev pub EveryVisit : Type 0
 EveryVisit = (calls : List Call) (d : ℕ) → let b = run fresh calls .book in isDesk d ≡ true → desk b d ≡ closed → (x : Arrival) → Visited d x b
 
--- ---- the same records again
+-- ---- the same records received again
 
--- What was ticked and saved was ticked already; every other outcome is the same.
+-- The outcome the second time: 29 if the record was ticked and saved the first time; else the same.
 abbrev pub again : (number : ℕ) → ℕ
 again number = cond (eqb number 0) 29 number
 
--- Received again right after, the same records leave the book as it is.
+-- The same records, received again right after, do not change the book.
 pub record SameAgain (d : ℕ) (xs : List Arrival) (b : Book) : Type 0 where
   pub told : outcomes d xs (run b (visits d xs b) .book) ≡ map again (outcomes d xs b)
   pub left : run (run b (visits d xs b) .book) (visits d xs (run b (visits d xs b) .book)) .book ≡ run b (visits d xs b) .book
@@ -102,14 +100,14 @@ abbrev pub ReceivedAgain : Type 0
 ReceivedAgain = (calls : List Call) (d : ℕ) → let b = run fresh calls .book in
     isDesk d ≡ true → desk b d ≡ closed → (xs : List Arrival) → SameAgain d xs b
 
--- ---- what was received is not ordered
+-- ---- a received record is not ordered
 
--- The record was received: it was ticked and saved, or was ticked already.
+-- The record was received: it was ticked and saved, or it was ticked already.
 abbrev pub WasReceived : (number : ℕ) → Type 0
 WasReceived number = (number ≡ 0) ⊎ (number ≡ 29)
 
--- Number n of the stream with this key is ticked in a row after the calls of `before`; and whatever calls are made then, so long as none of
--- them takes it out of that row, it is ticked there at the end, and is not on the row's missing list.
+-- Number n of the stream with this key is ticked in a row after the calls of `before`. After any further calls, if none of them takes it out of that
+-- row, it is still ticked there, and is not on the row's missing list.
 pub record NotOrdered (before : Run) (more : List Call) (key n : ℕ) : Type 0 where
   pub row : ℕ
   pub first : ℕ
@@ -119,7 +117,7 @@ pub record NotOrdered (before : Run) (more : List Call) (key n : ℕ) : Type 0 w
   pub stays-not-missing : takenOut row n (before .log) (run (before .book) more .log) ≡ false
       → List·Memᴰ n (missingNumbers (place (run (before .book) more .book) row)) → ⊥
 
--- Any calls on a fresh book; then a desk with no row open receives records; then any calls. Each record that was received is not ordered.
+-- Any calls on a fresh book; then a desk with no row open receives records; then any calls. No record that was received is ordered.
 abbrev pub ReceivedNotOrdered : Type 0
 ReceivedNotOrdered = (calls more : List Call) (d : ℕ) → let b = run fresh calls .book in
     isDesk d ≡ true → desk b d ≡ closed → (xs : List Arrival) (i key n : ℕ)

@@ -1,5 +1,5 @@
-// A desk receives a stream of records. Each whole record becomes a visit of the desk: its row is found and opened, its number ticked, and the
-// row saved; where the tick is refused, the desk is dropped. What is received is a list of calls of the ledger, and the sheet is checked once.
+// A desk receives a stream of records. Each whole record makes one visit of the desk: the desk finds and opens its row, ticks its number, and saves;
+// if the tick is refused, it drops the row. A receive is a list of the ledger's calls; the sheet is checked once.
 use ledger_judged as judged;
 use ledger_judged::verdicts::Verdict;
 use ledger_layout::lookup;
@@ -8,7 +8,9 @@ use ledger_sheet::Answer;
 use ledger_sheet::RowAnswer;
 use ledger_sheet::right;
 use refusals::Refusal;
-use sfdu_headers::Headers;
+use sfdu::Kind;
+use sfdu::nesting;
+use sfdu_headers::StreamKey;
 use sfdu_stream as stream;
 ghost use mathlib.Core.Path.{_≡_};
 ghost use mathlib.Core.Bool.{true, cond};
@@ -16,6 +18,7 @@ ghost use Prim.Native.Nat.{_+_, _<_, _^_};
 ghost use lib.Dec.{eqb};
 ghost use Rattle.refusals.specs.Judge.{verdict, noneApplies};
 ghost use Rattle.keys.specs.Key.{validKey};
+ghost use Rattle.sfdu.specs.declared.Kind.{Kind};
 ghost use Rattle.sfdu.specs.Nesting.{kindNumber};
 ghost use Rattle.sfdu.specs.Read.{kindOf, readRules};
 ghost use Rattle.sfdu_headers.specs.Fields.{recordNumber};
@@ -27,7 +30,7 @@ ghost use Rattle.ledger_receive.specs.Visits.{arrived};
 ghost use Rattle.ledger_receive.specs.Receive.{receivedWords, arrivalIn, receiveRules, receiving, receiveOn};
 ghost use Rattle.ledger_receive.specs.inner.Calls.{broughtBy, Ready, leave, atRow, visiting};
 
-// What a record brings: its stream's key and its number; or nothing, where a field of its header is out of range. (Public for the prover's sake.)
+// What a record says: its stream's key and its number; or unread, if a field of its header is out of range. (Public because the prover needs it.)
 pub enum Arrival {
     Unread,
     Arrived { key: u64, number: u32 },
@@ -42,7 +45,7 @@ pub enum Received {
     Refused(Refusal),
 }
 
-// The last call of a visit: a save where the tick is accepted, else a drop.
+// The last call of a visit: a save if the tick is accepted, else a drop. Gives the outcome.
 fn leave_desk(s: &mut [u8], desk: u32, ticked: Answer) -> u32
     requires { ⌜ right (now s) ≡ true ⌝ }
     ensures { λ r. ⌜ (r, now (s .exit)) ≡ leave desk (answerOf ticked) (bookOf (now (s .entry))) ⌝ }
@@ -59,7 +62,7 @@ fn leave_desk(s: &mut [u8], desk: u32, ticked: Answer) -> u32
     }
 }
 
-// The visit to a row.
+// Opens the row, ticks the number, and saves or drops. Gives the outcome.
 fn visit_row(s: &mut [u8], desk: u32, row: u32, number: u32) -> u32
     requires { ⌜ right (now s) ≡ true ⌝ }
     ensures { λ r. ⌜ (r, now (s .exit)) ≡ atRow desk row number (bookOf (now (s .entry))) ⌝ }
@@ -81,32 +84,26 @@ fn visit_stream(s: &mut [u8], desk: u32, key: u64, number: u32) -> u32
     }
 }
 
-// What the whole record at the start of a slice brings, where its kind and its number are known.
+// The kind with this number.
+fn kind_of(number: u32) -> Kind
+    ensures { λ r. ⌜ ((k : Kind) → number ≡ kindNumber k → r ≡ k) ⌝ }
+{
+    if number == nesting::RSR_NUMBER {
+        return Kind::Rsr;
+    }
+    Kind::Telemetry
+}
+
+// What the whole record at the start of a slice says. Its kind and number are known, so its label is not read again.
 fn read_arrival(slice: &[u8], kind: u32, number: u32) -> Arrival
     requires { ⌜ (noneApplies (readRules (now slice)) ≡ true) × (kind ≡ kindNumber (kindOf (now slice)))
         × (number ≡ recordNumber (kindOf (now slice)) (now slice)) ⌝ }
     ensures { λ r. ⌜ broughtBy r ≡ arrivalIn (now (slice .entry)) ⌝ }
 {
-    let headers = sfdu_headers::read_headers(slice, kind);
-    match headers {
-        Headers::Telemetry {
-            size: _,
-            primary: _,
-            fields: _,
-            key,
-            received: _,
-        } => Arrival::Arrived { key, number },
-        Headers::Rsr {
-            size: _,
-            primary: _,
-            source: _,
-            signal: _,
-            time: _,
-            key,
-            day_count: _,
-        } => Arrival::Arrived { key, number },
-        Headers::Refused(_) => Arrival::Unread,
-        Headers::WrongKind => Arrival::Unread,
+    let found = sfdu_headers::stream_key(slice, kind_of(kind));
+    match found {
+        StreamKey::Key(key) => Arrival::Arrived { key, number },
+        StreamKey::OutOfRange => Arrival::Unread,
     }
 }
 
@@ -123,7 +120,7 @@ fn visit_record(s: &mut [u8], desk: u32, slice: &[u8], kind: u32, number: u32) -
     }
 }
 
-// One more ticked record, where the outcome is 0.
+// The count of ticked records, with one more if the outcome is 0.
 fn tally(ticked: usize, outcome: u32) -> usize
     requires { ⌜ ticked + 1 < 2 ^ 64 ⌝ }
     ensures { λ r. ⌜ r ≡ ticked + cond (eqb outcome 0) 1 0 ⌝ }
@@ -134,7 +131,7 @@ fn tally(ticked: usize, outcome: u32) -> usize
     ticked
 }
 
-// The visits of a stream's records, where the sheet is right and the desk has no row open.
+// Makes the visits of a stream's records. The sheet is right, and the desk has no row open.
 fn receive_all(s: &mut [u8], desk: u32, stream: &[u8], list: &mut [u32]) -> Received
     requires { ⌜ Ready desk (now s) ⌝ }
     ensures { λ r. ⌜ (receivedWords r, now (list .exit), now (s .exit))
@@ -160,7 +157,7 @@ fn receive_all(s: &mut [u8], desk: u32, stream: &[u8], list: &mut [u32]) -> Rece
     }
 }
 
-// Whether a receive is refused: 20, 21, 26.
+// The refusals of a receive: 20, 21, 26.
 fn receive_verdict(s: &[u8], desk: u32) -> Verdict
     ensures { λ r. ⌜ verdictNumber r ≡ verdict (receiveRules desk (now (s .entry))) ⌝ }
 {
@@ -176,7 +173,7 @@ fn receive_verdict(s: &[u8], desk: u32) -> Verdict
     Verdict::Fine
 }
 
-// Receives a stream at a desk: each whole record makes a visit, and its outcome stands in the list.
+// Receives a stream at a desk. Each whole record makes a visit, and its outcome is written into the list.
 pub fn receive(s: &mut [u8], desk: u32, stream: &[u8], list: &mut [u32]) -> Received
     ensures { λ r. ⌜ (receivedWords r, now (list .exit), now (s .exit))
         ≡ receiveOn desk (now (stream .entry)) (now (list .entry)) (now (s .entry)) ⌝ }

@@ -1,4 +1,4 @@
--- What the clauses of a trace come to. Assumes nothing.
+-- What follows from the clauses of a trace. Assumes nothing.
 use Prim.Native.Nat.{ℕ, _≤_}
 use mathlib.Core.Bool.{true, _&&_}
 use mathlib.Core.List.{List}

@@ -1,11 +1,11 @@
--- The theorems of a replay are of the function's contract: `replay` asks nothing of a caller, and promises what they speak of. `a` is the
+-- The theorems about replays hold of the function's contract: `replay` requires nothing of a caller, and promises what they use. `a` is the
 -- arguments, trace and sheet, r the answer, e the same at exit. Assumes nothing.
 use mathlib.Core.List.{[], _∷_}
 use mathlib.Core.Path.{_≡_, sym, ap, _∙_}
 use Rattle.laws.proofs.Keeps.{Keeps}
 use Rattle.ledger_replay.specs.Replay.{replayedWords, replayOn}
-use Rattle.ledger_replay.specs.Nights.{AsModel}
-use Rattle.ledger_replay.proofs.Nights.{same-is-model}
+use Rattle.ledger_replay.specs.Histories.{AsModel}
+use Rattle.ledger_replay.proofs.Histories.{same-is-model}
 use Rattle.ledger_replay.proofs.replay.Reads as replay
 use Rattle.ledger_replay.proofs.replay.Kinds as kinds
 

@@ -1,4 +1,4 @@
--- Which calls are kept: their answers fit an entry, and the others change nothing. Assumes nothing.
+-- The calls that a trace keeps: their answers fit an entry, and all other calls change nothing. Assumes nothing.
 use Prim.Native.Nat.{ℕ, _^_, _<_}
 use native.Mathlib.Omega.{arith}
 use mathlib.Core.Bool.{Bool, true, false, cond, _&&_, false≢true}
@@ -13,7 +13,7 @@ use Rattle.keys.proofs.Numbers.{modulus-fits}
 use Rattle.ledger_model.specs.Positions.{Positions, inRow}
 use Rattle.ledger_model.specs.Book.{Place, free, row, Book, place, isDesk, positionAt, lowestFree}
 use Rattle.ledger_model.specs.Step.{Call, Enrol, Ask, Open, Mark, Save, Drop, Strike}
-use Rattle.ledger_model.specs.Step.{Answer, refused, Reply, reply, refusals, effect, afterRefusal, judged, step}
+use Rattle.ledger_model.specs.Step.{Answer, refused, Reply, reply, refusals, effect, afterRefusal, replyGiven, step}
 use Rattle.ledger_model.specs.WellFormed.{WellFormed}
 use Rattle.ledger_model.proofs.Basics.{row-in, has-row}
 use Rattle.ledger_model.proofs.Numbers.{outside}
@@ -35,9 +35,9 @@ verdict-under [] u = lit< tt
 verdict-under ((n when true) ∷ rules) u = u .0
 verdict-under ((n when false) ∷ rules) u = verdict-under rules (u .1)
 
-judged-fits : (f : Answer → Bool) → ((n : ℕ) → f (refused n) ≡ isRefusal n) → (v : ℕ) (c : Call) (b : Book) → v < 256
-    → f (effect c b .answer) ≡ true → f (judged v c b .answer) ≡ true
-judged-fits f same v c b l h = at (eqb v 0) refl
+replyGiven-fits : (f : Answer → Bool) → ((n : ℕ) → f (refused n) ≡ isRefusal n) → (v : ℕ) (c : Call) (b : Book) → v < 256
+    → f (effect c b .answer) ≡ true → f (replyGiven v c b .answer) ≡ true
+replyGiven-fits f same v c b l h = at (eqb v 0) refl
   where
     at : (t : Bool) → eqb v 0 ≡ t → f (cond t (effect c b) (reply (refused v) (afterRefusal v c b)) .answer) ≡ true
     at true z = h
@@ -66,26 +66,26 @@ kept-asks (Strike r) k = refl
 pub model-fits : (c : Call) (b : Book) → WellFormed b → asks c ≡ false → answerFits c (step c b .answer) ≡ true
 unfolding answerFits step refusals effect rowFits nothingFits asks Under
 model-fits (Enrol key first) b ok k =
-    judged-fits rowFits (λ n. refl) (verdict (refusals (Enrol key first) b)) (Enrol key first) b
+    replyGiven-fits rowFits (λ n. refl) (verdict (refusals (Enrol key first) b)) (Enrol key first) b
     (verdict-under (refusals (Enrol key first) b) (lit< tt, (lit< tt, (lit< tt, (lit< tt, tt)))))
     (lt-ltb (lowestFree (b .places)) 256 (omega (arith, lowest-in (b .places), ok .places-count)))
 model-fits (Ask q) b ok k = cc
 model-fits (Open d r) b ok k =
-    judged-fits nothingFits (λ n. refl) (verdict (refusals (Open d r) b)) (Open d r) b
+    replyGiven-fits nothingFits (λ n. refl) (verdict (refusals (Open d r) b)) (Open d r) b
     (verdict-under (refusals (Open d r) b) (lit< tt, (lit< tt, (lit< tt, tt)))) refl
 model-fits (Mark true d n) b ok k =
-    judged-fits nothingFits (λ n. refl) (verdict (refusals (Mark true d n) b)) (Mark true d n) b
+    replyGiven-fits nothingFits (λ n. refl) (verdict (refusals (Mark true d n) b)) (Mark true d n) b
     (verdict-under (refusals (Mark true d n) b) (lit< tt, (lit< tt, (lit< tt, (lit< tt, tt))))) refl
 model-fits (Mark false d n) b ok k =
-    judged-fits nothingFits (λ n. refl) (verdict (refusals (Mark false d n) b)) (Mark false d n) b
+    replyGiven-fits nothingFits (λ n. refl) (verdict (refusals (Mark false d n) b)) (Mark false d n) b
     (verdict-under (refusals (Mark false d n) b) (lit< tt, (lit< tt, (lit< tt, (lit< tt, tt))))) refl
 model-fits (Save d) b ok k =
-    judged-fits nothingFits (λ n. refl) (verdict (refusals (Save d) b)) (Save d) b
+    replyGiven-fits nothingFits (λ n. refl) (verdict (refusals (Save d) b)) (Save d) b
     (verdict-under (refusals (Save d) b) (lit< tt, (lit< tt, (lit< tt, tt)))) refl
 model-fits (Drop d) b ok k =
-    judged-fits nothingFits (λ n. refl) (verdict (refusals (Drop d) b)) (Drop d) b (verdict-under (refusals (Drop d) b) (lit< tt, (lit< tt, tt))) refl
+    replyGiven-fits nothingFits (λ n. refl) (verdict (refusals (Drop d) b)) (Drop d) b (verdict-under (refusals (Drop d) b) (lit< tt, (lit< tt, tt))) refl
 model-fits (Strike r) b ok k =
-    judged-fits nothingFits (λ n. refl) (verdict (refusals (Strike r) b)) (Strike r) b (verdict-under (refusals (Strike r) b) (lit< tt, (lit< tt, tt))) refl
+    replyGiven-fits nothingFits (λ n. refl) (verdict (refusals (Strike r) b)) (Strike r) b (verdict-under (refusals (Strike r) b) (lit< tt, (lit< tt, tt))) refl
 
 -- ---- a call that is not kept changes nothing
 

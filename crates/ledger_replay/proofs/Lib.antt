@@ -3,7 +3,7 @@ pub mod Lines
 pub mod Written
 pub mod Turns
 pub mod Kept
-pub mod Nights
+pub mod Histories
 pub mod Words
 pub mod Contracts
 pub mod Pieces

@@ -1,4 +1,4 @@
--- One entry: written, it is 16 bytes, is well-formed, and reads back. Assumes nothing.
+-- One entry as bytes: it is 16 bytes, well-formed, and reads back. Assumes nothing.
 use Prim.Native.Nat.{ℕ, _+_, _^_, _<_}
 use native.Mathlib.Nat.{add-zero}
 use native.Mathlib.Omega.{arith}

@@ -1,4 +1,4 @@
--- A log that is played in pieces. Assumes nothing.
+-- A log replayed in pieces. Assumes nothing.
 use Prim.Native.Nat.{ℕ, zero, suc, _+_}
 use native.Mathlib.Nat.{add-zero}
 use native.Mathlib.Omega.{arith}
@@ -14,23 +14,23 @@ use Rattle.ledger_model.specs.Step.{Call, answerWords, step, Entry, _⇒_, call
 use Rattle.ledger_model.specs.WellFormed.{WellFormed}
 use Rattle.ledger_model.proofs.WellFormed.{well-formed-from, run-well-formed}
 use Rattle.ledger_sheet.specs.Sheet.{sheetSize, right}
-use Rattle.ledger_sheet.specs.Outcome.{judged}
+use Rattle.ledger_sheet.specs.Outcome.{refusedOr}
 use Rattle.ledger_layout.specs.Layout.{layout, call, onSheet}
 use Rattle.ledger_layout.proofs.Right.{layout-right}
 use Rattle.ledger_replay.specs.Trace.{count, isTrace, entriesFrom, entriesOf}
-use Rattle.ledger_replay.specs.Replay.{told, sameTold, differs, replayFrom, replayOn, replayOnSheet}
+use Rattle.ledger_replay.specs.Replay.{callAnswer, sameCallAnswer, differs, replayFrom, replayOn, replayOnSheet}
 use Rattle.ledger_replay.specs.Pieces.{countedFrom, shifted, JoinedReplay, logOf, AllTraces, GoOn, finish, piece, AllSame, IsModels, AuditInPieces}
-use Rattle.ledger_replay.proofs.Nights.{plays, truth, replay-fresh, refused-words, model-is-same, same-is-model}
+use Rattle.ledger_replay.proofs.Histories.{plays, truth, replay-fresh, refused-words, model-is-same, same-is-model}
 
 -- ---- what the call says, where it is not refused
 
 over-right : (t s : List ℕ) → right s ≡ true → isTrace t ≡ true → replayOnSheet t s ≡ replayFrom 0 (entriesOf t) s
-unfolding replayOnSheet judged judge
+unfolding replayOnSheet refusedOr judge
 over-right t s r h = rw (r, h)
 
 -- A replay that says 'same' is of a trace, over a slice of a sheet's length.
 same-parts : (t s : List ℕ) → replayOn t s .0 ≡ 0 ∷ [] → (length s ≡ sheetSize) × (isTrace t ≡ true)
-unfolding replayOn judged judge
+unfolding replayOn refusedOr judge
 same-parts t s e = by (eqb (length s) sheetSize) refl (isTrace t) refl
   where
     by : (u : Bool) → eqb (length s) sheetSize ≡ u → (v : Bool) → isTrace t ≡ v → (length s ≡ sheetSize) × (isTrace t ≡ true)
@@ -50,13 +50,13 @@ append-from : (xs ys : List Entry) (k : ℕ) (s : List ℕ) → replayFrom k xs 
 unfolding replayFrom
 append-from [] ys k s e = rw (add-zero k)
 append-from ((c ⇒ a) ∷ xs) ys k s e =
-    by (sameTold (told (onSheet (call c) s .0)) (told (answerWords a))) e (append-from xs ys (suc k) (left-by c s))
+    by (sameCallAnswer (callAnswer (onSheet (call c) s .0)) (callAnswer (answerWords a))) e (append-from xs ys (suc k) (left-by c s))
   where
-    by : (t : Bool) → cond t (replayFrom (suc k) xs (left-by c s)) (differs k (told (onSheet (call c) s .0)), left-by c s) .0 ≡ 0 ∷ []
+    by : (t : Bool) → cond t (replayFrom (suc k) xs (left-by c s)) (differs k (callAnswer (onSheet (call c) s .0)), left-by c s) .0 ≡ 0 ∷ []
         → (replayFrom (suc k) xs (left-by c s) .0 ≡ 0 ∷ []
         → replayFrom (suc k) (xs ++ ys) (left-by c s) ≡ replayFrom (suc k + length xs) ys (replayFrom (suc k) xs (left-by c s) .1))
-        → cond t (replayFrom (suc k) (xs ++ ys) (left-by c s)) (differs k (told (onSheet (call c) s .0)), left-by c s)
-        ≡ replayFrom (k + suc (length xs)) ys (cond t (replayFrom (suc k) xs (left-by c s)) (differs k (told (onSheet (call c) s .0)), left-by c s) .1)
+        → cond t (replayFrom (suc k) (xs ++ ys) (left-by c s)) (differs k (callAnswer (onSheet (call c) s .0)), left-by c s)
+        ≡ replayFrom (k + suc (length xs)) ys (cond t (replayFrom (suc k) xs (left-by c s)) (differs k (callAnswer (onSheet (call c) s .0)), left-by c s) .1)
     by true h rest = let up : suc k + length xs ≡ k + suc (length xs) = omega arith in rw up at (rest h)
     by false h rest = cc
 
@@ -64,11 +64,11 @@ shift-from : (es : List Entry) (n k : ℕ) (s : List ℕ) → replayFrom (n + k)
 unfolding replayFrom countedFrom
 shift-from [] n k s = refl
 shift-from ((c ⇒ a) ∷ es) n k s =
-    by (sameTold (told (onSheet (call c) s .0)) (told (answerWords a))) (shift-from es n (suc k) (left-by c s))
+    by (sameCallAnswer (callAnswer (onSheet (call c) s .0)) (callAnswer (answerWords a))) (shift-from es n (suc k) (left-by c s))
   where
     by : (t : Bool) → replayFrom (n + suc k) es (left-by c s) ≡ shifted n (replayFrom (suc k) es (left-by c s))
-        → cond t (replayFrom (suc (n + k)) es (left-by c s)) (differs (n + k) (told (onSheet (call c) s .0)), left-by c s)
-        ≡ shifted n (cond t (replayFrom (suc k) es (left-by c s)) (differs k (told (onSheet (call c) s .0)), left-by c s))
+        → cond t (replayFrom (suc (n + k)) es (left-by c s)) (differs (n + k) (callAnswer (onSheet (call c) s .0)), left-by c s)
+        ≡ shifted n (cond t (replayFrom (suc k) es (left-by c s)) (differs k (callAnswer (onSheet (call c) s .0)), left-by c s))
     by true rest = let up : n + suc k ≡ suc (n + k) = omega arith in rw up at rest
     by false rest = refl
 
@@ -137,21 +137,21 @@ module _ (t : List ℕ) (b : Book) (ok : WellFormed b) (h : isTrace t ≡ true) 
   unfolding entriesOf
   piece-answers e = truth t (count t) 0 0 b ok e
 
-  piece-tells : (next : List ℕ) → replayOnSheet t (layout b) ≡ (0 ∷ [], next)
+  piece-says : (next : List ℕ) → replayOnSheet t (layout b) ≡ (0 ∷ [], next)
       → (run b (map callOf (entriesOf t)) .log ≡ entriesOf t) × (next ≡ layout (run b (map callOf (entriesOf t)) .book))
-  piece-tells next e =
+  piece-says next e =
       let answers = piece-answers (ap (λ o. o .0) (sym over-layout ∙ e)) in
       (answers, ap (λ o. o .1) (sym e ∙ piece-plays answers))
 
 -- ---- further pieces
 
-tells : (pieces : List (List ℕ)) (b : Book) → WellFormed b → AllTraces pieces → (s last : List ℕ) → s ≡ layout b → GoOn s pieces last
+pieces-say : (pieces : List (List ℕ)) (b : Book) → WellFormed b → AllTraces pieces → (s last : List ℕ) → s ≡ layout b → GoOn s pieces last
     → (run b (map callOf (logOf pieces)) .log ≡ logOf pieces) × (last ≡ layout (run b (map callOf (logOf pieces)) .book))
 unfolding logOf AllTraces run
-tells [] b ok ts s last e finish = (refl, e)
-tells (t ∷ pieces) b ok ts s last e (piece {next = next} same more) =
-    let here = piece-tells t b ok (ts .0) next (rw e at same) in
-    let rest = tells pieces (run b (map callOf (entriesOf t)) .book) (well-formed-from (map callOf (entriesOf t)) b ok) (ts .1) next last (here .1) more in
+pieces-say [] b ok ts s last e finish = (refl, e)
+pieces-say (t ∷ pieces) b ok ts s last e (piece {next = next} same more) =
+    let here = piece-says t b ok (ts .0) next (rw e at same) in
+    let rest = pieces-say pieces (run b (map callOf (entriesOf t)) .book) (well-formed-from (map callOf (entriesOf t)) b ok) (ts .1) next last (here .1) more in
     (join-log (entriesOf t) (logOf pieces) b (here .0) (rest .0), rest .1 ∙ ap layout (sym (join-book (entriesOf t) (logOf pieces) b)))
 
 go-on : (pieces : List (List ℕ)) (b : Book) → WellFormed b → AllTraces pieces → run b (map callOf (logOf pieces)) .log ≡ logOf pieces
@@ -170,13 +170,13 @@ go-on (t ∷ pieces) b ok ts e =
 
 pub audit-in-pieces : AuditInPieces
 unfolding logOf AllTraces
-audit-in-pieces s first pieces last l ts = (told-by, says)
+audit-in-pieces s first pieces last l ts = (as-models, says)
   where
-    told-by : AllSame s first pieces last → IsModels (logOf (first ∷ pieces)) last
-    told-by k =
+    as-models : AllSame s first pieces last → IsModels (logOf (first ∷ pieces)) last
+    as-models k =
         let model = same-is-model first s (ap (λ o. o .0) (k .first-same)) in
         let laid = ap (λ o. o .1) (sym (k .first-same)) ∙ model .model-sheet in
-        let rest = tells pieces (bookAfter (entriesOf first)) (run-well-formed _) (ts .1) (k .after-first) last laid (k .others-same) in
+        let rest = pieces-say pieces (bookAfter (entriesOf first)) (run-well-formed _) (ts .1) (k .after-first) last laid (k .others-same) in
         record {
           model-answers = join-log (entriesOf first) (logOf pieces) fresh (model .model-answers) (rest .0);
           model-sheet = rest .1 ∙ ap layout (sym (join-book (entriesOf first) (logOf pieces) fresh));

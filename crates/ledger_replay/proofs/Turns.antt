@@ -1,4 +1,4 @@
--- One entry after the other: what the loop of `play` goes by. Assumes nothing.
+-- One entry after the other: what holds in each turn of the loop of `play`. Assumes nothing.
 use Prim.Native.Nat.{ℕ, suc, _+_, _-_}
 use native.Mathlib.Nat.{sub-zero}
 use native.Mathlib.Numerals.{add-one}
@@ -20,9 +20,9 @@ use Rattle.ledger_layout.proofs.Read.{read-law, book-fine}
 use Rattle.ledger_layout.proofs.Right.{layout-right}
 use Rattle.ledger_layout.proofs.Sheets.{on-layout}
 use Rattle.ledger_replay.specs.declared.Line.{Line}
-use Rattle.ledger_replay.specs.declared.Told.{Told}
+use Rattle.ledger_replay.specs.declared.CallAnswer.{CallAnswer}
 use Rattle.ledger_replay.specs.Trace.{enrolCall, count, entryAt, lineAt, callIn, answerIn, entriesFrom, entriesOf}
-use Rattle.ledger_replay.specs.Replay.{told, sameTold, differs, replayFrom}
+use Rattle.ledger_replay.specs.Replay.{callAnswer, sameCallAnswer, differs, replayFrom}
 use Rattle.ledger_replay.specs.inner.Making.{made, written, IsLaid}
 
 -- ---- what is written of an answer
@@ -32,19 +32,19 @@ answer-none true n = refl
 answer-none false n = refl
 
 pub written-other : (x : Line) → eqb (x .call) enrolCall ≡ false → written x .row ≡ 0
-unfolding written told answerIn
+unfolding written callAnswer answerIn
 written-other x e = rw e (answer-none (eqb (x .answer) 0) (x .answer))
 
 pub written-refused : (x : Line) → eqb (x .answer) 0 ≡ false → written x .row ≡ 0
-unfolding written told answerIn
+unfolding written callAnswer answerIn
 written-refused x e = rw e
 
 pub written-row : (x : Line) → eqb (x .call) enrolCall ≡ true → eqb (x .answer) 0 ≡ true → written x .row ≡ x .row
-unfolding written told answerIn
+unfolding written callAnswer answerIn
 written-row x e z = rw (z, e)
 
 pub written-number : (x : Line) → written x .number ≡ x .answer
-unfolding written told answerIn
+unfolding written callAnswer answerIn
 written-number x = at (eqb (x .answer) 0) (eqb (x .call) enrolCall) refl
   where
     at : (t u : Bool) → eqb (x .answer) 0 ≡ t → getD (answerWords (cond t (cond u (atRow (x .row)) done) (refused (x .answer)))) 0 0 ≡ x .answer
@@ -59,13 +59,13 @@ unfolding entriesOf
 start t s n e = rw (sub-zero, e)
 
 -- An entry whose call answers as written, and one whose call does not.
-module _ (t s s′ : List ℕ) (k n m : ℕ) (x : Line) (a : Told) (read : x ≡ lineAt t (entryAt k)) (call-made : (a, s′) ≡ made (callIn x) s)
+module _ (t s s′ : List ℕ) (k n m : ℕ) (x : Line) (a : CallAnswer) (read : x ≡ lineAt t (entryAt k)) (call-made : (a, s′) ≡ made (callIn x) s)
     (one-more : n ≡ suc m) where
-  pub same-on : sameTold a (written x) ≡ true → replayFrom (k + 1) (entriesFrom t (k + 1) m) s′ ≡ replayFrom k (entriesFrom t k n) s
+  pub same-on : sameCallAnswer a (written x) ≡ true → replayFrom (k + 1) (entriesFrom t (k + 1) m) s′ ≡ replayFrom k (entriesFrom t k n) s
   unfolding replayFrom entriesFrom made written
   same-on e = rw (one-more, ← read, ← ap (λ o. o .0) call-made, ← ap (λ o. o .1) call-made, e, add-one)
 
-  pub differs-there : sameTold a (written x) ≡ false → (differs k a, s′) ≡ replayFrom k (entriesFrom t k n) s
+  pub differs-there : sameCallAnswer a (written x) ≡ false → (differs k a, s′) ≡ replayFrom k (entriesFrom t k n) s
   unfolding replayFrom entriesFrom made written
   differs-there e = rw (one-more, ← read, ← ap (λ o. o .0) call-made, ← ap (λ o. o .1) call-made, e)
 
@@ -88,7 +88,7 @@ right-laid s bytes r = record { book = bookOf s; fine = book-fine s bytes r; lai
 pub laid-right : (s : List ℕ) → IsLaid s → right s ≡ true
 laid-right s k = rw (k .laid-out) (layout-right (k .book) (k .fine))
 
-pub laid-next : (s s′ : List ℕ) (c : Call) (a : Told) → IsLaid s → (a, s′) ≡ made c s → IsLaid s′
+pub laid-next : (s s′ : List ℕ) (c : Call) (a : CallAnswer) → IsLaid s → (a, s′) ≡ made c s → IsLaid s′
 unfolding made
 laid-next s s′ c a k e =
     let b = k .book in

@@ -1,4 +1,4 @@
--- The trace of a log is bytes, is a trace, and reads back. Assumes nothing.
+-- The trace of a log consists of bytes, is a trace, and reads back. Assumes nothing.
 use Prim.Native.Nat.{ℕ, zero, suc, _+_, _*_, _%_, _/_, _^_, _<_, _≤_}
 use native.Mathlib.Nat.{zero-add, add-zero}
 use native.Mathlib.Omega.{arith}

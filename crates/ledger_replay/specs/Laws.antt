@@ -9,7 +9,7 @@ use Rattle.ledger_model.specs.Step.{Call, Enrol, Ask, Open, Mark, Save, Drop, S
 use Rattle.ledger_replay.specs.Trace.{mostEntries, isTrace, entriesOf}
 use Rattle.ledger_replay.specs.Record.{isByte, isKept, traceOf}
 
--- What an entry can have as its answer: a refusal, or for enrol a row, for any other call nothing.
+-- The answers that an entry can have: a refusal; a row, for an accepted enrolment; nothing, for any other accepted call.
 abbrev pub isRefusal : ℕ → Bool
 isRefusal number = not (eqb number 0) && isByte number
 
@@ -40,7 +40,7 @@ unfoldable pub allFit : List Entry → Bool
 allFit [] = true
 allFit (e ∷ log) = fits e && allFit log
 
--- The trace of a log is bytes, is a trace, and reads back as that log.
+-- The trace of a log consists of bytes, is a trace, and reads back as that log.
 pub record ReadsBack (log : List Entry) : Type 0 where
   pub all-bytes : (i : ℕ) → getD (traceOf log) i 0 < 256
   pub is-trace : isTrace (traceOf log) ≡ true

@@ -1,19 +1,19 @@
--- Document 02, request 11: a log of calls written as a trace. Assumes nothing.
+-- Document 02, request 11: the trace of a log of calls. Assumes nothing.
 use Prim.Native.Nat.{ℕ, _^_}
 use mathlib.Core.Bool.{Bool, true, false, _&&_}
 use mathlib.Core.List.{List, [], _∷_, _++_}
 use lib.Dec.{ltb}
 use lib.ListN.{length, getD}
 use Rattle.octets.specs.Octets.{bytesOf}
-use Rattle.ledger_model.specs.Lists.{only}
+use Rattle.ledger_model.specs.Lists.{filtered}
 use Rattle.ledger_model.specs.Step.{Call, Enrol, Ask, Open, Mark, Save, Drop, Strike, Answer, gave, refused, Entry, _⇒_, callOf}
 use Rattle.octets.specs.Lists.{laid}
 use Rattle.ledger_replay.specs.declared.Line.{Line}
 use Rattle.ledger_replay.specs.Trace.{numberSize, headerSize, keySize, entryAt, enrolCall, openCall, tickCall, untickCall, saveCall, dropCall, strikeCall}
 
--- ---- the calls that are kept
+-- ---- the calls that a trace keeps
 
--- What a byte, a record number and a key can be.
+-- The numbers that fit a byte, a record number and a key.
 abbrev pub isByte : ℕ → Bool
 isByte n = ltb n 256
 
@@ -23,8 +23,8 @@ isRecordNumber n = ltb n (256 ^ numberSize)
 abbrev pub isKeyNumber : ℕ → Bool
 isKeyNumber k = ltb k (256 ^ keySize)
 
--- A desk or row that is no byte cannot be written: such calls, all refused, are left out. Questions have no number. (A key or a record
--- number that a call can be given always fits.)
+-- A trace does not keep calls whose desk or row does not fit a byte; all of these are refused. It keeps no questions. Every key and record number
+-- that a caller can pass fits.
 unfoldable pub isKept : Call → Bool
 isKept (Enrol key first) = isKeyNumber key && isRecordNumber first
 isKept (Ask q) = false
@@ -35,11 +35,11 @@ isKept (Drop d) = isByte d
 isKept (Strike r) = isByte r
 
 abbrev pub recorded : List Entry → List Entry
-recorded log = only (λ e. isKept (callOf e)) log
+recorded log = filtered (λ e. isKept (callOf e)) log
 
 -- ---- the bytes
 
--- 0 for an accepted call, else the refusal's number; the row that enrol answered, and 0 where it was refused.
+-- The answer's number: 0 for an accepted call, else the refusal's. And the row that enrol answered; 0 for a refused enrolment.
 abbrev pub answerNumber : Answer → ℕ
 answerNumber (gave words) = 0
 answerNumber (refused number) = number

@@ -1,4 +1,5 @@
--- Document 02, request 11: a trace played again, over a fresh sheet or over one as it stands. Every call is `onSheet (call c)`, which the ledger's contracts cite. Assumes nothing.
+-- Document 02, request 11: the replay of a trace, over a fresh sheet or over a sheet as it is. Each call is `onSheet (call c)`, as in the ledger's
+-- contracts. Assumes nothing.
 -- The manual, docs/INTERFACE.md: "A night in a trace, played again".
 use Prim.Native.Nat.{ℕ, suc}
 use mathlib.Core.Path.{_≡_}
@@ -10,14 +11,14 @@ use Rattle.refusals.specs.Table.{numberOf}
 use Rattle.refusals.specs.Judge.{_when_}
 use Rattle.ledger_model.specs.Step.{answerWords, Entry, _⇒_}
 use Rattle.ledger_sheet.specs.Sheet.{sheetSize, right}
-use Rattle.ledger_sheet.specs.Outcome.{Outcome, judged}
+use Rattle.ledger_sheet.specs.Outcome.{Outcome, refusedOr}
 use Rattle.ledger_layout.specs.Layout.{call, onSheet, freshOn}
-use Rattle.ledger_replay.specs.declared.Told.{Told}
+use Rattle.ledger_replay.specs.declared.CallAnswer.{CallAnswer}
 use Rattle.ledger_replay.specs.declared.Replayed.{Replayed}
 use Rattle.ledger_replay.specs.declared.Replayed.the-variants.{Same, Differs, Refused}
 use Rattle.ledger_replay.specs.Trace.{isTrace, entriesOf}
 
--- The paper's number and values of each case of the answer.
+-- The words of an answer.
 abbrev pub replayedWords : Replayed → List ℕ
 replayedWords Same = 0 ∷ []
 replayedWords (Differs entry number row) = 0 ∷ entry ∷ number ∷ row ∷ []
@@ -27,36 +28,35 @@ replayedWords (Refused r) = numberOf r ∷ []
 abbrev pub DifferentReplays : Type 0
 DifferentReplays = (a b : Replayed) → replayedWords a ≡ replayedWords b → a ≡ b
 
--- Of an answer's words: the refusal's number or 0, and the row, which enrol alone has.
-unfoldable pub told : List ℕ → Told
-told words = record { number = getD words 0 0; row = getD words 1 0 }
+-- What a replay compares of an answer: 0 or the refusal's number, and the row, which only enrol gives.
+unfoldable pub callAnswer : List ℕ → CallAnswer
+callAnswer words = record { number = getD words 0 0; row = getD words 1 0 }
 
-unfoldable pub sameTold : Told → Told → Bool
-sameTold x y = eqb (x .number) (y .number) && eqb (x .row) (y .row)
+unfoldable pub sameCallAnswer : CallAnswer → CallAnswer → Bool
+sameCallAnswer x y = eqb (x .number) (y .number) && eqb (x .row) (y .row)
 
--- Entry k, from 0, is the first that differs, and this was answered.
-abbrev pub differs : ℕ → Told → List ℕ
+-- The answer if entry k, counted from 0, is the first that differs: k, and what its call answered.
+abbrev pub differs : ℕ → CallAnswer → List ℕ
 differs k x = 0 ∷ k ∷ x .number ∷ x .row ∷ []
 
--- The entries from entry k on, played over the sheet s: each call is made; where it answers as written the next one is, and else the
--- sheet is left as after that call.
+-- Makes the calls from entry k on, over the sheet s. Stops behind the first call that answers otherwise than the trace says, and leaves the sheet as
+-- after that call.
 unfoldable pub replayFrom : (k : ℕ) → List Entry → List ℕ → Outcome
 replayFrom k [] s = (0 ∷ [], s)
 replayFrom k ((c ⇒ a) ∷ entries) s =
     let made = onSheet (call c) s in
-    cond (sameTold (told (made .0)) (told (answerWords a))) (replayFrom (suc k) entries (made .1)) (differs k (told (made .0)), made .1)
+    cond (sameCallAnswer (callAnswer (made .0)) (callAnswer (answerWords a))) (replayFrom (suc k) entries (made .1)) (differs k (callAnswer (made .0)), made .1)
 
--- A trace played over a sheet.
+-- The replay of a trace over a sheet.
 abbrev pub played : (t s : List ℕ) → Outcome
 played t s = replayFrom 0 (entriesOf t) s
 
--- `replay`: 20 for a slice of another length than a sheet's, then 40 for what is no trace; both leave the slice as it is. Else it is made
--- fresh, and the trace is played over it.
+-- `replay`: 20 if the slice does not have a sheet's length, then 40 if t is no trace; both leave the slice unchanged. Else it makes the slice a fresh
+-- sheet and replays the trace over it.
 unfoldable pub replayOn : (t s : List ℕ) → Outcome
 replayOn t s =
-    judged ((20 when not (eqb (length s) sheetSize)) ∷ (40 when not (isTrace t)) ∷ []) (played t (freshOn s .1)) s
+    refusedOr ((20 when not (eqb (length s) sheetSize)) ∷ (40 when not (isTrace t)) ∷ []) (played t (freshOn s .1)) s
 
--- `replay_on`: 20 for what is no right sheet, then 40 for what is no trace; both leave the slice as it is. Else the trace is played over the
--- sheet as it stands.
+-- `replay_on`: 20 if the slice is no right sheet, then 40 if t is no trace; both leave the slice unchanged. Else it replays the trace over the sheet as it is.
 unfoldable pub replayOnSheet : (t s : List ℕ) → Outcome
-replayOnSheet t s = judged ((20 when not (right s)) ∷ (40 when not (isTrace t)) ∷ []) (played t s) s
+replayOnSheet t s = refusedOr ((20 when not (right s)) ∷ (40 when not (isTrace t)) ∷ []) (played t s) s

@@ -1,5 +1,4 @@
--- Document 02, request 11: the bytes of a trace, when a list of bytes is one, and its entries as calls of the model with the answers
--- written. Assumes nothing.
+-- Document 02, request 11: the bytes of a trace, when a list of bytes is a trace, and its entries as calls of the model with their answers. Assumes nothing.
 -- The manual, docs/INTERFACE.md: "A night in a trace, played again".
 use Prim.Native.Nat.{ℕ, zero, suc, _+_, _*_}
 use mathlib.Core.Bool.{Bool, cond, _&&_, _||_}
@@ -12,7 +11,7 @@ use Rattle.ledger_replay.specs.declared.Line.{Line}
 
 -- ---- sizes and offsets
 
--- The header: three 4-byte numbers.
+-- The header is three numbers of 4 bytes: the trace's length, how many entries it has, where they begin.
 abbrev pub numberSize : ℕ
 numberSize = 4
 
@@ -28,7 +27,7 @@ startAt = 8
 abbrev pub headerSize : ℕ
 headerSize = 12
 
--- The most entries of a trace.
+-- How many entries a trace has at most.
 abbrev pub mostEntries : ℕ
 mostEntries = 4000
 
@@ -76,7 +75,7 @@ dropCall = 6
 abbrev pub strikeCall : ℕ
 strikeCall = 7
 
--- ---- what stands there
+-- ---- the values there
 
 abbrev pub headerNumber : List ℕ → ℕ → ℕ
 headerNumber t a = numberAt t a numberSize
@@ -99,9 +98,9 @@ lineAt t a =
       key = numberAt t (a + keyAt) keySize;
     }
 
--- ---- well-formed, clause by clause
+-- ---- a trace: one definition for each clause
 
--- The header: the trace's length, which its entries make; their count, not above 4,000; where they begin.
+-- The header is right: the trace's length, which fits its count of entries; that count, at most 4,000; where the entries begin.
 unfoldable pub headerRight : List ℕ → Bool
 headerRight t =
     eqb (headerNumber t lengthAt) (length t) && leb (count t) mostEntries && eqb (length t) (entryAt (count t))
@@ -111,19 +110,19 @@ headerRight t =
 unfoldable pub isCall : Line → Bool
 isCall x = leb enrolCall (x .call) && leb (x .call) strikeCall
 
--- Zero where a call has no use for the field: the desk of enrol and strike;
+-- A field that a call does not use is zero. The desk: only calls 2 to 6, open to drop, use it.
 unfoldable pub deskRight : Line → Bool
 deskRight x = eqb (x .desk) 0 || (leb openCall (x .call) && leb (x .call) dropCall)
 
--- the row of all but open, strike, and an enrolment that was accepted;
+-- The row: only open, strike and an accepted enrolment use it.
 unfoldable pub rowRight : Line → Bool
 rowRight x = eqb (x .row) 0 || eqb (x .call) openCall || eqb (x .call) strikeCall || (eqb (x .call) enrolCall && eqb (x .answer) 0)
 
--- the record number of all but enrol, tick and untick;
+-- The record number: only enrol, tick and untick use it.
 unfoldable pub numberRight : Line → Bool
 numberRight x = eqb (x .number) 0 || eqb (x .call) enrolCall || eqb (x .call) tickCall || eqb (x .call) untickCall
 
--- the key of all but enrol.
+-- The key: only enrol uses it.
 unfoldable pub keyRight : Line → Bool
 keyRight x = eqb (x .key) 0 || eqb (x .call) enrolCall
 
@@ -136,9 +135,9 @@ linesRight t = all (count t) (λ k. lineRight (lineAt t (entryAt k)))
 unfoldable pub isTrace : List ℕ → Bool
 isTrace t = leb headerSize (length t) && headerRight t && linesRight t
 
--- ---- the entries read
+-- ---- the entries of a trace
 
--- An enrolment's first number stands where other calls have the record's.
+-- The call of an entry. An enrolment has its first number in the field of the record number.
 unfoldable pub callIn : Line → Call
 callIn x =
     cond (eqb (x .call) enrolCall) (Enrol (x .key) (x .number))
@@ -148,14 +147,14 @@ callIn x =
     (cond (eqb (x .call) saveCall) (Save (x .desk))
     (cond (eqb (x .call) dropCall) (Drop (x .desk)) (Strike (x .row)))))))
 
--- A zero is an accepted call, an enrolment with the row that it answered; anything else is a refusal's number.
+-- The answer of an entry. 0 is an accepted call, for an enrolment with its row; any other number is a refusal's.
 unfoldable pub answerIn : Line → Answer
 answerIn x = cond (eqb (x .answer) 0) (cond (eqb (x .call) enrolCall) (atRow (x .row)) done) (refused (x .answer))
 
 abbrev pub entryIn : Line → Entry
 entryIn x = callIn x ⇒ answerIn x
 
--- n entries from entry k on; all of a trace.
+-- n entries from entry k on; all entries of a trace.
 unfoldable pub entriesFrom : List ℕ → (k n : ℕ) → List Entry
 entriesFrom t k zero = []
 entriesFrom t k (suc n) = entryIn (lineAt t (entryAt k)) ∷ entriesFrom t (suc k) n

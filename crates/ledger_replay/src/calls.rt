@@ -1,8 +1,8 @@
-// The call of an entry, made on a right sheet, which it leaves right; and whether it answers as is written. So the sheet is not checked again for each
-// call.
+// Makes the call of an entry on a right sheet, and compares its answer with the entry's. Each call leaves the sheet right, so the sheet is not
+// checked again for each call.
 use crate as replay;
+use crate::CallAnswer;
 use crate::Line;
-use crate::Told;
 use ledger_sheet::Answer;
 use ledger_sheet::RowAnswer;
 ghost use mathlib.Core.Path.{_≡_};
@@ -11,17 +11,17 @@ ghost use Rattle.ledger_sheet.specs.Sheet.{right};
 ghost use Rattle.ledger_sheet.specs.Words.{answerWords, rowWords};
 ghost use Rattle.ledger_layout.specs.Layout.{call, onSheet};
 ghost use Rattle.ledger_replay.specs.Trace.{callIn};
-ghost use Rattle.ledger_replay.specs.Replay.{told, sameTold};
+ghost use Rattle.ledger_replay.specs.Replay.{callAnswer, sameCallAnswer};
 ghost use Rattle.ledger_replay.specs.inner.Making.{lastIn, plainIn, made, written};
 
-pub(crate) fn make(s: &mut [u8], x: Line) -> Told
+pub(crate) fn make(s: &mut [u8], x: Line) -> CallAnswer
     requires { ⌜ right (now s) ≡ true ⌝ }
     ensures { λ r. ⌜ (r, now (s .exit)) ≡ made (callIn x) (now (s .entry)) ⌝ }
 {
     if x.call == replay::ENROL {
-        return tell_row(ledger_judged::enrol(s, true, x.key, x.number));
+        return row_answer_of(ledger_judged::enrol(s, true, x.key, x.number));
     }
-    tell(make_plain(s, x))
+    answer_of(make_plain(s, x))
 }
 
 fn make_plain(s: &mut [u8], x: Line) -> Answer
@@ -53,39 +53,39 @@ fn make_last(s: &mut [u8], x: Line) -> Answer
     ledger_judged::strike(s, true, x.row as u32)
 }
 
-fn tell(a: Answer) -> Told
-    ensures { λ r. ⌜ r ≡ told (answerWords a) ⌝ }
+fn answer_of(a: Answer) -> CallAnswer
+    ensures { λ r. ⌜ r ≡ callAnswer (answerWords a) ⌝ }
 {
     match a {
-        Answer::Done => Told { number: 0, row: 0 },
-        Answer::Refused(why) => Told {
+        Answer::Done => CallAnswer { number: 0, row: 0 },
+        Answer::Refused(why) => CallAnswer {
             number: refusals::number(why),
             row: 0,
         },
     }
 }
 
-fn tell_row(a: RowAnswer) -> Told
-    ensures { λ r. ⌜ r ≡ told (rowWords a) ⌝ }
+fn row_answer_of(a: RowAnswer) -> CallAnswer
+    ensures { λ r. ⌜ r ≡ callAnswer (rowWords a) ⌝ }
 {
     match a {
-        RowAnswer::Row(row) => Told { number: 0, row },
-        RowAnswer::Refused(why) => Told {
+        RowAnswer::Row(row) => CallAnswer { number: 0, row },
+        RowAnswer::Refused(why) => CallAnswer {
             number: refusals::number(why),
             row: 0,
         },
     }
 }
 
-pub(crate) fn is_written(x: Line, answered: Told) -> bool
-    ensures { λ r. ⌜ r ≡ sameTold answered (written x) ⌝ }
+pub(crate) fn is_written(x: Line, answered: CallAnswer) -> bool
+    ensures { λ r. ⌜ r ≡ sameCallAnswer answered (written x) ⌝ }
 {
     let same_number = answered.number == x.answer as u32;
     let same_row = answered.row == written_row(x) as u32;
     same_number & same_row
 }
 
-// The row of an enrolment that was accepted, as written; else 0.
+// The row in the entry, if it is an accepted enrolment; else 0.
 fn written_row(x: Line) -> u8
     ensures { λ r. ⌜ r ≡ written x .row ⌝ }
 {

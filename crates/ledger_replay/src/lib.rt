@@ -1,4 +1,4 @@
-// A night's calls kept in a trace, and played again over a fresh sheet (document 02, request 11), or over one as it stands.
+// Replays a night's calls from a trace, over a fresh sheet (document 02, request 11) or over a sheet as it is.
 mod calls;
 mod trace;
 
@@ -38,7 +38,7 @@ pub const KEY: usize = 8;
 
 pub const ENTRY: usize = 16;
 
-// The calls.
+// The numbers of the calls.
 pub const ENROL: u8 = 1;
 
 pub const OPEN: u8 = 2;
@@ -63,20 +63,20 @@ pub struct Line {
     pub key: u64,
 }
 
-// What a call answers: 0 or the refusal's number, and the row of an accepted enrolment, else 0.
-pub struct Told {
+// What a replay compares of an answer: 0 or the refusal's number, and the row of an accepted enrolment, else 0.
+pub struct CallAnswer {
     pub number: u32,
     pub row: u32,
 }
 
-// What a replay answers: every call as written; or the first entry that differs, counted from 0, and what its call answered.
+// The answer of a replay: every call answered as the trace says; or the first entry that differs, counted from 0, and what its call answered.
 pub enum Replayed {
     Same,
     Differs { entry: u32, number: u32, row: u32 },
     Refused(Refusal),
 }
 
-// Plays a trace again: makes the sheet fresh, and the calls in their order, up to the first that answers otherwise than is written.
+// Replays a trace: makes the sheet fresh, then the calls in order, up to the first whose answer differs from the trace's.
 pub fn replay(t: &[u8], s: &mut [u8]) -> Replayed
     ensures { λ r. ⌜ (replayedWords r, now (s .exit)) ≡ replayOn (now (t .entry)) (now (s .entry)) ⌝ }
 {
@@ -90,7 +90,7 @@ pub fn replay(t: &[u8], s: &mut [u8]) -> Replayed
     play(t, s)
 }
 
-// Plays a trace over the sheet as it stands: so the pieces of a long log are played one after the other.
+// Replays a trace over the sheet as it is. A long log is replayed in pieces with it.
 pub fn replay_on(t: &[u8], s: &mut [u8]) -> Replayed
     ensures { λ r. ⌜ (replayedWords r, now (s .exit)) ≡ replayOnSheet (now (t .entry)) (now (s .entry)) ⌝ }
 {
@@ -103,7 +103,7 @@ pub fn replay_on(t: &[u8], s: &mut [u8]) -> Replayed
     play(t, s)
 }
 
-// Makes the calls of a trace on a sheet, up to the first that answers otherwise than is written.
+// Makes the calls of a trace on a sheet, up to the first whose answer differs from the trace's.
 fn play(t: &[u8], s: &mut [u8]) -> Replayed
     requires { ⌜ (headerSize ≤ length (now t)) × (entryAt (count (now t)) ≤ length (now t)) × (count (now t) ≤ mostEntries) ⌝ }
     requires { ⌜ IsLaid (now s) ⌝ }
@@ -112,12 +112,12 @@ fn play(t: &[u8], s: &mut [u8]) -> Replayed
     let entries = trace::entry_count(t);
     for i in 0..entries {
         let x = trace::read_line(t, HEADER + ENTRY * i);
-        let told = calls::make(s, x);
-        if !calls::is_written(x, told) {
+        let answered = calls::make(s, x);
+        if !calls::is_written(x, answered) {
             return Replayed::Differs {
                 entry: i as u32,
-                number: told.number,
-                row: told.row,
+                number: answered.number,
+                row: answered.row,
             };
         }
     }

@@ -1,4 +1,4 @@
-// Whether a slice is a trace, and its entries.
+// Tests whether a slice is a trace, and reads its entries.
 use crate as replay;
 use crate::Line;
 use octets::numbers;
@@ -31,7 +31,6 @@ fn is_header(t: &[u8]) -> bool
     size & few & filled & start
 }
 
-// How many entries there are.
 pub(crate) fn entry_count(t: &[u8]) -> usize
     requires { ⌜ headerSize ≤ length (now t) ⌝ }
     ensures { λ r. ⌜ r ≡ count (now (t .entry)) ⌝ }
@@ -51,7 +50,7 @@ fn are_lines(t: &[u8]) -> bool
     right
 }
 
-// The entry at index a.
+// The entry at offset a.
 pub(crate) fn read_line(t: &[u8], a: usize) -> Line
     requires { ⌜ a + entrySize ≤ length (now t) ⌝ }
     ensures { λ r. ⌜ r ≡ lineAt (now (t .entry)) a ⌝ }

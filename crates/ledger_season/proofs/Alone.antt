@@ -1,4 +1,4 @@
--- Each sheet of an accepted season, alone. Assumes nothing.
+-- The season of one sheet of an accepted season. Assumes nothing.
 use Prim.Native.Nat.{ℕ, zero, suc, _≤_, _<_}
 use native.Mathlib.Nat.{le-of-suc-le-suc}
 use native.Mathlib.Omega.{arith}

@@ -1,5 +1,5 @@
--- The season's laws are of the function's contract: `season` asks nothing of a caller, and promises what they speak of. `a` is the arguments, r
--- the answer. Assumes nothing.
+-- The season's laws hold of the function's contract: `season` requires nothing of a caller, and promises what they use. `a` is the arguments, r the
+-- answer. Assumes nothing.
 use mathlib.Core.List.{List}
 use mathlib.Core.Path.{_≡_}
 use Prim.Native.Nat.{ℕ}

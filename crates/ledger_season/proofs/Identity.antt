@@ -1,4 +1,4 @@
--- Request 13's identity of every season whose sheets grew from fresh. Assumes nothing.
+-- Request 13's identity, for every season whose sheets were made by calls from fresh ones. Assumes nothing.
 use Prim.Native.Nat.{ℕ, zero, suc, _+_, _*_, _%_, _≤_, _<_}
 use native.Mathlib.Nat.{mul-mod-right, mul-div-right, le-of-suc-le-suc}
 use native.Mathlib.Omega.{arith}

@@ -1,4 +1,4 @@
--- What a season is judged by. Assumes nothing.
+-- The refusals of a season. Assumes nothing.
 use Prim.Native.Nat.{ℕ, _*_, _%_, _≤_, _<_}
 use native.Mathlib.Nat.{div-mul-le-self}
 use native.Mathlib.Omega.{arith}

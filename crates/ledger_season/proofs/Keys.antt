@@ -8,11 +8,12 @@ use mathlib.Core.Logic.{⊎-elim}
 use mathlib.Core.List.{List, [], _∷_, _++_, append-assoc}
 use mathlib.Core.Option.{some}
 use mathlib.Core.Path.{_≡_, refl, sym, ap, _∙_}
-use lib.Dec.{eqb, lit<}
+use lib.Dec.{eqb, ltb, leb}
 use lib.ListN.{length, getD, take, drop, set, length-set}
 use lib.Seq.{take-suc-set, getD-take, getD-set-same, getD-set-other, length-take-le}
-use borrow.Author.Tests.{eqb-true, eqb-false, eq-eqb, ne-eqb, not-true}
+use borrow.Author.Tests.{eqb-true, eqb-false, eq-eqb, ne-eqb, ltb-true, leb-true, not-true}
 use Rattle.laws.proofs.Bools.{same-bool, and-split}
+use Rattle.octets.specs.Octets.{all}
 use Rattle.octets.proofs.Laws.{all-each, all-at}
 use Rattle.ledger_model.specs.Book.{Place, free, row, Book, fresh, hasKey, placeWith}
 use Rattle.ledger_model.specs.WellFormed.{WellFormed, keyOf}
@@ -20,7 +21,7 @@ use Rattle.ledger_model.proofs.Laws.{found}
 use Rattle.ledger_sheet.specs.Sheet.{rowCount, rowAt, isUsed, keyAt}
 use Rattle.ledger_season.specs.Report.{keyInOne, anyInOne, keyInTwo}
 use Rattle.ledger_season.specs.Season.{sheetAt, booksTo}
-use Rattle.ledger_season.specs.inner.Gathered.{mostKeys, keysOf, keysOfAll, isIn, distinct, isNew, areNew, Keyed}
+use Rattle.ledger_season.specs.inner.Gathered.{mostKeys, mostSlots, keysOf, keysOfAll, isIn, distinct, isNew, areNew, Keyed}
 use Rattle.ledger_season.proofs.Rows.{places, place-used, place-free, next-place, no-place}
 use Rattle.ledger_season.proofs.Sheets.{next-book, no-book}
 
@@ -95,44 +96,60 @@ all-keyed s n keys found h = sym (append-nil (take found keys)) ∙ rw (no-book 
 
 -- ---- keys compared: a slot for each key
 
-abbrev slots : ℕ
-slots = 7699
+-- The slots of the first i keys, by the prime p, are taken.
+pub record Covers (p : ℕ) (keys : List ℕ) (taken : List Bool) (i : ℕ) : Type 0 where
+  pub long : length taken ≡ mostSlots
+  pub covered : (j : ℕ) → j < i → getD taken (getD keys j 0 % p) false ≡ true
 
--- The slots of the first i keys are taken.
-pub record Covers (keys : List ℕ) (taken : List Bool) (i : ℕ) : Type 0 where
-  pub long : length taken ≡ slots
-  pub covered : (j : ℕ) → j < i → getD taken (getD keys j 0 % slots) false ≡ true
+pub covers-none : (p : ℕ) (keys : List ℕ) (taken : List Bool) → length taken ≡ mostSlots → Covers p keys taken 0
+covers-none p keys taken l = record { long = l; covered = λ j h. absurd (omega arith) }
 
-pub covers-none : (keys : List ℕ) (taken : List Bool) → length taken ≡ slots → Covers keys taken 0
-covers-none keys taken l = record { long = l; covered = λ j h. absurd (omega arith) }
+below : (a b c : ℕ) → a < b → b ≤ c → a < c
+below a b c l m = omega arith
 
-module _ (keys : List ℕ) (taken : List Bool) (i : ℕ) (h : Covers keys taken i) where
-  pub covers-more : Covers keys (set taken (getD keys i 0 % slots) true) (i + 1)
+pub slot-inside : (p key : ℕ) → 0 < p → p ≤ mostSlots → key % p < mostSlots
+slot-inside p key s m = below (key % p) p mostSlots (mod-lt key s) m
+
+-- the primes that are tried where many keys share slots by the first
+abbrev pub others : List ℕ
+others = 7691 ∷ 7687 ∷ 7681 ∷ 7673 ∷ 7669 ∷ 7649 ∷ 7643 ∷ 7639 ∷ []
+
+others-fit : all 8 (λ j. ltb 0 (getD others j 0) && leb (getD others j 0) mostSlots) ≡ true
+unfolding all
+others-fit = refl
+
+pub prime-fits : (table : List ℕ) → table ≡ others → (j : ℕ) → j < 8 → (0 < getD table j 0) × (getD table j 0 ≤ mostSlots)
+prime-fits table e j l =
+    let fits = and-split _ _ (all-at 8 j (λ k. ltb 0 (getD others k 0) && leb (getD others k 0) mostSlots) others-fit l) in
+    rw e (ltb-true _ _ (fits .0), leb-true _ _ (fits .1))
+
+module _ (p : ℕ) (some : 0 < p) (most : p ≤ mostSlots) (keys : List ℕ) (taken : List Bool) (i : ℕ) (h : Covers p keys taken i) where
+  pub covers-more : Covers p keys (set taken (getD keys i 0 % p) true) (i + 1)
   covers-more =
       record {
-        long = length-set taken (getD keys i 0 % slots) true ∙ h .long;
-        covered = λ j l. by j l (eqb (getD keys j 0 % slots) (getD keys i 0 % slots)) refl;
+        long = length-set taken (getD keys i 0 % p) true ∙ h .long;
+        covered = λ j l. by j l (eqb (getD keys j 0 % p) (getD keys i 0 % p)) refl;
       }
     where
       slot : ℕ
-      slot = getD keys i 0 % slots
+      slot = getD keys i 0 % p
 
       inside : slot < length taken
-      inside = rw (h .long) (mod-lt (getD keys i 0) (lit< tt))
+      inside = rw (h .long) (slot-inside p (getD keys i 0) some most)
 
-      by : (j : ℕ) → j < i + 1 → (b : Bool) → eqb (getD keys j 0 % slots) slot ≡ b → getD (set taken slot true) (getD keys j 0 % slots) false ≡ true
-      by j l true e = rw (eqb-true (getD keys j 0 % slots) slot e) (getD-set-same taken slot true false inside)
+      by : (j : ℕ) → j < i + 1 → (b : Bool) → eqb (getD keys j 0 % p) slot ≡ b → getD (set taken slot true) (getD keys j 0 % p) false ≡ true
+      by j l true e = rw (eqb-true (getD keys j 0 % p) slot e) (getD-set-same taken slot true false inside)
       by j l false e =
           let before = eq-or-lt-of-le (le-of-suc-le-suc (rw add-one at l)) in
-          getD-set-other taken slot (getD keys j 0 % slots) true false (eqb-false _ _ e)
-          ∙ h .covered j (⊎-elim (λ q. absurd (eqb-false _ _ e (ap (λ k. getD keys k 0 % slots) q))) (λ q. q) before)
+          getD-set-other taken slot (getD keys j 0 % p) true false (eqb-false _ _ e)
+          ∙ h .covered j (⊎-elim (λ q. absurd (eqb-false _ _ e (ap (λ k. getD keys k 0 % p) q))) (λ q. q) before)
 
   -- a key whose slot is free is new
-  pub slot-free : getD taken (getD keys i 0 % slots) false ≡ false → isNew keys i (getD keys i 0) ≡ true
+  pub slot-free : getD taken (getD keys i 0 % p) false ≡ false → isNew keys i (getD keys i 0) ≡ true
   unfolding isNew
   slot-free f =
       all-each i _ (λ j l.
-      rw (ne-eqb _ _ (λ e. true≢false (sym (h .covered j l) ∙ ap (λ k. getD taken (k % slots) false) e ∙ f))))
+      rw (ne-eqb _ _ (λ e. true≢false (sym (h .covered j l) ∙ ap (λ k. getD taken (k % p) false) e ∙ f))))
 
 -- ---- keys that are all new are different
 

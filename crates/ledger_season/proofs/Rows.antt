@@ -1,4 +1,4 @@
--- What is counted of a row, and of a sheet row by row. Assumes nothing.
+-- The counts of a row, and of a sheet row by row. Assumes nothing.
 use Prim.Native.Nat.{ℕ, _+_, _*_, _≤_, _<_}
 use native.Mathlib.Numerals.{add-one}
 use native.Mathlib.Omega.{arith}

@@ -1,4 +1,4 @@
--- The sheets of a season, one after another, and what is counted of them. Assumes nothing.
+-- The sheets of a season, one after another, and their counts. Assumes nothing.
 use Prim.Native.Nat.{ℕ, zero, suc, _+_, _-_, _*_, _≤_, _<_}
 use native.Mathlib.Nat.{le-refl}
 use native.Mathlib.Numerals.{add-one}

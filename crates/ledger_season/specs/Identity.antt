@@ -1,4 +1,4 @@
--- Request 13's identity, on the bytes of sheets and on what the calls' contracts promise. Assumes nothing.
+-- Request 13's identity for the bytes of sheets. It uses only what the calls' contracts promise. Assumes nothing.
 -- The manual, docs/INTERFACE.md: "The season's report".
 use Prim.Native.Nat.{ℕ, _+_, _≤_}
 use mathlib.Core.Bool.{false}
@@ -14,30 +14,30 @@ use Rattle.ledger_season.specs.Report.{mostSheets, keyInTwo}
 use Rattle.ledger_season.specs.Season.{season, Answers}
 use Rattle.ledger_season.specs.declared.SeasonReport.{SeasonReport}
 
--- Sheets and how each came to be: a list of calls with its log, made one after the other on the sheet that `fresh` made.
+-- Sheets, and how each was made: by calls with this log, one after the other, on a sheet that `fresh` made.
 pub data Grown : (logs : List (List Entry)) (sheets : List (List ℕ)) → Type 0 where
   no-sheet : Grown [] []
   and-sheet : (s : List ℕ) {start last : List ℕ} {log : List Entry} {logs : List (List Entry)} {sheets : List (List ℕ)}
       → MadeFresh s start → Chain Promised start log last → Grown logs sheets → Grown (log ∷ logs) (last ∷ sheets)
 
--- The sheets in one slice.
+-- The sheets one after another in one slice.
 unfoldable pub laidInOne : List (List ℕ) → List ℕ
 laidInOne [] = []
 laidInOne (sheet ∷ sheets) = sheet ++ laidInOne sheets
 
--- A count over all logs.
+-- The sum of a count over all logs.
 unfoldable pub overLogs : (List Entry → ℕ) → List (List Entry) → ℕ
 overLogs count [] = 0
 overLogs count (log ∷ logs) = count log + overLogs count logs
 
--- What holds of the answer r to such a season.
+-- What holds of the season's answer r for these sheets.
 pub record Identity (logs : List (List Entry)) (sheets : List (List ℕ)) (r : SeasonReport) : Type 0 where
-  -- It is accepted where there are not too many sheets and no key stands in two of them: none is refused as not right.
+  -- The season is accepted if there are at most 16 sheets and no key is in two of them. No sheet is refused as not right.
   pub accepted : length sheets ≤ mostSheets → keyInTwo (map bookAfter logs) ≡ false → r .answer ≡ A.Done
-  -- What is ticked in all is the ticks less the unticks, of accepted calls in saved transactions on rows not struck later.
+  -- The ticked positions in all are the ticks less the unticks. Only accepted marks of saved transactions count, on rows that are not struck later.
   pub balanced : r .answer ≡ A.Done → r .total .ticked + overLogs savedUnticks logs ≡ overLogs savedTicks logs
 
--- That holds of every answer that `season` may give to the sheets in one slice.
+-- This holds of every answer that `season` may give for the sheets in one slice.
 abbrev pub EveryGrown : Type 0
 EveryGrown =
     (logs : List (List Entry)) (sheets : List (List ℕ)) → Grown logs sheets → (r : SeasonReport) → Answers (season (laidInOne sheets)) r

@@ -1,4 +1,4 @@
--- What the contracts of `ledger_season` cite, and what is to be known of the season's report.
+-- The definitions that contracts of `ledger_season` cite, and what holds of the season's report.
 pub mod Report
 pub mod Season
 pub mod Laws

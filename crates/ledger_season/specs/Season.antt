@@ -1,4 +1,4 @@
--- The season's report on the bytes of its sheets (document 02, request 13). Assumes nothing.
+-- The season's report for the bytes of its sheets (document 02, request 13). Assumes nothing.
 -- The manual, docs/INTERFACE.md: "The season's report".
 use Prim.Native.Nat.{ℕ, _*_, _/_, _%_}
 use mathlib.Core.Bool.{Bool, not, _||_}
@@ -36,7 +36,7 @@ booksTo s n = table n (λ k. bookOf (sheetAt s k))
 abbrev pub books : List ℕ → List Book
 books s = booksTo s (sheetCount s)
 
--- ---- what a season is refused for, in the request's order
+-- ---- the refusals of a season, in the request's order
 
 unfoldable pub rightTo : List ℕ → ℕ → Bool
 rightTo s n = all n (λ k. right (sheetAt s k))
@@ -48,11 +48,11 @@ seasonRules s =
     ∷ (41 when keyInTwo (books s))
     ∷ []
 
--- The words of the answer: 0 and the report; or the refusal's number, with the report on no sheet, which is zeros and no gap, behind it.
+-- The words of the answer: 0 and the report; or the refusal's number and a report on no sheet, which is zeros and no gap.
 unfoldable pub season : List ℕ → List ℕ
 season s = judge (λ number. number ∷ report []) (seasonRules s) (0 ∷ report (books s))
 
--- ---- the words of the answer's cases
+-- ---- the words of each case of the answer
 
 abbrev pub answerNumber : Answer → ℕ
 answerNumber A.Done = 0
@@ -65,7 +65,7 @@ unfoldable pub sheetsWords : List SheetCounts → List ℕ
 sheetsWords [] = []
 sheetsWords (c ∷ cs) = countsWords c ++ sheetsWords cs
 
--- The gap, else what is found further on; in the answer nothing is further on, and a none adds no number.
+-- The words of the gap; if there is none, `further`. An answer has no gap further on, so no gap adds no word.
 abbrev pub orFurther : SeasonGap → List ℕ → List ℕ
 orFurther G.Nothing further = further
 orFurther (G.Gap sheet row number) further = sheet ∷ row ∷ number ∷ []
@@ -73,7 +73,7 @@ orFurther (G.Gap sheet row number) further = sheet ∷ row ∷ number ∷ []
 abbrev pub reportWords : SeasonReport → List ℕ
 reportWords r = answerNumber (r .answer) ∷ r .count ∷ sheetsWords (r .sheets) ++ countsWords (r .total) ++ orFurther (r .gap) []
 
--- The answer r has these words, and 16 sheets, as its type says.
+-- The answer r has these words, and 16 entries for sheets, as its type says.
 abbrev pub Answers : List ℕ → SeasonReport → Type 0
 Answers words r = _≡_ {A = ℕ × List ℕ} (length (r .sheets), reportWords r) (mostSheets, words)
 

@@ -1,5 +1,5 @@
-// The season's gap report (document 02, request 13): up to 16 ledger sheets laid one after another in a lent slice; of each sheet and in all how
-// much is ticked, missing, and missing per million; and the first gap of all.
+// The season's gap report (document 02, request 13). A lent slice holds up to 16 ledger sheets, one after another. The report gives, for each sheet
+// and in all, how many positions are ticked, missing, and missing per million; and the first gap.
 use ledger_sheet as sheet;
 use ledger_sheet::Answer;
 use ledger_sheet::ReportAnswer;
@@ -17,32 +17,38 @@ ghost use Rattle.ledger_sheet.specs.Words.{answerWords};
 ghost use Rattle.ledger_layout.specs.Layout.{bookOf, placeIn};
 ghost use Rattle.ledger_season.specs.Report.{mostSheets, perMillion, three, gapIn, report};
 ghost use Rattle.ledger_season.specs.Season.{countsWords, orFurther, rightTo, booksTo, seasonRules, season, Answers};
-ghost use Rattle.ledger_season.specs.inner.Gathered.{mostKeys, distinct, isNew, areNew, keysOfAll, Keyed, orElse, Counts, Adds};
+ghost use Rattle.ledger_season.specs.inner.Gathered.{mostKeys, mostSlots, distinct, isNew, areNew, keysOfAll, Keyed, orElse, Counts, Adds};
 
 pub const MOST_SHEETS: usize = 16;
 
-// As many keys as stand in the sheets of a season.
+// How many keys the sheets of a season have at most.
 const MOST_KEYS: usize = MOST_SHEETS * sheet::ROWS;
 
-// A prime, many times the number of keys, by which keys that differ in a few of their fields seldom share a slot.
+// A prime, many times the number of keys. Keys that differ in a few fields seldom share a slot.
 const SLOTS: usize = 7699;
+
+// Other primes, for keys that share slots modulo the first one.
+const PRIMES: [u64; 8] = [7691, 7687, 7681, 7673, 7669, 7649, 7643, 7639];
+
+// If at most this many keys fall into a slot that another key has, few share one. Of random keys, some 17 do.
+const FEW: usize = 24;
 
 const MILLION: u64 = 1000000;
 
-// Of a sheet, or in all: ticked positions, missing ones, and these per million of both together.
+// The counts of a sheet, or in all: ticked positions, missing positions, and missing per million of both together.
 pub struct SheetCounts {
     pub ticked: u32,
     pub missing: u32,
     pub per_million: u32,
 }
 
-// The first gap of all: the sheet, the row in it, and the missing number.
+// The first gap of the season: the sheet, its row, and the missing number.
 pub enum SeasonGap {
     Nothing,
     Gap { sheet: u32, row: u32, number: u32 },
 }
 
-// What a season answers: how many sheets there are; what is counted in each, zeros past the last, and in all; the first gap. A refused one has no sheet.
+// The answer of a season: how many sheets; the counts of each, zeros past the last; the counts in all; the first gap. A refused season has no sheet.
 pub struct SeasonReport {
     pub answer: Answer,
     pub count: u32,
@@ -57,14 +63,14 @@ enum RowGap {
     Gap { number: u32, row: u32 },
 }
 
-// What is counted in the rows of a sheet.
+// The counts of a sheet's rows.
 struct Counted {
     ticked: u32,
     missing: u32,
     gap: RowGap,
 }
 
-// Reports on the season whose sheets are laid one after another.
+// Reports on the season whose sheets stand one after another in the slice.
 pub fn season(s: &[u8]) -> SeasonReport
     ensures { λ r. ⌜ Answers (season (now (s .entry))) r ⌝ }
 {
@@ -75,7 +81,7 @@ pub fn season(s: &[u8]) -> SeasonReport
     count_season(s, s.len() / sheet::SHEET)
 }
 
-// ---- what a season is refused for
+// ---- the refusals of a season
 
 fn season_verdict(s: &[u8]) -> Answer
     ensures { λ r. ⌜ answerWords r ≡ verdict (seasonRules (now (s .entry))) ∷ [] ⌝ }
@@ -108,7 +114,7 @@ fn are_sheets(s: &[u8], n: usize) -> bool
     true
 }
 
-// Whether no key stands twice in n sheets.
+// Whether no key is twice in n sheets.
 fn are_keys_new(s: &[u8], n: usize) -> bool
     requires { ⌜ (n ≤ mostSheets) × (sheetSize * n ≤ length (now s)) ⌝ }
     ensures { λ r. ⌜ r ≡ distinct (keysOfAll (booksTo (now (s .entry)) n)) ⌝ }
@@ -123,7 +129,7 @@ fn are_keys_new(s: &[u8], n: usize) -> bool
     are_new(&keys, found)
 }
 
-// Puts the keys of a sheet's used rows behind those found before; answers how many there are now.
+// Puts the keys of a sheet's used rows behind those found before. Gives how many there are now.
 fn read_keys(s: &[u8], keys: &mut [u64; MOST_KEYS], found: usize) -> usize
     requires { ⌜ (length (now s) ≡ sheetSize) × (length (now keys) ≡ mostKeys) × (found + rowCount ≤ mostKeys) ⌝ }
     ensures { λ r. ⌜ Keyed (now (keys .entry)) found (bookOf (now (s .entry)) .places) (now (keys .exit)) r ⌝ }
@@ -138,15 +144,58 @@ fn read_keys(s: &[u8], keys: &mut [u64; MOST_KEYS], found: usize) -> usize
     count
 }
 
-// Whether the first n keys are different. A key in a slot that no key was in before is new; any other is compared with each before it.
+// Whether the first n keys are different.
 fn are_new(keys: &[u64; MOST_KEYS], n: usize) -> bool
     requires { ⌜ n ≤ mostKeys ⌝ }
+    ensures { λ r. ⌜ r ≡ areNew (now (keys .entry)) n ⌝ }
+{
+    if few_share(keys, n, SLOTS as u64) {
+        return are_new_in(keys, n, SLOTS as u64);
+    }
+    are_new_in(keys, n, other_slots(keys, n))
+}
+
+// The first of the primes for which few of the first n keys share a slot. Somebody could pick keys that all share a slot modulo the first prime, but
+// hardly keys that do so modulo each.
+fn other_slots(keys: &[u64; MOST_KEYS], n: usize) -> u64
+    requires { ⌜ n ≤ mostKeys ⌝ }
+    ensures { λ r. ⌜ (0 < r) × (r ≤ mostSlots) ⌝ }
+{
+    let primes = PRIMES;
+    for i in 0..primes.len() {
+        let slots = primes[i];
+        if few_share(keys, n, slots) {
+            return slots;
+        }
+    }
+    SLOTS as u64
+}
+
+// Whether few of the first n keys fall into a slot that an earlier key has.
+fn few_share(keys: &[u64; MOST_KEYS], n: usize, slots: u64) -> bool
+    requires { ⌜ (n ≤ mostKeys) × (0 < slots) × (slots ≤ mostSlots) ⌝ }
+{
+    let mut taken = [false; SLOTS];
+    let mut shared = 0;
+    for i in 0..n {
+        let slot = (keys[i] % slots) as usize;
+        if taken[slot] {
+            shared += 1;
+        }
+        taken[slot] = true;
+    }
+    shared <= FEW
+}
+
+// Whether the first n keys are all different. A key in a slot that no key had before is new; any other is compared with each before it.
+fn are_new_in(keys: &[u64; MOST_KEYS], n: usize, slots: u64) -> bool
+    requires { ⌜ (n ≤ mostKeys) × (0 < slots) × (slots ≤ mostSlots) ⌝ }
     ensures { λ r. ⌜ r ≡ areNew (now (keys .entry)) n ⌝ }
 {
     let mut taken = [false; SLOTS];
     for i in 0..n {
         let key = keys[i];
-        let slot = (key % SLOTS as u64) as usize;
+        let slot = (key % slots) as usize;
         if taken[slot] {
             if !is_new(keys, i, key) {
                 return false;
@@ -157,7 +206,7 @@ fn are_new(keys: &[u64; MOST_KEYS], n: usize) -> bool
     true
 }
 
-// Whether none of the first n keys is the key given.
+// Whether the key is none of the first n.
 fn is_new(keys: &[u64; MOST_KEYS], n: usize, key: u64) -> bool
     requires { ⌜ n ≤ mostKeys ⌝ }
     ensures { λ r. ⌜ r ≡ isNew (now (keys .entry)) n key ⌝ }
@@ -169,9 +218,9 @@ fn is_new(keys: &[u64; MOST_KEYS], n: usize, key: u64) -> bool
     new
 }
 
-// ---- what is counted
+// ---- the counts
 
-// No sheet, and why.
+// The answer of a refused season.
 fn refused(why: Refusal) -> SeasonReport
     ensures { λ r. ⌜ Answers (numberOf why ∷ report []) r ⌝ }
 {
@@ -239,7 +288,7 @@ fn count_sheet(s: &[u8]) -> Counted
     sum
 }
 
-// Counts one row more, and nothing where it is free.
+// Adds the counts of one more row; a free row adds nothing.
 fn add_row(s: &[u8], row: usize, sum: Counted) -> Counted
     requires { ⌜ (length (now s) ≡ sheetSize) × (row < rowCount) × (sum .ticked ≤ rowLength * row) × (sum .missing ≤ rowLength * row) ⌝ }
     ensures { λ r. ⌜ Adds (placeIn (now (s .entry)) row) row sum r ⌝ }
@@ -268,7 +317,7 @@ fn add_row(s: &[u8], row: usize, sum: Counted) -> Counted
     }
 }
 
-// The gap found before, else this one.
+// The gap found before; if there is none, this one.
 fn first_in(gap: RowGap, number: u32, row: u32) -> RowGap
     ensures { λ r. ⌜ ((further : List ℕ) → orElse r further ≡ orElse gap (number ∷ row ∷ [])) ⌝ }
 {
@@ -278,7 +327,7 @@ fn first_in(gap: RowGap, number: u32, row: u32) -> RowGap
     }
 }
 
-// The gap found before, else that of this sheet.
+// The gap found before; if there is none, this sheet's.
 fn first_of(gap: SeasonGap, sheet: u32, found: RowGap) -> SeasonGap
     ensures { λ r. ⌜ ((further : List ℕ) → orFurther r further ≡ orFurther gap (gapIn sheet (orElse found []) further)) ⌝ }
 {
@@ -288,7 +337,7 @@ fn first_of(gap: SeasonGap, sheet: u32, found: RowGap) -> SeasonGap
     }
 }
 
-// The gap of a sheet, as one of the season.
+// The gap of a sheet as a gap of the season.
 fn in_sheet(sheet: u32, found: RowGap) -> SeasonGap
     ensures { λ r. ⌜ ((further : List ℕ) → orFurther r further ≡ gapIn sheet (orElse found []) further) ⌝ }
 {
@@ -298,7 +347,7 @@ fn in_sheet(sheet: u32, found: RowGap) -> SeasonGap
     }
 }
 
-// The counts with their rate.
+// The counts with the missing per million.
 fn with_rate(ticked: u32, missing: u32) -> SheetCounts
     ensures { λ r. ⌜ countsWords r ≡ three ticked missing ⌝ }
 {
@@ -309,7 +358,7 @@ fn with_rate(ticked: u32, missing: u32) -> SheetCounts
     }
 }
 
-// Missing per million of both together, rounded down; 0 where both are 0.
+// How many are missing per million of both together, rounded down; 0 if both are 0.
 fn per_million(ticked: u32, missing: u32) -> u32
     ensures { λ r. ⌜ r ≡ perMillion ticked missing ⌝ }
 {

@@ -1,4 +1,4 @@
--- The clauses of `right`: of a desk whose first byte is known, and what a right sheet tells. Assumes nothing.
+-- The clauses of `right`: for a desk whose first byte is known, and what follows from a right sheet. Assumes nothing.
 use Prim.Native.Nat.{ℕ, zero, suc, _+_, _-_, _≤_, _<_}
 use native.Mathlib.Nat.{eq-or-lt-of-le}
 use native.Mathlib.Numerals.{add-one}
@@ -22,7 +22,7 @@ use Rattle.ledger_sheet.proofs.Desks.{closed-is, open-is, UpTo, longer,
 
 -- ---- desks
 
--- a desk names a used row, and its copies carry that row's word, key and first number
+-- a desk names a used row, and its copies carry that row's flag, key and first number
 abbrev names : List ℕ → ℕ → Bool
 names s d = isRow s (deskRow s d) && carries s (deskAt d + openedAt) (deskRow s d) && carries s (deskAt d + workedAt) (deskRow s d)
 
@@ -36,18 +36,18 @@ module _ (s : List ℕ) (d : ℕ) where
   open-desk n = open-is s (deskAt d) deskSize (names s d) n
 
 -- the rows and the first desks, of which the closed ones are to be zero
-abbrev pub Judged : List ℕ → (before : Bool) (z d : ℕ) → Type 0
-Judged s before z d = UpTo s desksStart deskSize (rowsRight s) (deskRight s) before z d
+abbrev pub DesksUpTo : List ℕ → (before : Bool) (z d : ℕ) → Type 0
+DesksUpTo s before z d = UpTo s desksStart deskSize (rowsRight s) (deskRight s) before z d
 
-pub none-judged : (s : List ℕ) (before : Bool) (z : ℕ) → Zeros s before z → Judged s before z 0
+pub none-judged : (s : List ℕ) (before : Bool) (z : ℕ) → Zeros s before z → DesksUpTo s before z 0
 unfolding all
 none-judged s before z h = h .says ∙ sym (and-true _)
 
-module _ (s : List ℕ) (before : Bool) (z d : ℕ) (h : Judged s before z d) (l : z ≤ deskAt d) where
-  pub closed-judged : deskByte s d ≡ 0 → Judged s before z (d + 1)
+module _ (s : List ℕ) (before : Bool) (z d : ℕ) (h : DesksUpTo s before z d) (l : z ≤ deskAt d) where
+  pub closed-judged : deskByte s d ≡ 0 → DesksUpTo s before z (d + 1)
   closed-judged e = longer s desksStart deskSize (rowsRight s) (deskRight s) before z d h l (closed-desk s d e)
 
-  pub open-judged : Judged s (before && zeroAt s z (deskAt d - z) && deskRight s d) (deskAt d + deskSize) (d + 1)
+  pub open-judged : DesksUpTo s (before && zeroAt s z (deskAt d - z) && deskRight s d) (deskAt d + deskSize) (d + 1)
   open-judged = ended s desksStart deskSize (rowsRight s) (deskRight s) before z d h l
 
 -- ---- counts
@@ -106,7 +106,7 @@ right-parts s h =
       desks = h4 .1;
     }
 
--- a row that there is: its number, and its word
+-- a row that there is: its number, and its flag
 pub row-parts : (s : List ℕ) (i : ℕ) → isRow s i ≡ true → (i < rowCount) × (isUsed s i ≡ true)
 row-parts s i h = let p = and-split (ltb i rowCount) (isUsed s i) h in (ltb-true i rowCount (p .0), p .1)
 

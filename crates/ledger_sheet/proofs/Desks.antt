@@ -1,4 +1,4 @@
--- What the layouts of a sheet share, over their sizes: the clauses of a desk, and the range of zeros that closed desks make longer.
+-- What both layouts of a sheet share, for any sizes: the clauses of a desk, and the range of zeros that closed desks make longer.
 -- Assumes nothing.
 use Prim.Native.Nat.{ℕ, _+_, _*_, _-_, _≤_}
 use native.Mathlib.Nat.{mul-add, mul-one}

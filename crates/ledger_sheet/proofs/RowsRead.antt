@@ -1,4 +1,4 @@
--- What is gathered of the first rows while they are judged. Assumes nothing.
+-- What the tests have found out about the first rows. Assumes nothing.
 use Prim.Native.Nat.{ℕ, zero, suc, _+_, _*_, _-_, _≤_, _<_, _%_}
 use native.Mathlib.Nat.{add-zero, mod-lt, eq-or-lt-of-le}
 use native.Mathlib.Omega.{arith}
@@ -14,7 +14,7 @@ use Rattle.octets.specs.Octets.{all, numberAt, zeroAt}
 use Rattle.octets.proofs.Laws.{all-none, all-next, all-both, all-each, zero-join}
 use Rattle.keys.specs.Key.{validKey}
 use Rattle.keys.specs.Numbers.{isNumber}
-use Rattle.ledger_sheet.specs.Sheet.{usedWordSize, rowSize, rowCount, rowAt, desksStart, used, isUsed, keyAt}
+use Rattle.ledger_sheet.specs.Sheet.{usedFlagSize, rowSize, rowCount, rowAt, desksStart, used, isUsed, keyAt}
 use Rattle.ledger_sheet.specs.Sheet.{firstNumberAt, count, countRight, isNew, validKeys, differentKeys, firstNumbers, freeZero}
 use Rattle.ledger_sheet.specs.inner.Judging.{rowsRight, Zeros, Marked, markCount}
 use Rattle.ledger_sheet.proofs.Clauses.{count-none, count-next}
@@ -145,9 +145,9 @@ used-not-zero s k u = by (zeroAt s (rowAt k) rowSize) refl
     by : (b : Bool) → zeroAt s (rowAt k) rowSize ≡ b → b ≡ false
     by false z = refl
     by true z =
-        let one = eqb-true (numberAt s (rowAt k) usedWordSize) 1 u in
-        let word = zero-within s (rowAt k) rowSize (rowAt k) usedWordSize z (omega arith) (omega arith) in
-        let none = eqb-true (numberAt s (rowAt k) usedWordSize) 0 (zero-number s (rowAt k) usedWordSize ∙ word) in
+        let one = eqb-true (numberAt s (rowAt k) usedFlagSize) 1 u in
+        let flag = zero-within s (rowAt k) rowSize (rowAt k) usedFlagSize z (omega arith) (omega arith) in
+        let none = eqb-true (numberAt s (rowAt k) usedFlagSize) 0 (zero-number s (rowAt k) usedFlagSize ∙ flag) in
         absurd (omega arith)
 
 count-grows : (i n : ℕ) (p : ℕ → Bool) → count i p ≤ count (i + n) p

@@ -1,4 +1,4 @@
--- What the contracts of `ledger_sheet` cite, and the words of the ledger's answers.
+-- The definitions that contracts of `ledger_sheet` cite, and the words of the ledger's answers.
 pub mod Sheet
 pub mod Words
 pub mod Outcome

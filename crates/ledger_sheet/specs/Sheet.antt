@@ -1,5 +1,5 @@
--- Document 01, "The ledger sheet", as document 02, request 10, has it: where its parts stand, and when a list of bytes is a right
--- sheet. Every size and offset has its name here, once. Assumes nothing.
+-- Document 01, "The ledger sheet", as changed by document 02, request 10: the sizes and offsets of a sheet, and when a list of bytes is a right
+-- sheet. Assumes nothing.
 -- The manual, docs/INTERFACE.md: "The sheet".
 use Prim.Native.Nat.{ℕ, zero, suc, _+_, _*_}
 use mathlib.Core.Bool.{Bool, cond, not, _&&_, _||_}
@@ -12,16 +12,16 @@ use Rattle.octets.specs.Octets.{numberAt, all, zeroAt, sameAt}
 
 -- ---- sizes and offsets
 
--- A row of 144 bytes: a word that is 1 where the row is used and 0 where it is free (4), key (8), first number (4), ticks (128). There are
--- 32, and the first stands at 24.
-abbrev pub usedWordSize : ℕ
-usedWordSize = 4
+-- A row is 144 bytes: the used flag (4), which is 1 in a used row and 0 in a free one; key (8); first number (4); ticks (128). There are 32 rows, the
+-- first at offset 24.
+abbrev pub usedFlagSize : ℕ
+usedFlagSize = 4
 
-abbrev pub usedWord : ℕ
-usedWord = 1
+abbrev pub usedFlag : ℕ
+usedFlag = 1
 
 abbrev pub keyStart : ℕ
-keyStart = usedWordSize
+keyStart = usedFlagSize
 
 abbrev pub keySize : ℕ
 keySize = 8
@@ -47,12 +47,12 @@ rowCount = 32
 abbrev pub rowsStart : ℕ
 rowsStart = 24
 
--- A tick byte has eight positions.
+-- A byte of ticks holds eight positions.
 abbrev pub byteBits : ℕ
 byteBits = 8
 
--- A desk of 292 bytes: whether it is open, its row, two zeros, and two copies of the row, as opened and as worked on. There are eight, and
--- they stand behind the rows, from 4,632.
+-- A desk is 292 bytes: 1 if it is open, its row, two zeros, and two copies of the row: as opened, and as worked on. There are eight desks, from
+-- offset 4,632, behind the rows.
 abbrev pub deskRowAt : ℕ
 deskRowAt = 1
 
@@ -81,8 +81,8 @@ desksStart = rowsStart + rowSize * rowCount
 abbrev pub sheetSize : ℕ
 sheetSize = desksStart + deskSize * deskCount
 
--- The header, six numbers of 4 bytes: the sheet's length, how many rows are used, how many there can be, where they begin, and how many
--- desks there are and where those begin.
+-- The header is six numbers of 4 bytes: the sheet's length, how many rows are used, how many rows there are, where they begin, how many desks there
+-- are, where they begin.
 abbrev pub headerNumberSize : ℕ
 headerNumberSize = 4
 
@@ -104,39 +104,39 @@ deskCountAt = 16
 abbrev pub desksStartAt : ℕ
 desksStartAt = 20
 
--- ---- what stands there
+-- ---- the values there
 
--- The offset of row i, and of desk d, both from 0.
+-- The offsets of row i and desk d. Both count from 0.
 abbrev pub rowAt : ℕ → ℕ
 rowAt i = rowsStart + rowSize * i
 
 abbrev pub deskAt : ℕ → ℕ
 deskAt d = desksStart + deskSize * d
 
--- A number of the header.
+-- The number at this offset of the header.
 abbrev pub headerNumber : List ℕ → ℕ → ℕ
 headerNumber s at = numberAt s at headerNumberSize
 
--- How many rows are used.
+-- How many rows are used, as the header says.
 abbrev pub used : List ℕ → ℕ
 used s = headerNumber s usedAt
 
--- Row i is used where its word is 1.
+-- Whether row i is used: its used flag is 1.
 abbrev pub isUsed : List ℕ → ℕ → Bool
-isUsed s i = eqb (numberAt s (rowAt i) usedWordSize) usedWord
+isUsed s i = eqb (numberAt s (rowAt i) usedFlagSize) usedFlag
 
--- Whether there is a row with this number: to every call a free one is none.
+-- Whether there is a row with this number. To every call, a free row is no row.
 abbrev pub isRow : List ℕ → ℕ → Bool
 isRow s i = ltb i rowCount && isUsed s i
 
--- The key and the first number of the row, or of the copy of one, at offset a.
+-- The key and the first number of the row, or the copy of a row, at offset a.
 abbrev pub keyAt : List ℕ → ℕ → ℕ
 keyAt s a = numberAt s (a + keyStart) keySize
 
 abbrev pub firstNumberAt : List ℕ → ℕ → ℕ
 firstNumberAt s a = numberAt s (a + firstAt) firstSize
 
--- The first byte of desk d, and the row that it names.
+-- The first byte of desk d, and the row that the desk names.
 abbrev pub deskByte : List ℕ → ℕ → ℕ
 deskByte s d = getD s (deskAt d) 0
 
@@ -147,20 +147,20 @@ deskRow s d = getD s (deskAt d + deskRowAt) 0
 abbrev pub isClosed : List ℕ → ℕ → Bool
 isClosed s d = eqb (deskByte s d) 0
 
--- ---- when a sheet is right, a definition for each clause
+-- ---- a right sheet: one definition for each clause
 
--- The header's fixed numbers.
+-- The header's fixed numbers are right.
 unfoldable pub headerRight : List ℕ → Bool
 headerRight s =
     eqb (headerNumber s lengthAt) sheetSize && eqb (headerNumber s rowCountAt) rowCount && eqb (headerNumber s rowsStartAt) rowsStart
     && eqb (headerNumber s deskCountAt) deskCount && eqb (headerNumber s desksStartAt) desksStart
 
--- How many numbers below n have p.
+-- How many numbers below n satisfy p.
 unfoldable pub count : ℕ → (ℕ → Bool) → ℕ
 count zero p = 0
 count (suc n) p = count n p + cond (p n) 1 0
 
--- The header's count is that of the used rows, wherever they stand.
+-- The header's count is the number of used rows, at whatever places they are.
 unfoldable pub countRight : List ℕ → Bool
 countRight s = eqb (count rowCount (isUsed s)) (used s)
 
@@ -168,7 +168,7 @@ countRight s = eqb (count rowCount (isUsed s)) (used s)
 unfoldable pub validKeys : List ℕ → Bool
 validKeys s = all rowCount (λ i. not (isUsed s i) || validKey (keyAt s (rowAt i)))
 
--- No used row among the first n has this key.
+-- None of the first n rows is used and has this key.
 unfoldable pub isNew : List ℕ → (n key : ℕ) → Bool
 isNew s n key = all n (λ j. not (isUsed s j) || not (eqb (keyAt s (rowAt j)) key))
 
@@ -176,23 +176,23 @@ isNew s n key = all n (λ j. not (isUsed s j) || not (eqb (keyAt s (rowAt j)) ke
 unfoldable pub differentKeys : List ℕ → Bool
 differentKeys s = all rowCount (λ i. not (isUsed s i) || isNew s i (keyAt s (rowAt i)))
 
--- Request 03: a used row's first number is one that records of its stream have. The copies at desks carry it.
+-- Request 03: the first number of a used row is one that records of its stream can have. The copies at desks have the same first number.
 unfoldable pub firstNumbers : List ℕ → Bool
 firstNumbers s = all rowCount (λ i. not (isUsed s i) || isNumber (keyAt s (rowAt i)) (firstNumberAt s (rowAt i)))
 
--- A row whose word is not 1 is zeros, its word too, so that a word is 1 or 0.
+-- A row whose used flag is not 1 is all zeros. So a used flag is 1 or 0.
 unfoldable pub freeZero : List ℕ → Bool
 freeZero s = all rowCount (λ i. isUsed s i || zeroAt s (rowAt i) rowSize)
 
--- A closed desk is zeros.
+-- A closed desk is all zeros.
 unfoldable pub closedZero : List ℕ → ℕ → Bool
 closedZero s d = not (isClosed s d) || zeroAt s (deskAt d) deskSize
 
--- A desk begins with 0 or 1, and its two zeros are so.
+-- A desk begins with 0 or 1, and its two zeros are zero.
 unfoldable pub deskMarked : List ℕ → ℕ → Bool
 deskMarked s d = leb (deskByte s d) 1 && zeroAt s (deskAt d + deskZerosAt) deskZerosSize
 
--- The row of an open desk is used, and its word, key and first number stand in both copies.
+-- The row of an open desk is used, and both copies have its used flag, key and first number.
 abbrev pub carries : List ℕ → (copy row : ℕ) → Bool
 carries s copy row = sameAt s (rowAt row) s copy ticksAt
 

@@ -1,5 +1,4 @@
--- The paper's number and values of each case of an answer: 0 and the values, or the refusal's number. A none adds no number.
--- Assumes nothing.
+-- The words of each answer: 0 and the values, or the refusal's number. A value that is not there adds no word. Assumes nothing.
 use mathlib.Core.Path.{_≡_}
 use Prim.Native.Nat.{ℕ}
 use mathlib.Core.Bool.{cond}
@@ -62,7 +61,7 @@ streamWords (S.Refused r) = numberOf r ∷ []
 abbrev pub DifferentStreams : Type 0
 DifferentStreams = (a b : StreamAnswer) → streamWords a ≡ streamWords b → a ≡ b
 
--- Stale is 1, and not stale 0.
+-- 1 if a save would be stale, else 0.
 abbrev pub deskWords : DeskAnswer → List ℕ
 deskWords D.Closed = 0 ∷ []
 deskWords (D.Working row stale) = 0 ∷ row ∷ cond stale 1 0 ∷ []

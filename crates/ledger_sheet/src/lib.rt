@@ -1,5 +1,5 @@
-// The bytes of the ledger sheet (document 01, "The ledger sheet"; document 02, request 10): whether a slice is a right sheet. Every size and offset has its
-// name here, once.
+// The bytes of the ledger sheet (document 01, "The ledger sheet"; document 02, request 10): its sizes and offsets, and the test whether a slice is a
+// right sheet.
 pub mod right;
 
 use refusals::Refusal;
@@ -7,7 +7,7 @@ ghost use mathlib.Core.Path.{_≡_};
 ghost use Prim.Native.Nat.{_≤_, _<_};
 ghost use Rattle.ledger_sheet.specs.Sheet.{rowCount, deskCount, rowAt, deskAt};
 
-// A row: used word, key, first number, ticks. There are 32, and the first stands at 24.
+// A row: used flag, key, first number, ticks. There are 32, the first at offset 24.
 pub const USED_WORD: usize = 4;
 
 pub const USED: u64 = 1;
@@ -30,10 +30,10 @@ pub const ROWS: usize = 32;
 
 pub const ROWS_AT: usize = 24;
 
-// A tick byte has eight positions.
+// A byte of ticks holds eight positions.
 pub const BYTE_BITS: usize = 8;
 
-// A desk: 1 if open, row, two zeros, the row as opened, the row as worked on. There are eight, behind the rows.
+// A desk: 1 if it is open, its row, two zeros, the row as opened, the row as worked on. There are eight, behind the rows.
 pub const CLOSED: u8 = 0;
 
 pub const OPEN: u8 = 1;
@@ -71,7 +71,7 @@ pub const DESK_COUNT_AT: usize = 16;
 
 pub const DESKS_OFFSET_AT: usize = 20;
 
-// Where row i stands; behind the last row, where the rows end.
+// The offset of row i. For i = ROWS, the offset where the rows end.
 pub fn row_at(i: usize) -> usize
     requires { ⌜ i ≤ rowCount ⌝ }
     ensures { λ r. ⌜ r ≡ rowAt i ⌝ }
@@ -79,7 +79,7 @@ pub fn row_at(i: usize) -> usize
     ROWS_AT + ROW * i
 }
 
-// Where desk d stands.
+// The offset of desk d.
 pub fn desk_at(d: usize) -> usize
     requires { ⌜ d < deskCount ⌝ }
     ensures { λ r. ⌜ r ≡ deskAt d ⌝ }
@@ -87,26 +87,26 @@ pub fn desk_at(d: usize) -> usize
     DESKS_AT + DESK * d
 }
 
-// A row, or a desk's copy of one, as a value.
+// A row, or a desk's copy of one.
 pub struct Row {
     pub key: u64,
     pub first: u32,
     pub ticks: [u8; TICKS],
 }
 
-// What a call answers that has nothing to tell.
+// The answer of a call that gives no values.
 pub enum Answer {
     Done,
     Refused(Refusal),
 }
 
-// What enrol and find answer.
+// The answer of enrol and find.
 pub enum RowAnswer {
     Row(u32),
     Refused(Refusal),
 }
 
-// What a row report answers: how many positions are ticked, how many are missing, and the number at the lowest of these.
+// The answer of a row report: how many positions are ticked, how many are missing, and the number at the lowest missing position.
 pub enum ReportAnswer {
     Whole {
         ticked: u32,
@@ -119,26 +119,26 @@ pub enum ReportAnswer {
     Refused(Refusal),
 }
 
-// What is told of a row: the key of its stream, and its first number.
+// The answer of `row`: the key of its stream, and its first number.
 pub enum StreamAnswer {
     Stream { key: u64, first: u32 },
     Refused(Refusal),
 }
 
-// What is told of a desk: that it is closed; or its row, and whether a save would be stale now.
+// The answer of `desk`: it is closed; or its row, and whether a save would be stale now.
 pub enum DeskAnswer {
     Closed,
     Working { row: u32, stale: bool },
     Refused(Refusal),
 }
 
-// How many ticks and unticks a desk has not saved.
+// The answer of `unsaved`: how many ticks and unticks a desk has not saved.
 pub enum UnsavedAnswer {
     Unsaved { ticks: u32, unticks: u32 },
     Refused(Refusal),
 }
 
-// What first gap answers: the first missing number and its row.
+// The answer of first gap: the first missing number and its row.
 pub enum GapAnswer {
     Nothing,
     Gap { number: u32, row: u32 },

@@ -1,5 +1,4 @@
-// Whether a slice is a right sheet. Every call judges the whole sheet, so bytes and keys are gathered with no early exit
-// and LLVM vectorizes the loops.
+// Whether a slice is a right sheet. Every call tests the whole sheet, so the loops over bytes and keys have no early exit and LLVM vectorizes them.
 use crate as sheet;
 use octets::numbers;
 ghost use mathlib.Core.Path.{_≡_};
@@ -14,21 +13,20 @@ ghost use Rattle.ledger_sheet.specs.Sheet.{sheetSize, rowSize, rowCount,
 ghost use Rattle.ledger_sheet.specs.Sheet.{keyAt, firstNumberAt, deskByte, headerRight, deskRight, right};
 ghost use Rattle.ledger_sheet.specs.inner.Judging.{rowsRight, Zeros, Marked};
 
-// A key leaves its mark at its remainder by this number: a key whose place has none is not among those before it.
+// A key sets the mark at its remainder modulo 64. If a key's mark is not set, no key before it is the same.
 const MARKS: usize = 64;
 
 const MARKED: u8 = 1;
 
-// What a desk's copy carries of its row: all before the ticks.
+// A desk's copy has these bytes of its row: all before the ticks.
 const CARRIED: usize = sheet::TICKS_AT;
 
-// What has been judged of the bytes before an index, and where the range of zeros begins that ends there and has yet to be looked at.
-struct Judged {
+// What the tests so far found, and the index from which bytes are still to be tested for zero.
+struct RowsFound {
     right: bool,
     zeros: usize,
 }
 
-// Whether a slice is a right sheet.
 pub fn is_sheet(s: &[u8]) -> bool
     ensures { λ r. ⌜ r ≡ right (now (s .entry)) ⌝ }
 {
@@ -64,7 +62,7 @@ pub fn rows_used(s: &[u8]) -> usize
     numbers::read_be(s, sheet::USED_AT, sheet::NUMBER) as usize
 }
 
-// Whether the row at place i is used.
+// Whether row i is used.
 pub fn is_used(s: &[u8], i: usize) -> bool
     requires { ⌜ (length (now s) ≡ sheetSize) × (i < rowCount) ⌝ }
     ensures { λ r. ⌜ r ≡ isUsed (now (s .entry)) i ⌝ }
@@ -83,7 +81,7 @@ pub fn is_row(s: &[u8], i: usize) -> bool
     is_used(s, i)
 }
 
-// The key of the row or the copy at offset a.
+// The key of the row, or the copy of a row, at offset a.
 pub fn key_at(s: &[u8], a: usize) -> u64
     requires { ⌜ a + rowSize ≤ length (now s) ⌝ }
     ensures { λ r. ⌜ r ≡ keyAt (now (s .entry)) a ⌝ }
@@ -91,7 +89,7 @@ pub fn key_at(s: &[u8], a: usize) -> u64
     numbers::read_be(s, a + sheet::KEY_AT, sheet::KEY)
 }
 
-// The first number of the row or the copy at offset a.
+// The first number of the row, or the copy of a row, at offset a.
 pub fn first_at(s: &[u8], a: usize) -> u32
     requires { ⌜ a + rowSize ≤ length (now s) ⌝ }
     ensures { λ r. ⌜ r ≡ firstNumberAt (now (s .entry)) a ⌝ }
@@ -99,9 +97,9 @@ pub fn first_at(s: &[u8], a: usize) -> u32
     numbers::read_be(s, a + sheet::FIRST_AT, sheet::FIRST) as u32
 }
 
-// The rows, up to the last that the header counts: used ones with valid, different keys and first numbers of their streams, and free
-// ones that are zero. The rows behind are to be free, so that they and the closed desks behind them are one range of zeros.
-fn are_rows(s: &[u8]) -> Judged
+// Tests rows until it has found as many used ones as the header counts. Used rows must have valid keys, all different, and first numbers of their
+// streams; free rows must be zero. All rows behind these must be free: they and the closed desks behind them are tested as one range of zeros.
+fn are_rows(s: &[u8]) -> RowsFound
     requires { ⌜ length (now s) ≡ sheetSize ⌝ }
     ensures { λ r. ⌜ Zeros (now (s .entry)) (r .right) (r .zeros) ⌝ }
 {
@@ -128,20 +126,20 @@ fn are_rows(s: &[u8]) -> Judged
         }
         i += 1;
     }
-    Judged {
+    RowsFound {
         right: right & (found == used),
         zeros: sheet::row_at(i),
     }
 }
 
-// Whether a key is valid and a number one of its stream.
+// Whether the key is valid and its stream's records can have the number.
 fn is_stream(key: u64, first: u32) -> bool
     ensures { λ r. ⌜ r ≡ (validKey key && isNumber key first) ⌝ }
 {
     keys::valid(key) & keys::is_number(key, first)
 }
 
-// Whether none of the first n keys, which have left their marks, is the key given.
+// Whether the key is none of the first n, which have set their marks.
 fn is_new(keys: &[u64; sheet::ROWS], marks: &[u8; MARKS], n: usize, key: u64) -> bool
     requires { ⌜ (n ≤ rowCount) × Marked (now keys) (now marks) n ⌝ }
     ensures { λ r. ⌜ r ≡ all n (λ j. not (eqb (getD (now (keys .entry)) j 0) key)) ⌝ }
@@ -152,7 +150,7 @@ fn is_new(keys: &[u64; sheet::ROWS], marks: &[u8; MARKS], n: usize, key: u64) ->
     is_other(keys, n, key)
 }
 
-// The same by looking at each. (Public for the converter of old sheets.)
+// The same, by comparing the key with each of them. (Public because `ledger_convert` calls it.)
 pub fn is_other(keys: &[u64; sheet::ROWS], n: usize, key: u64) -> bool
     requires { ⌜ n ≤ rowCount ⌝ }
     ensures { λ r. ⌜ r ≡ all n (λ j. not (eqb (getD (now (keys .entry)) j 0) key)) ⌝ }
@@ -164,8 +162,8 @@ pub fn is_other(keys: &[u64; sheet::ROWS], n: usize, key: u64) -> bool
     other
 }
 
-// The ranges that end at an open desk, each open desk, and the last range.
-fn are_desks(s: &[u8], judged: Judged) -> bool
+// Tests each open desk, and that the bytes between open desks and up to the sheet's end are zero.
+fn are_desks(s: &[u8], judged: RowsFound) -> bool
     requires { ⌜ length (now s) ≡ sheetSize ⌝ }
     requires { ⌜ Zeros (now s) (judged .right) (judged .zeros) ⌝ }
     ensures { λ r. ⌜ r ≡ (rowsRight (now (s .entry)) && all deskCount (deskRight (now (s .entry)))) ⌝ }
@@ -183,8 +181,7 @@ fn are_desks(s: &[u8], judged: Judged) -> bool
     right & octets::is_long_zero(s, zeros, sheet::SHEET - zeros)
 }
 
-// Whether a desk that is not closed is marked open, has its two zeros, names a used row, and both its copies carry that row's word, key
-// and first number.
+// Whether an open desk is right: its first byte is 1, its two zeros are zero, its row is used, and both copies have that row's used flag, key and first number.
 fn is_open_desk(s: &[u8], d: usize) -> bool
     requires { ⌜ length (now s) ≡ sheetSize ⌝ }
     requires { ⌜ (d < deskCount) × (deskByte (now s) d ≡ 0 → ⊥) ⌝ }

@@ -1,4 +1,4 @@
--- Laws of the definitions of `specs/Octets.antt`, each stated once, over the width or the index.
+-- Laws of the definitions of `specs/Octets.antt`, each stated once for any width or index.
 -- Assumes nothing.
 use Prim.Native.Nat.{ℕ, zero, suc, _+_, _*_, _/_, _%_, _^_, _-_, _<_, _≤_}
 use native.Mathlib.Nat.{pow-suc, pow-le-pow-right, add-zero, add-suc, mul-assoc}

@@ -1,5 +1,5 @@
--- Tables; equal chunks laid one after another: reading the k-th, replacing it, one more, and reading all of them from a list. Each
--- law once, over the chunk's width and index. Assumes nothing.
+-- Tables; and chunks of equal length, one after another: reading the k-th, replacing it, adding one, and reading all of them from a list. Each law is
+-- stated once for any width and index. Assumes nothing.
 use Prim.Native.Nat.{ℕ, zero, suc, _+_, _*_, _<_, suc-le-suc}
 use native.Mathlib.Nat.{mul-zero, mul-suc, zero-lt-suc, not-suc-le-zero, le-of-suc-le-suc}
 use native.Mathlib.Numerals.{add-one}

@@ -1,4 +1,4 @@
--- Numbers read where they were laid out, and parts of a list of bytes: joined, zero, equal. Each law once, over the width.
+-- Numbers read where they were written; and parts of a list of bytes: joined, zero, equal. Each law is stated once for any width.
 -- Assumes nothing.
 use Prim.Native.Nat.{ℕ, zero, suc, _+_, _*_, _/_, _%_, _^_, _<_, _≤_}
 use native.Mathlib.Nat.{zero-add, pow-suc, div-add-mod', div-lt-iff-lt-mul}

@@ -1,4 +1,4 @@
--- Parts put one behind the other, and a part that was lent and came back. Assumes nothing.
+-- Parts written one after the other, and a part that is lent and comes back. Assumes nothing.
 use Prim.Native.Nat.{ℕ, _+_, _-_, _≤_, _<_}
 use native.Mathlib.Nat.{zero-add}
 use native.Mathlib.Numerals.{add-one}

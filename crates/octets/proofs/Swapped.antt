@@ -1,4 +1,4 @@
--- A number whose bytes are read from the lowest and then swapped is the number in them. Assumes nothing.
+-- Reading the bytes of a number lowest first and then swapping them gives the big-endian number. Assumes nothing.
 use Prim.Native.Nat.{ℕ, zero, suc, _+_, _*_, _/_, _%_, _^_, _<_}
 use native.Mathlib.Nat.{pow-succ', add-zero, mul-assoc}
 use native.Mathlib.Omega.{arith}

@@ -1,4 +1,5 @@
--- What the contracts of `octets` cite, and lists laid out as bytes, which the crates above cite.
+-- The definitions that contracts of `octets` and of other crates cite.
+pub mod Ascii
 pub mod Octets
 pub mod Lists
 pub mod inner

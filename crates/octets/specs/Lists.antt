@@ -1,4 +1,4 @@
--- Lists made of a function, and lists laid out as bytes. Assumes nothing.
+-- Lists computed by a function, and the bytes of a list of things. Assumes nothing.
 use Prim.Native.Nat.{ℕ, zero, suc}
 use mathlib.Core.List.{List, [], _∷_, _++_}
 
@@ -7,7 +7,7 @@ unfoldable pub table : {A : Type 0} → ℕ → (ℕ → A) → List A
 table zero f = []
 table (suc n) f = f 0 ∷ table n (λ i. f (suc i))
 
--- The bytes of each, one after the other.
+-- The bytes of each element, one after the other.
 unfoldable pub laid : {A : Type 0} → (A → List ℕ) → List A → List ℕ
 laid bytes [] = []
 laid bytes (x ∷ xs) = bytes x ++ laid bytes xs

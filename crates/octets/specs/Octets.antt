@@ -1,4 +1,4 @@
--- Numbers and ranges in a list of bytes (all big-endian, as document 01 has them).
+-- Numbers and ranges in a list of bytes. All numbers are big-endian, as in document 01.
 -- Assumes nothing.
 use Prim.Native.Nat.{ℕ, zero, suc, _+_, _*_, _/_, _%_, _<_}
 use mathlib.Core.Bool.{Bool, true, _&&_}
@@ -6,7 +6,7 @@ use mathlib.Core.List.{List, [], _∷_, _++_}
 use lib.ListN.{length, take, drop, getD}
 use lib.Dec.{eqb}
 
--- a list of bytes, as every slice of them is
+-- Every element is a byte, below 256.
 abbrev pub AreBytes : List ℕ → Type 0
 AreBytes s = (k : ℕ) → getD s k 0 < 256
 
@@ -28,15 +28,15 @@ part s a n = take n (drop a s)
 unfoldable pub put : List ℕ → ℕ → List ℕ → List ℕ
 put s a v = take a s ++ v ++ drop (a + length v) s
 
--- p holds of every number below n
+-- whether p holds of every number below n
 unfoldable pub all : ℕ → (ℕ → Bool) → Bool
 all zero p = true
 all (suc n) p = all n p && p n
 
--- the n bytes of s from index a are zero
+-- whether the n bytes of s from index a are zero
 unfoldable pub zeroAt : List ℕ → ℕ → ℕ → Bool
 zeroAt s a n = all n (λ i. eqb (getD s (a + i) 0) 0)
 
--- the n bytes of s from index a are the n bytes of t from index b
+-- whether the n bytes of s from index a equal the n bytes of t from index b
 unfoldable pub sameAt : List ℕ → ℕ → List ℕ → ℕ → ℕ → Bool
 sameAt s a t b n = all n (λ i. eqb (getD s (a + i) 0) (getD t (b + i) 0))

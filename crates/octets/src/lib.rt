@@ -1,4 +1,4 @@
-// Numbers and ranges in byte slices: numbers of 1 to 8 bytes read and written, ranges tested, cleared and copied.
+// Byte slices: reads and writes numbers of 1 to 8 bytes; tests, clears and copies ranges.
 pub mod numbers;
 
 ghost use mathlib.Core.Path.{_≡_};
@@ -7,19 +7,18 @@ ghost use Prim.Native.Nat.{_+_, _*_, _≤_};
 ghost use lib.ListN.{length, replicate};
 ghost use Rattle.octets.specs.Octets.{part, put, zeroAt, sameAt};
 
-// The bytes of a vector. From an index that they divide, no load reads two cache lines, where the slice begins at such an address, as slices
-// of a heap do.
+// The bytes of a vector. Aligned loads never straddle cache lines. A slice on the heap begins at an aligned address.
 const VECTOR: usize = 16;
 
-// Of each of four parts of a long range, these bytes are tested in one turn of a vectorized loop.
+// A long range is tested in four parts. One turn of the vectorized loop tests this many bytes of each part.
 const STEP: usize = 2 * VECTOR;
 
 const BLOCK: usize = 4 * STEP;
 
-// What four parts that begin up to a vector behind a range's start may leave of its end.
+// At most this many bytes at the end of a long range lie behind its four parts.
 const REST: usize = BLOCK + VECTOR;
 
-// Whether the n bytes from index a are zero. The bytes are gathered with no early exit, so that LLVM vectorizes the loop.
+// Whether the n bytes from index a are zero. The loop has no early exit, so LLVM vectorizes it.
 pub fn is_zero(s: &[u8], a: usize, n: usize) -> bool
     requires { ⌜ a + n ≤ length (now s) ⌝ }
     ensures { λ r. ⌜ r ≡ zeroAt (now (s .entry)) a n ⌝ }
@@ -31,8 +30,8 @@ pub fn is_zero(s: &[u8], a: usize, n: usize) -> bool
     any == 0
 }
 
-// The same for a long range: its first vector, four parts of it side by side from the next index that a vector's bytes divide, so that the
-// loop takes fewer steps of its own and loads that are aligned, and its end.
+// The same for a long range: tests its first vector, then four parts side by side from the next aligned index, then its last bytes. The four parts
+// need fewer turns of the loop, and their loads are aligned.
 pub fn is_long_zero(s: &[u8], a: usize, n: usize) -> bool
     requires { ⌜ a + n ≤ length (now s) ⌝ }
     ensures { λ r. ⌜ r ≡ zeroAt (now (s .entry)) a n ⌝ }
@@ -47,7 +46,7 @@ pub fn is_long_zero(s: &[u8], a: usize, n: usize) -> bool
     first & parts & last
 }
 
-// Whether four ranges of n bytes, one behind the other from index a, are zero.
+// Whether 4n bytes from index a are zero. Tests four ranges of n bytes side by side.
 fn are_zero(s: &[u8], a: usize, n: usize) -> bool
     requires { ⌜ a + 4 * n ≤ length (now s) ⌝ }
     ensures { λ r. ⌜ r ≡ zeroAt (now (s .entry)) a (4 * n) ⌝ }
@@ -62,7 +61,7 @@ fn are_zero(s: &[u8], a: usize, n: usize) -> bool
     any == 0
 }
 
-// Whether the n bytes of s from index a equal the n bytes of t from index b; s and t may be one slice.
+// Whether the n bytes of s from index a equal the n bytes of t from index b. s and t may be the same slice.
 pub fn is_same(s: &[u8], a: usize, t: &[u8], b: usize, n: usize) -> bool
     requires { ⌜ (a + n ≤ length (now s)) × (b + n ≤ length (now t)) ⌝ }
     ensures { λ r. ⌜ r ≡ sameAt (now (s .entry)) a (now (t .entry)) b n ⌝ }
@@ -84,7 +83,7 @@ pub fn clear(s: &mut [u8], a: usize, n: usize)
     }
 }
 
-// Copies the n bytes from index a to index b. The ranges may overlap where b is at most a.
+// Copies the n bytes from index a to index b. The ranges may overlap if b is at most a.
 pub fn copy(s: &mut [u8], a: usize, b: usize, n: usize)
     requires { ⌜ (a + n ≤ length (now s)) × (b + n ≤ length (now s)) ⌝ }
     requires { ⌜ (a + n ≤ b) ⊎ (b ≤ a) ⌝ }

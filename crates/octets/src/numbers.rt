@@ -1,20 +1,20 @@
-// Numbers read from byte slices and written into them. A big-endian number of two, four or eight bytes is read in the order of the machine
-// and then swapped, in two functions: LLVM makes one load of the first before it inlines it, and a swap of the second. Read byte by byte
-// from the highest they are joined after inlining, and count as so many loads when LLVM decides what to inline.
+// Reads numbers from byte slices and writes them. A big-endian number of two, four or eight bytes takes two functions: one reads it as little-endian,
+// one swaps its bytes. LLVM turns the first into one load before it inlines it, and the second into a swap. A loop over the bytes becomes one load
+// only after inlining; until then LLVM counts many loads, and may decide not to inline.
 ghost use mathlib.Core.Path.{_≡_};
 ghost use Prim.Native.Nat.{_+_, _≤_, _<_};
 ghost use lib.ListN.{length};
 ghost use Rattle.octets.specs.Octets.{numberAt, bytesOf, put};
 ghost use Rattle.octets.specs.inner.Little.{littleAt, swapped};
 
-// The longest number, its half and a quarter of it, in bytes.
+// Lengths of numbers in bytes: the longest, half of it, a quarter of it.
 const LONG: usize = 8;
 
 const HALF: usize = 4;
 
 const QUARTER: usize = 2;
 
-// What a byte counts for above another; in the second, third and fourth place from the lowest; and a half above another.
+// The weight of a byte above the lowest, as u16; the weights of the second, third and fourth byte from the lowest; the weight of the upper half.
 const NEXT_BYTE: u16 = 256;
 
 const SECOND: u32 = 256;
@@ -53,7 +53,7 @@ fn wide(x: u8) -> u64
     x as u64
 }
 
-// The same for two, four and eight bytes.
+// The big-endian number in two, four or eight bytes from index a.
 pub fn read_u16(s: &[u8], a: usize) -> u16
     requires { ⌜ a + 2 ≤ length (now s) ⌝ }
     ensures { λ r. ⌜ r ≡ numberAt (now (s .entry)) a 2 ⌝ }
@@ -77,7 +77,7 @@ pub fn read_u64(s: &[u8], a: usize) -> u64
     high as u64 * NEXT_HALF + low as u64
 }
 
-// The little-endian number in two, four and eight bytes.
+// The little-endian number in two, four or eight bytes from index a.
 pub fn read_le_u16(s: &[u8], a: usize) -> u16
     requires { ⌜ a + 2 ≤ length (now s) ⌝ }
     ensures { λ r. ⌜ r ≡ littleAt (now (s .entry)) a 2 ⌝ }
@@ -109,7 +109,7 @@ pub fn read_le_u64(s: &[u8], a: usize) -> u64
     low as u64 + high as u64 * NEXT_HALF
 }
 
-// The bytes of a number in the other order.
+// The number with its bytes in reverse order.
 fn swapped_u16(w: u16) -> u16
     ensures { λ r. ⌜ r ≡ swapped 2 w ⌝ }
 {

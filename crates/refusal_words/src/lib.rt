@@ -1,75 +1,94 @@
-// What a refusal means, in a few words for people: the refusals that a program can meet in a stream of records. The number stands beside
-// them; docs/INTERFACE.md says more.
+// Refusals in words, for people: a text for each number of the refusal table, and one for every other number.
+mod constants;
 
+use constants::BYTES;
+use constants::NUMBERS;
+use constants::SIZES;
+use constants::STARTS;
+use constants::TEXTS;
 use refusals::Refusal;
+ghost use mathlib.Core.Path.{_≡_};
+ghost use mathlib.Core.Bool.{cond};
+ghost use Prim.Native.Nat.{_<_};
+ghost use lib.Dec.{ltb};
+ghost use Rattle.refusal_words.specs.Texts.{textOf};
+ghost use Rattle.refusal_words.specs.Written.{wordsOf, writeText};
+ghost use Rattle.refusal_words.specs.inner.Places.{allTexts, starts, sizes};
+ghost use Rattle.refusal_words.specs.inner.Lies.{Lies};
 
-// Writes the words of a refusal's number; whether they could be written.
-pub fn tell(fd: i32, number: u32) -> bool {
-    if number <= refusals::number(Refusal::Truncated) {
-        return tell_label(fd, number);
-    }
-    if number <= refusals::number(Refusal::DataLength) {
-        return tell_block(fd, number);
-    }
-    tell_content(fd, number)
+// A slice of so many bytes has room for every text and its zero byte.
+pub const MOST_BYTES: usize = 200;
+
+// What writing a text answers: how many bytes it has, without the zero byte behind it.
+pub enum Text {
+    Bytes(usize),
+    Refused(Refusal),
 }
 
-// The label, and the record's length by it.
-fn tell_label(fd: i32, number: u32) -> bool {
-    if number == refusals::number(Refusal::TooShort) {
-        return io::write_all(fd, b"no whole label");
-    }
-    if number == refusals::number(Refusal::Authority) {
-        return io::write_all(fd, b"does not begin with NJPL");
-    }
-    if number == refusals::number(Refusal::VersionClass) {
-        return io::write_all(fd, b"version and class not 2I00");
-    }
-    if number == refusals::number(Refusal::UnknownKind) {
-        return io::write_all(fd, b"kind of record not known");
-    }
-    if number == refusals::number(Refusal::LabelLength) {
-        return io::write_all(fd, b"length not one of its kind");
-    }
-    io::write_all(fd, b"record cut off")
+// Where a text lies among all texts. (Public for the prover's sake.)
+pub struct Span {
+    pub at: usize,
+    pub size: usize,
 }
 
-// The blocks in a record.
-fn tell_block(fd: i32, number: u32) -> bool {
-    if number == refusals::number(Refusal::AggregationLabel) {
-        return io::write_all(fd, b"wrong type or length of the aggregation block");
-    }
-    if number == refusals::number(Refusal::PrimaryLabel) {
-        return io::write_all(fd, b"wrong type or length of the primary block");
-    }
-    if number == refusals::number(Refusal::SecondaryLabel) {
-        return io::write_all(fd, b"wrong type or length of the secondary block");
-    }
-    if number == refusals::number(Refusal::DataType) {
-        return io::write_all(fd, b"wrong type of the data block");
-    }
-    io::write_all(fd, b"wrong length of the data block")
+fn all() -> [u8; BYTES]
+    ensures { λ r. ⌜ r ≡ allTexts ⌝ }
+{
+    TEXTS
 }
 
-// What a record is, and what it holds.
-fn tell_content(fd: i32, number: u32) -> bool {
-    if number == refusals::number(Refusal::FieldRange) {
-        return io::write_all(fd, b"field out of range");
+fn all_starts() -> [u16; NUMBERS]
+    ensures { λ r. ⌜ r ≡ starts ⌝ }
+{
+    STARTS
+}
+
+fn all_sizes() -> [u8; NUMBERS]
+    ensures { λ r. ⌜ r ≡ sizes ⌝ }
+{
+    SIZES
+}
+
+// The entry of a number: one past the last has that of 0, which no refusal has.
+fn entry(number: u32) -> usize
+    ensures { λ r. ⌜ r ≡ cond (ltb number 62) number 0 ⌝ }
+    ensures { λ r. ⌜ r < 62 ⌝ }
+{
+    let i = number as usize;
+    if i < NUMBERS {
+        return i;
     }
-    if number == refusals::number(Refusal::WrongKind) {
-        return io::write_all(fd, b"record of another kind");
+    0
+}
+
+// Where the text of a number lies.
+fn place(number: u32) -> Span
+    ensures { λ r. ⌜ Lies (r .at) (r .size) (textOf number) ⌝ }
+{
+    let starts = all_starts();
+    let sizes = all_sizes();
+    let i = entry(number);
+    let start = starts[i];
+    let size = sizes[i];
+    Span {
+        at: start as usize,
+        size: size as usize,
     }
-    if number == refusals::number(Refusal::BufferSize) {
-        return io::write_all(fd, b"record over 65536 bytes");
+}
+
+// Writes the text of a number and a zero byte at the start of the slice; the rest of it stays, and all of it where it is too short.
+pub fn write(number: u32, out: &mut [u8]) -> Text
+    ensures { λ r. ⌜ (wordsOf r, now (out .exit)) ≡ writeText number (now (out .entry)) ⌝ }
+{
+    let found = place(number);
+    let start = found.at;
+    let size = found.size;
+    if out.len() <= size {
+        return Text::Refused(Refusal::TextSpace);
     }
-    if number == refusals::number(Refusal::SamplePair) {
-        return io::write_all(fd, b"sample size and rate are not a listed pair");
-    }
-    if number == refusals::number(Refusal::SampleWords) {
-        return io::write_all(fd, b"data not in whole words of 4 bytes");
-    }
-    if number == refusals::number(Refusal::SampleSpace) {
-        return io::write_all(fd, b"no room for the samples");
-    }
-    io::write_all(fd, b"refused")
+    let texts = all();
+    let end = start + size;
+    octets::copy_in(&texts[start..end], out, 0);
+    octets::clear(out, size, 1);
+    Text::Bytes(size)
 }

@@ -1,4 +1,4 @@
--- Laws of a list of rules: either none applies, or one is the first. Assumes nothing.
+-- Laws of a list of rules: either none holds, or one is the first that holds. Assumes nothing.
 use Prim.Native.Nat.{ℕ, zero, suc, _<_}
 use native.Mathlib.Omega.{arith}
 use mathlib.Core.Bool.{Bool, true, false, _&&_, false≢true}

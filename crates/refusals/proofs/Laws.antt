@@ -1,4 +1,4 @@
--- No two rows of the refusal table have the same number. Assumes nothing.
+-- No two refusals have the same number. Assumes nothing.
 use Prim.Native.Nat.{ℕ}
 use native.Mathlib.Omega.{arith}
 use mathlib.Core.Path.{_≡_, refl, sym, ap, _∙_}
@@ -58,10 +58,11 @@ use Rattle.refusals.specs.declared.Refusal.the-variants.{
   SettingsFull,
   NoSetting,
   AnswerLength,
+  TextSpace,
 }
 use Rattle.refusals.specs.Table.{numberOf}
 
--- The table back from the numbers: entry n is the refusal with number n; where no refusal has the number, the first.
+-- The refusals by number: entry n is the refusal with number n; if no refusal has that number, the first refusal.
 back : List Refusal
 back =
     TooShort ∷ TooShort ∷ Authority ∷ VersionClass ∷ UnknownKind ∷ LabelLength ∷ Truncated ∷ AggregationLabel ∷ PrimaryLabel
@@ -70,7 +71,7 @@ back =
     ∷ OutsideRow ∷ AlreadyTicked ∷ NotTicked ∷ Stale ∷ FirstNumber ∷ DayCount ∷ SampleWords ∷ SampleSpace ∷ RowOpen ∷ SampleValue
     ∷ AnswerLength ∷ TooShort ∷ NotTrace ∷ KeyInTwoSheets ∷ SeasonLength ∷ NotSettings ∷ UnknownEdition ∷ AlreadySet
     ∷ SettingsFull ∷ NoSetting ∷ TooShort ∷ TooShort ∷ TapeLengths ∷ TapeLengthWord ∷ TapeTime ∷ TapeRate ∷ TapeBlock ∷ TooShort
-    ∷ TooShort ∷ TooShort ∷ TooShort ∷ TooShort ∷ MissingSpace ∷ []
+    ∷ TooShort ∷ TooShort ∷ TooShort ∷ TooShort ∷ MissingSpace ∷ TextSpace ∷ []
 
 refusalOf : ℕ → Refusal
 refusalOf n = getD back n TooShort
@@ -128,11 +129,12 @@ found AlreadySet = refl
 found SettingsFull = refl
 found NoSetting = refl
 found AnswerLength = refl
+found TextSpace = refl
 
 pub number-injective : (r s : Refusal) → numberOf r ≡ numberOf s → r ≡ s
 number-injective r s e = sym (found r) ∙ ap refusalOf e ∙ found s
 
--- And no refusal has 0, the number of an accepted call.
+-- No refusal has the number 0, which is that of an accepted call.
 pub number-positive : (r : Refusal) → numberOf r ≢ 0
 unfolding refusalOf back
 number-positive r e = let q : numberOf r ≡ 1 = ap numberOf (sym (found r) ∙ ap refusalOf e) in omega arith

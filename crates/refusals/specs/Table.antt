@@ -1,4 +1,5 @@
--- Document 01, "Refusal numbers": the number of each row, in the table's order, with document 02's rows where it puts them. Assumes nothing.
+-- Document 01, "Refusal numbers": the number of each refusal, in the order of the table. Refusals of document 02 stand where that
+-- document puts them. Assumes nothing.
 -- The manual, docs/INTERFACE.md: "The refusal table".
 use Prim.Native.Nat.{ℕ}
 use Rattle.refusals.specs.declared.Refusal.{Refusal}
@@ -54,6 +55,7 @@ use Rattle.refusals.specs.declared.Refusal.the-variants.{
   SettingsFull,
   NoSetting,
   AnswerLength,
+  TextSpace,
 }
 
 abbrev pub numberOf : Refusal → ℕ
@@ -108,3 +110,4 @@ numberOf AlreadySet = 45
 numberOf SettingsFull = 46
 numberOf NoSetting = 47
 numberOf AnswerLength = 38
+numberOf TextSpace = 61

@@ -1,4 +1,4 @@
-// The refusal table: a name for each row, in the order of document 01's table with those of document 02 where it puts them.
+// The refusal table: one name per row, in the order of document 01's table. Rows of document 02 stand where that document puts them.
 ghost use mathlib.Core.Path.{_≡_};
 ghost use Rattle.refusals.specs.Table.{numberOf};
 
@@ -63,9 +63,10 @@ pub enum Refusal {
     NoSetting,
     // Calls from C (document 02, Req 06).
     AnswerLength,
+    TextSpace,
 }
 
-// The number that the table gives a refusal.
+// The number of a refusal in the table.
 pub fn number(r: Refusal) -> u32
     ensures { λ n. ⌜ n ≡ numberOf r ⌝ }
 {
@@ -121,5 +122,6 @@ pub fn number(r: Refusal) -> u32
         Refusal::SettingsFull => 46,
         Refusal::NoSetting => 47,
         Refusal::AnswerLength => 38,
+        Refusal::TextSpace => 61,
     }
 }

@@ -1,27 +1,21 @@
--- Bytes read behind others, and the bytes of one record. Assumes nothing.
-use Prim.Native.Nat.{ℕ, zero, suc, _+_, _-_, _≤_, _<_}
+-- The bytes of one record. Assumes nothing.
+use Prim.Native.Nat.{ℕ, zero, suc, _+_, _≤_, _<_}
 use native.Mathlib.Omega.{arith}
 use mathlib.Core.Bool.{Bool, true, false}
 use mathlib.Core.List.{List}
 use mathlib.Core.Path.{_≡_, refl, sym, ap, _∙_}
-use borrow.Author.Tests.{ltb-true, ltb-false, lt-ltb, le-ltb, le-leb, lt-leb, leb-true, leb-false}
-use lib.Dec.{ltb, leb}
+use borrow.Author.Tests.{le-leb, lt-leb, leb-true, leb-false}
+use lib.Dec.{leb}
 use lib.ListN.{length, take}
-use lib.Seq.{take-take, getD-take}
+use lib.Seq.{getD-take}
 use Rattle.octets.specs.Octets.{numberAt}
 use Rattle.sfdu.specs.Nesting.{labelSize}
 use Rattle.sfdu.specs.Read.{labelLength, recordLength}
 use Rattle.sfdu.proofs.Accepted.{record-length}
-use Rattle.rsr_samples.specs.Judging.{windowSize}
+use Rattle.streaming.specs.Window.{windowSize}
+use Rattle.streaming.specs.inner.Reading.{Behind}
 use Rattle.rsr_samples.specs.Parts.{OfOne}
-use Rattle.rsr_samples.specs.inner.Reading.{wantedOf, Fills}
-
--- ---- read on, and then once more
-
-pub fills-on : {old mid new : List ℕ} {have want at upto : ℕ} → Fills old mid have want at → Fills mid new at want upto → Fills old new have want upto
-fills-on {old} {mid} {new} {have} {want} {at} {upto} f g =
-    let first : (s : List ℕ) → take have (take at s) ≡ take have s = λ s. take-take have at s (f .least) in
-    record { least = omega arith; most = g .most; kept = sym (first new) ∙ ap (take have) (g .kept) ∙ first mid ∙ f .kept }
+use Rattle.rsr_samples.specs.inner.Reading.{wantedOf}
 
 -- ---- how many bytes are wanted
 
@@ -31,18 +25,6 @@ module _ (s : List ℕ) where
 
   pub wanted-whole : recordLength s < windowSize → wantedOf s ≡ recordLength s
   wanted-whole h = rw (lt-leb windowSize (recordLength s) h)
-
-  -- a label that says more bytes than the window has, or not
-  pub long-label : (after : ℕ) → recordLength s ≡ labelSize + after → ltb (windowSize - labelSize) after ≡ ltb windowSize (recordLength s)
-  long-label after e = by (ltb (windowSize - labelSize) after) refl
-    where
-      by : (b : Bool) → ltb (windowSize - labelSize) after ≡ b → ltb (windowSize - labelSize) after ≡ ltb windowSize (recordLength s)
-      by true t =
-          let more = ltb-true (windowSize - labelSize) after t in
-          t ∙ sym (lt-ltb windowSize (recordLength s) (omega arith))
-      by false t =
-          let less = ltb-false (windowSize - labelSize) after t in
-          t ∙ sym (le-ltb windowSize (recordLength s) (omega arith))
 
   pub record Wanted : Type 0 where
     pub least : labelSize ≤ wantedOf s
@@ -78,9 +60,9 @@ module _ (new : List ℕ) (upto : ℕ) (size : length new ≡ windowSize) where
   pub of-label : upto ≤ labelSize → OfOne new upto
   of-label h = record { within = omega arith; one = λ l. omega (arith, record-length (take upto new) (labelLength (take upto new)) refl) }
 
-  pub of-record : (mid : List ℕ) → Fills mid new labelSize (wantedOf mid) upto → OfOne new upto
-  of-record mid f =
+  pub of-record : (mid : List ℕ) (got : ℕ) → labelSize + got ≡ upto → Behind mid labelSize (wantedOf mid) new got → OfOne new upto
+  of-record mid got sum f =
       let w = wanted mid in
       let same : recordLength (take upto new) ≡ recordLength mid =
-      length-take new upto (f .least) ∙ sym (length-take new labelSize (omega arith)) ∙ ap recordLength (f .kept) ∙ length-take mid labelSize (omega arith) in
-      record { within = omega (arith, f .most, w .most); one = λ l. omega (arith, f .most, w .one) }
+      length-take new upto (omega arith) ∙ sym (length-take new labelSize (omega arith)) ∙ ap recordLength (f .held) ∙ length-take mid labelSize (omega arith) in
+      record { within = omega (arith, f .within, w .most); one = λ l. omega (arith, f .within, w .one) }

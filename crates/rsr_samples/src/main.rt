@@ -1,5 +1,5 @@
-// The samples of streams of RSR records: of the files that its arguments name, one after the other, or of standard input where there
-// is none. A pair a line, I and Q; with --raw as 32-bit little-endian integers.
+// Writes the samples of streams of RSR records: those of the files that its arguments name, one after the other, or of standard input if there are
+// none. One pair, I and Q, on each line; with --raw as 32-bit little-endian integers.
 mod input;
 mod judging;
 mod output;
@@ -7,29 +7,28 @@ mod output;
 ghost use mathlib.Core.Path.{_≡_};
 ghost use Prim.Native.Nat.{_≤_};
 ghost use lib.ListN.{length};
-ghost use Rattle.sfdu_sample_text.specs.inner.Room.{mostNumber};
-ghost use Rattle.rsr_samples.specs.Judging.{windowSize};
+ghost use Rattle.rsr_samples_text.specs.inner.Room.{mostNumber};
+ghost use Rattle.streaming.specs.Window.{windowSize};
+ghost use Rattle.rsr_samples.specs.Judging.{mostNumbers};
 ghost use Rattle.rsr_samples.specs.Parts.{Takes};
 ghost use Rattle.rsr_samples.specs.inner.Written.{Ready, Writes};
 use arguments::Asked;
-use input::Filled;
-use judging::Judged;
-use judging::Stop;
+use judging::Unpacked;
+use refusal_words::Text;
+use streaming::Piece;
+use streaming::window::Stop;
 
 // The program's own option.
 const RAW: [u8; 5] = *b"--raw";
 
-// The most numbers of a record: 32 for each word of its data, of which there are fewer than 2^14.
+// The most numbers of a record: 32 for each word of its data, of which there are fewer than 2^14. So no record stops the stream with 35.
 const NUMBERS: usize = 524288;
 
-// A proved loop has to end, and nothing says that a stream does: so the loop counts its records down, from 2^47, which no run uses up.
-const RECORDS: u64 = 140737488355328;
-
-// What became of the next record. (Public for the prover's sake.)
+// The outcome of the next record. (Public because the prover needs it.)
 pub enum Step {
-    // Its samples are written; the place behind it.
+    // Its samples are written; the number is the place behind it.
     Passed(u64),
-    // There is none: the input ended before it.
+    // There is no record: the input has ended.
     Ended,
     Stopped(Stop),
     // A read or a write failed.
@@ -39,31 +38,32 @@ pub enum Step {
 
 // Writes the samples of the record that was read into the window.
 fn take_record(
-    filled: Filled,
+    piece: Piece,
     place: u64,
     raw: bool,
     w: &[u8],
     list: &mut [i32],
     out: &mut [u8],
 ) -> Step
-    requires { ⌜ Ready place filled (now w) (now out) ⌝ }
-    ensures { λ r. ⌜ Takes raw place filled (now (w .entry)) (now (list .entry)) (now (out .exit)) r ⌝ }
+    requires { ⌜ Ready place piece (now w) (now list) (now out) ⌝ }
+    ensures { λ r. ⌜ Takes raw place piece (now (w .entry)) (now (list .entry)) (now (out .exit)) r ⌝ }
 {
-    if filled.failed {
+    let said = piece.said;
+    if streaming::has_failed(said) {
         return Step::Unread;
     }
-    let have = filled.have;
+    let have = piece.got;
     if have == 0 {
         return Step::Ended;
     }
     let judged = judging::judge(&w[..have], place, list);
     match judged {
-        Judged::Samples(n) => written(list, n, raw, place + have as u64, out),
-        Judged::Stopped(stop) => Step::Stopped(stop),
+        Unpacked::Samples(n) => written(list, n, raw, place + have as u64, out),
+        Unpacked::Stopped(stop) => Step::Stopped(stop),
     }
 }
 
-// Writes the list's first n numbers, and goes on to the next place.
+// Writes the list's first n numbers. Gives the step to the next place.
 fn written(list: &[i32], n: usize, raw: bool, next: u64, out: &mut [u8]) -> Step
     requires { ⌜ (n ≤ length (now list)) × (mostNumber ≤ length (now out)) ⌝ }
     ensures { λ r. ⌜ Writes raw (now (list .entry)) n next (now (out .exit)) r ⌝ }
@@ -75,13 +75,13 @@ fn written(list: &[i32], n: usize, raw: bool, next: u64, out: &mut [u8]) -> Step
 }
 
 fn write_stream(fd: i32, name: &[u8], raw: bool, w: &mut [u8], list: &mut [i32], out: &mut [u8])
-    requires { ⌜ (length (now w) ≡ windowSize) × (mostNumber ≤ length (now out)) ⌝ }
+    requires { ⌜ (length (now w) ≡ windowSize) × (length (now list) ≡ mostNumbers) × (mostNumber ≤ length (now out)) ⌝ }
 {
     let mut place: u64 = 0;
-    let mut left = RECORDS;
+    let mut left = streaming::TURNS;
     while 0 < left {
-        let filled = input::next_record(fd, w);
-        let step = take_record(filled, place, raw, w, list, out);
+        let piece = input::next_record(fd, w);
+        let step = take_record(piece, place, raw, w, list, out);
         let Step::Passed(next) = step else {
             return tell_end(name, place, step);
         };
@@ -90,7 +90,7 @@ fn write_stream(fd: i32, name: &[u8], raw: bool, w: &mut [u8], list: &mut [i32],
     }
 }
 
-// Why a stream is not gone on with.
+// Says why a stream stops.
 fn tell_end(name: &[u8], place: u64, step: Step) {
     match step {
         Step::Passed(_) | Step::Ended => {}
@@ -116,9 +116,20 @@ fn tell_refusal(number: u32, beside: u64) {
 }
 
 fn tell_why(number: u32) {
+    let mut text = [0u8; refusal_words::MOST_BYTES];
+    let found = refusal_words::write(number, &mut text);
     io::write_all(libc::STDERR_FILENO, b" ");
-    refusal_words::tell(libc::STDERR_FILENO, number);
+    if let Text::Bytes(n) = found {
+        tell_first(&text, n);
+    }
     io::write_all(libc::STDERR_FILENO, b"\n");
+}
+
+// Writes the first n bytes.
+fn tell_first(text: &[u8], n: usize) {
+    if n <= text.len() {
+        io::write_all(libc::STDERR_FILENO, &text[..n]);
+    }
 }
 
 fn stream(fd: i32, name: &[u8], raw: bool) {
@@ -128,7 +139,7 @@ fn stream(fd: i32, name: &[u8], raw: bool) {
     write_stream(fd, name, raw, &mut window, &mut numbers, &mut text);
 }
 
-// The samples of the file that argument i names.
+// Writes the samples of the file that argument i names.
 fn file(i: usize, raw: bool) {
     let mut path = io::buffer();
     let opened = arguments::open_at(i, &mut path);
@@ -151,7 +162,7 @@ fn files(count: usize, raw: bool) {
     }
 }
 
-// All arguments but --raw name files.
+// Every argument except --raw names a file.
 fn samples(count: usize) {
     let raws = arguments::how_many(count, &RAW);
     let raw = 0 < raws;

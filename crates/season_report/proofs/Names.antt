@@ -8,7 +8,7 @@ use borrow.Author.Tests.{eqb-true, eqb-false}
 use lib.Dec.{eqb}
 use lib.ListN.{length, getD, set, replicate}
 use lib.Seq.{getD-set-same, getD-set-other}
-use Rattle.season_page.specs.Page.{nameSize}
+use Rattle.season_report_text.specs.Page.{nameSize}
 
 abbrev pub Short : List ℕ → Type 0
 Short sizes = (j : ℕ) → getD sizes j 0 ≤ nameSize

@@ -9,8 +9,9 @@ use borrow.Rule.Slice.PartMut.{midOf, putMid, same-len-mid, mid-len}
 use lib.Dec.{eqb}
 use lib.ListN.{length, getD, take, drop, set, length-set, take-append-drop}
 use lib.Seq.{length-take-le, take-length, drop-length, getD-set-same, getD-set-other}
+use Rattle.octets.specs.Octets.{part}
 use Rattle.octets.proofs.Laws.{all-each}
-use Rattle.octets.proofs.Parts.{part-first, part-seam}
+use Rattle.octets.proofs.Parts.{part-first, part-second, part-seam}
 use Rattle.refusals.specs.Judge.{_when_, judge}
 use Rattle.ledger_sheet.specs.Sheet.{sheetSize, right}
 use Rattle.ledger_sheet.specs.Outcome.{Outcome}
@@ -21,10 +22,10 @@ use Rattle.ledger_convert.specs.Convert.{oldBookOf, convertOn}
 use Rattle.ledger_convert.proofs.Read.{book-fine}
 use Rattle.ledger_season.specs.Report.{mostSheets, report, keyInTwo}
 use Rattle.ledger_season.specs.Season.{sheetAt, sheetCount, books, rightTo, season}
-use Rattle.season_page.specs.declared.Files.{Files}
-use Rattle.season_page.specs.inner.Room.{Named}
+use Rattle.season_report_text.specs.declared.Files.{Files}
+use Rattle.season_report_text.specs.inner.Room.{Named}
 use Rattle.season_report.specs.declared.files.Found.{Found}
-use Rattle.season_report.specs.Loaded.{noSheet, asConverted, asItStands, placing, Loads, IsLoaded, LoadsAll}
+use Rattle.season_report.specs.Loaded.{noSheet, asConverted, asItStands, placing, roomSize, Loads, IsLoaded, LoadsAll}
 
 -- ---- one file
 
@@ -94,24 +95,45 @@ module _ (sheets new : List ℕ) (i : ℕ) (room : sheetSize * i + sheetSize ≤
       λ t. part-first (take (sheetSize * i) sheets) t (sheetSize * j) sheetSize inside in
       first _ ∙ sym (first (drop (sheetSize * i) sheets)) ∙ ap (λ (s : List ℕ). sheetAt s j) (take-append-drop (sheetSize * i) sheets)
 
-  kept : {files : Files} {j : ℕ} → j < i → IsLoaded sheets files j → IsLoaded (after sheets new i) files j
-  kept {files} {j} l e =
-      record { file = e .file; slot = e .slot; placed = rw (slot-kept j l) (e .placed); is-right = rw (slot-kept j l) (e .is-right) }
+-- ---- the rooms
+
+-- The rooms after another file was read into room i.
+abbrev pub afterRoom : (rooms room : List ℕ) → ℕ → List ℕ
+afterRoom rooms room i = putMid (roomSize * i) (roomSize * i + roomSize - roomSize * i) rooms room
+
+module _ (rooms room : List ℕ) (i : ℕ) (space : roomSize * i + roomSize ≤ length rooms) where
+  before : length (take (roomSize * i) rooms) ≡ roomSize * i
+  before = length-take-le (roomSize * i) rooms (omega arith)
+
+  room-new : (n : ℕ) → n ≤ length room → part (afterRoom rooms room i) (roomSize * i) n ≡ take n room
+  unfolding part
+  room-new n l = part-second (take (roomSize * i) rooms) _ (roomSize * i) 0 n (omega (arith, before)) ∙ part-first room _ 0 n (omega arith)
+
+  room-kept : (j n : ℕ) → j < i → n ≤ roomSize → part (afterRoom rooms room i) (roomSize * j) n ≡ part rooms (roomSize * j) n
+  room-kept j n l few =
+      let inside : roomSize * j + n ≤ length (take (roomSize * i) rooms) = rw before (omega arith) in
+      let first : (t : List ℕ) → part (take (roomSize * i) rooms ++ t) (roomSize * j) n ≡ part (take (roomSize * i) rooms) (roomSize * j) n =
+      λ t. part-first (take (roomSize * i) rooms) t (roomSize * j) n inside in
+      first _ ∙ sym (first (drop (roomSize * i) rooms)) ∙ ap (λ (s : List ℕ). part s (roomSize * j) n) (take-append-drop (roomSize * i) rooms)
 
 -- ---- the files
 
 -- So many are loaded.
-pub record SoFar (count : ℕ) (names sheets : List ℕ) (files : Files) (i : ℕ) : Type 0 where
+pub record SoFar (count : ℕ) (names rooms sheets got : List ℕ) (files : Files) (i : ℕ) : Type 0 where
   pub named : Named names files
   pub room : length sheets ≡ sheetSize * mostSheets
+  pub space : length rooms ≡ roomSize * mostSheets
   pub counted : files .count ≡ i
   pub most : i ≤ count
   pub slots : length (files .converted) ≡ mostSheets
-  pub each : (j : ℕ) → j < i → IsLoaded sheets files j
+  pub counts : length got ≡ mostSheets
+  pub held : (j : ℕ) → j < i → getD got j 0 ≤ roomSize
+  pub each : (j : ℕ) → j < i → IsLoaded rooms got sheets files j
 
-module _ {count : ℕ} {names sheets : List ℕ} {files : Files} {i : ℕ} (so-far : SoFar count names sheets files i) where
+module _ {count : ℕ} {names rooms sheets got : List ℕ} {files : Files} {i : ℕ} (so-far : SoFar count names rooms sheets got files i) where
   -- no file is left
-  pub all-loaded : (count ≤ mostSheets → count ≤ i) → Named names files × LoadsAll count sheets (record { files = files; ok = true })
+  pub all-loaded : (count ≤ mostSheets → count ≤ i)
+      → Named names files × LoadsAll count rooms sheets (record { files = files; got = got; ok = true })
   all-loaded h = (
     so-far .named,
     record {
@@ -120,61 +142,84 @@ module _ {count : ℕ} {names sheets : List ℕ} {files : Files} {i : ℕ} (so-f
     },
   )
 
-  module _ (below : i < mostSheets) (new : List ℕ) where
+  module _ (below : i < mostSheets) (room new : List ℕ) where
     within : sheetSize * i + sheetSize ≤ length sheets
     within = omega (arith, so-far .room)
 
-    -- a file that is none: those before it stay
-    pub one-wrong : LoadsAll count (after sheets new i) (record { files = files; ok = false })
-    one-wrong =
+    inside : roomSize * i + roomSize ≤ length rooms
+    inside = omega (arith, so-far .space)
+
+    kept : (j : ℕ) → j < i → IsLoaded (afterRoom rooms room i) got (after sheets new i) files j
+    kept j l =
+        let e = so-far .each j l in
+        let slot = slot-kept sheets new i within j l in
         record {
-          each = λ j l. let before : j < i = omega (arith, so-far .counted) in kept sheets new i within before (so-far .each j before);
-          whole = λ e _. absurd (false≢true e);
+          slot = e .slot;
+          placed = rw (slot, room-kept rooms room i inside j (getD got j 0) l (so-far .held j l)) (e .placed);
+          is-right = rw slot (e .is-right);
         }
 
-    module _ (names′ : List ℕ) (found : Found) (size : ℕ) (slot : List ℕ) where
+    -- a file that is none: those before it stay
+    pub one-wrong : LoadsAll count (afterRoom rooms room i) (after sheets new i) (record { files = files; got = got; ok = false })
+    one-wrong = record { each = λ j l. kept j (omega (arith, so-far .counted)); whole = λ e _. absurd (false≢true e) }
+
+    module _ (names′ : List ℕ) (found : Found) (size n : ℕ) (slot : List ℕ) where
       abbrev more : Files
       more = record { count = i + 1; sizes = set (files .sizes) i size; converted = set (files .converted) i (found .converted) }
 
-      pub one-more : length new ≡ sheetSize → i < count → Loads slot new found → found .«is_sheet» ≡ true → Named names′ more
-          → SoFar count names′ (after sheets new i) more (i + 1)
-      one-more l below-count loads is named =
+      pub one-more : length new ≡ sheetSize → length room ≡ roomSize → i < count → Loads room n slot new found → found .«is_sheet» ≡ true
+          → Named names′ more → SoFar count names′ (afterRoom rooms room i) (after sheets new i) (set got i n) more (i + 1)
+      one-more l wide below-count loads is named =
           record {
             named = named;
             room = same-len-mid (sheetSize * i) (sheetSize * i + sheetSize - sheetSize * i) sheets new (l ∙ sym part-long) ∙ so-far .room;
+            space = same-len-mid (roomSize * i) (roomSize * i + roomSize - roomSize * i) rooms room (wide ∙ sym room-long) ∙ so-far .space;
             counted = refl;
             most = omega arith;
             slots = length-set (files .converted) i (found .converted) ∙ so-far .slots;
+            counts = length-set got i n ∙ so-far .counts;
+            held = λ j h. few j (eqb j i) refl h;
             each = λ j h. by j (eqb j i) refl h;
           }
         where
           part-long : length (midOf (sheetSize * i) (sheetSize * i + sheetSize - sheetSize * i) sheets) ≡ sheetSize
           part-long = mid-len (sheetSize * i) (sheetSize * i + sheetSize) sheets within ∙ omega arith
 
-          placed : (file : List ℕ) × ((found, new) ≡ placing file slot)
+          room-long : length (midOf (roomSize * i) (roomSize * i + roomSize - roomSize * i) rooms) ≡ roomSize
+          room-long = mid-len (roomSize * i) (roomSize * i + roomSize) rooms inside ∙ omega arith
+
+          placed : (n ≤ length room) × ((found, new) ≡ placing (take n room) slot)
           placed = loads is
 
-          this : IsLoaded (after sheets new i) more i
+          read : getD (set got i n) i 0 ≡ n
+          read = getD-set-same got i n 0 (omega (arith, so-far .counts))
+
+          few : (j : ℕ) (b : Bool) → eqb j i ≡ b → j < i + 1 → getD (set got i n) j 0 ≤ roomSize
+          few j true e h = let same : j ≡ i = eqb-true j i e in rw (same, read) (omega (arith, wide, placed .0))
+          few j false e h =
+              let other = eqb-false j i e in
+              let earlier : j < i = omega arith in
+              rw (getD-set-other got i j n 0 other) (so-far .held j earlier)
+
+          this : IsLoaded (afterRoom rooms room i) (set got i n) (after sheets new i) more i
           this =
               let there = getD-set-same (files .converted) i (found .converted) false (omega (arith, so-far .slots)) in
               record {
-                file = placed .0;
                 slot = slot;
-                placed = rw (slot-new sheets new i within l, there)
+                placed = rw (slot-new sheets new i within l, there, read, room-new rooms room i inside n (placed .0))
                     (ap (λ (b : Bool). (record { «is_sheet» = b; converted = found .converted }, new)) (sym is) ∙ placed .1);
-                is-right = rw (slot-new sheets new i within l) (placed-right (placed .0) slot (placed .1) is);
+                is-right = rw (slot-new sheets new i within l) (placed-right (take n room) slot (placed .1) is);
               }
 
-          by : (j : ℕ) (b : Bool) → eqb j i ≡ b → j < i + 1 → IsLoaded (after sheets new i) more j
+          by : (j : ℕ) (b : Bool) → eqb j i ≡ b → j < i + 1 → IsLoaded (afterRoom rooms room i) (set got i n) (after sheets new i) more j
           by j true e h = rw (eqb-true j i e) this
           by j false e h =
               let other = eqb-false j i e in
-              let before : j < i = omega arith in
-              let old = kept sheets new i within before (so-far .each j before) in
+              let earlier : j < i = omega arith in
+              let old = kept j earlier in
               record {
-                file = old .file;
                 slot = old .slot;
-                placed = rw (getD-set-other (files .converted) i j (found .converted) false other) (old .placed);
+                placed = rw (getD-set-other (files .converted) i j (found .converted) false other, getD-set-other got i j n 0 other) (old .placed);
                 is-right = old .is-right;
               }
 

@@ -1,3 +1,3 @@
--- What the contracts of `season_report` cite.
+-- The definitions that contracts of `season_report` cite.
 pub mod Loaded
 pub mod Told

@@ -1,53 +1,61 @@
--- The sheets that the program loads from files. No contract can say what the system reads; these say what is made of the bytes. Assumes
--- nothing.
+-- The sheets that the program loads from files. No contract can say what the system reads. These definitions name the bytes that the program holds
+-- after it read, and say what it makes from them. Assumes nothing.
 -- The manual, docs/INTERFACE.md: "The season's report".
-use Prim.Native.Nat.{ℕ, _≤_, _<_}
+use Prim.Native.Nat.{ℕ, _+_, _*_, _≤_, _<_}
 use mathlib.Core.Bool.{true, false, cond}
 use mathlib.Core.List.{List}
 use mathlib.Core.Path.{_≡_}
 use lib.Dec.{eqb}
-use lib.ListN.{length, getD}
-use Rattle.ledger_sheet.specs.Sheet.{right}
+use lib.ListN.{length, getD, take}
+use Rattle.octets.specs.Octets.{part}
+use Rattle.ledger_sheet.specs.Sheet.{sheetSize, right}
 use Rattle.ledger_sheet.specs.Outcome.{Outcome}
 use Rattle.ledger_convert.specs.Old as Old
 use Rattle.ledger_convert.specs.Convert.{convertOn}
 use Rattle.ledger_season.specs.Report.{mostSheets}
 use Rattle.ledger_season.specs.Season.{sheetAt}
-use Rattle.season_page.specs.declared.Files.{Files}
+use Rattle.season_report_text.specs.declared.Files.{Files}
 use Rattle.season_report.specs.declared.Loaded.{Loaded}
 use Rattle.season_report.specs.declared.files.Found.{Found}
 
--- ---- one file, and the slot of a sheet
+-- ---- one file, and the slot for its sheet
 
 abbrev pub noSheet : Found
 noSheet = record { «is_sheet» = false; converted = false }
 
--- What the converter answers and leaves: a sheet where it is done.
+-- What the converter leaves. It is a sheet if the converter accepts.
 abbrev pub asConverted : Outcome → Found × List ℕ
 asConverted o = (record { «is_sheet» = eqb (getD (o .0) 0 0) 0; converted = true }, o .1)
 
--- The file itself, where it is as long as the slot: a sheet where it is right.
+-- The file itself, if it is as long as the slot. It is a sheet if it is right.
 abbrev pub asItStands : (file slot : List ℕ) → Found × List ℕ
 asItStands file slot = cond (eqb (length file) (length slot)) (record { «is_sheet» = right file; converted = false }, file) (noSheet, slot)
 
--- What the bytes of a file are found to be, and what the slot holds then. A file of an old sheet's length is converted.
+-- What the program decides about the bytes of a file, and the slot after it. It converts a file that has the length of an old sheet.
 unfoldable pub placing : (file slot : List ℕ) → Found × List ℕ
 placing file slot = cond (eqb (length file) Old.sheetSize) (asConverted (convertOn file slot)) (asItStands file slot)
 
--- Where a load finds a sheet, the slot holds what the bytes of a file make of it.
-abbrev pub Loads : (old new : List ℕ) → Found → Type 0
-Loads old new found = found .«is_sheet» ≡ true → (file : List ℕ) × ((found, new) ≡ placing file old)
+-- The room that a file is read into. It is longer than any sheet, so a file that fills it is no sheet.
+abbrev pub roomSize : ℕ
+roomSize = sheetSize + 1
 
--- ---- the files
+-- A load reads `got` bytes of a file into the room. If it finds a sheet, the slot holds what the program made from these bytes.
+abbrev pub Loads : (room : List ℕ) (got : ℕ) (old new : List ℕ) → Found → Type 0
+Loads room got old new found = found .«is_sheet» ≡ true → (got ≤ length room) × ((found, new) ≡ placing (take got room) old)
 
--- File i: what it was found to be is kept, and slot i of the sheets holds what its bytes made of it, a right sheet.
-pub record IsLoaded (sheets : List ℕ) (files : Files) (i : ℕ) : Type 0 where
-  pub file : List ℕ
+-- ---- all files
+
+-- The bytes that were read of file i: each file has a room of its own.
+abbrev pub fileAt : (rooms got : List ℕ) → ℕ → List ℕ
+fileAt rooms got i = part rooms (roomSize * i) (getD got i 0)
+
+-- File i: the program keeps what it was, and slot i of the sheets holds what the program made from the bytes that it read, which is a right sheet.
+pub record IsLoaded (rooms got sheets : List ℕ) (files : Files) (i : ℕ) : Type 0 where
   pub slot : List ℕ
-  pub placed : (record { «is_sheet» = true; converted = getD (files .converted) i false }, sheetAt sheets i) ≡ placing file slot
+  pub placed : (record { «is_sheet» = true; converted = getD (files .converted) i false }, sheetAt sheets i) ≡ placing (fileAt rooms got i) slot
   pub is-right : right (sheetAt sheets i) ≡ true
 
--- So many are loaded, and where all files were sheets, as many as there were.
-pub record LoadsAll (count : ℕ) (sheets : List ℕ) (r : Loaded) : Type 0 where
-  pub each : (i : ℕ) → i < r .files .count → IsLoaded sheets (r .files) i
+-- Each file that was loaded is as above. If all files were sheets, `count` files were loaded.
+pub record LoadsAll (count : ℕ) (rooms sheets : List ℕ) (r : Loaded) : Type 0 where
+  pub each : (i : ℕ) → i < r .files .count → IsLoaded rooms (r .got) sheets (r .files) i
   pub whole : r .ok ≡ true → count ≤ mostSheets → r .files .count ≡ count

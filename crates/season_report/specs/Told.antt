@@ -1,4 +1,4 @@
--- What the program tells of the sheets that it was given. Assumes nothing.
+-- What the program says about the sheets. Assumes nothing.
 use Prim.Native.Nat.{ℕ, _≤_}
 use mathlib.Core.List.{List}
 use mathlib.Core.Path.{_≡_}
@@ -7,12 +7,12 @@ use Rattle.text.specs.Text.{Puts}
 use Rattle.ledger_sheet.specs.declared.Answer.the-variants as A
 use Rattle.ledger_season.specs.Season.{season, Answers}
 use Rattle.ledger_season.specs.declared.SeasonReport.{SeasonReport}
-use Rattle.season_page.specs.declared.Files.{Files}
-use Rattle.season_page.specs.Page.{page}
+use Rattle.season_report_text.specs.declared.Files.{Files}
+use Rattle.season_report_text.specs.Page.{page}
 use Rattle.season_report.specs.declared.Told.{Told}
 use Rattle.season_report.specs.declared.Told.the-variants as T
 
--- The season is accepted, and the page of its report is laid out.
+-- The season is accepted, and the page of its report is written.
 pub record Paged (names sheets : List ℕ) (files : Files) (old new : List ℕ) (end : ℕ) : Type 0 where
   pub report : SeasonReport
   pub answers : Answers (season sheets) report
@@ -20,7 +20,7 @@ pub record Paged (names sheets : List ℕ) (files : Files) (old new : List ℕ) 
   pub puts : Puts old new 0 end (page names sheets files report)
   pub room : end ≤ length new
 
--- Or it is refused with 41, a key in two sheets, and nothing is laid out.
+-- The season is refused with 41, a key in two sheets, and nothing is written.
 pub record Unpaged (sheets old new : List ℕ) : Type 0 where
   pub twice : getD (season sheets) 0 0 ≡ 41
   pub kept : new ≡ old

@@ -1,4 +1,4 @@
-// The sheet in a file.
+// Loads the sheet of a file.
 use ledger_convert::old;
 use ledger_sheet::Answer;
 use ledger_sheet::right;
@@ -6,26 +6,25 @@ ghost use Prim.Native.Nat.{_≤_};
 ghost use mathlib.Core.Path.{_≡_};
 ghost use lib.Dec.{eqb};
 ghost use lib.ListN.{length, getD};
-ghost use Rattle.io.specs.Counts.{Counts};
 ghost use Rattle.ledger_sheet.specs.Words.{answerWords};
 ghost use Rattle.season_report.specs.Loaded.{noSheet, placing, Loads};
 
-// What a file was: a sheet, as it stands or converted, or none. (Public for the prover's sake.)
+// What a file was: a sheet, as it is or converted, or no sheet. (Public because the prover needs it.)
 pub struct Found {
     pub is_sheet: bool,
     pub converted: bool,
 }
 
-// The same with the length of the file's name.
-pub struct File {
+// What a file was, and how many of its bytes were read.
+pub struct Taken {
     pub found: Found,
-    pub size: usize,
+    pub got: usize,
 }
 
-// How many bytes came; or a read failed.
-struct Got {
-    count: usize,
-    failed: bool,
+// The same, and the length of the file's name.
+pub struct File {
+    pub taken: Taken,
+    pub size: usize,
 }
 
 fn no_sheet() -> Found
@@ -37,72 +36,55 @@ fn no_sheet() -> Found
     }
 }
 
-// Reads the file that argument i names into the slot, its name into the name's, and says what is wrong with one that is no sheet.
-pub(crate) fn load(i: usize, name: &mut [u8], slot: &mut [u8]) -> File
-    ensures { λ r. ⌜ (r .size ≤ length (now (name .entry))) × Loads (now (slot .entry)) (now (slot .exit)) (r .found) ⌝ }
+fn none_taken() -> Taken
+    ensures { λ r. ⌜ r .found ≡ noSheet ⌝ }
+{
+    Taken {
+        found: no_sheet(),
+        got: 0,
+    }
+}
+
+// Reads the file that argument i names into the room, its sheet into the slot, and its name into the name's slot. If it is no sheet, says what is wrong.
+pub(crate) fn load(i: usize, name: &mut [u8], room: &mut [u8], slot: &mut [u8]) -> File
+    ensures { λ r. ⌜ (r .size ≤ length (now (name .entry)))
+        × Loads (now (room .exit)) (r .taken .got) (now (slot .entry)) (now (slot .exit)) (r .taken .found) ⌝ }
 {
     let opened = arguments::open_at(i, name);
     let fd = opened.fd;
     let size = opened.size;
     if fd < 0 {
         return File {
-            found: no_sheet(),
+            taken: none_taken(),
             size,
         };
     }
-    let found = load_open(fd, &name[..size], slot);
+    let taken = load_open(fd, &name[..size], room, slot);
     libc::close(fd);
-    File { found, size }
+    File { taken, size }
 }
 
-fn load_open(fd: i32, name: &[u8], slot: &mut [u8]) -> Found
-    ensures { λ r. ⌜ Loads (now (slot .entry)) (now (slot .exit)) r ⌝ }
+// The room is longer than any sheet, so that a file that fills it is no sheet.
+fn load_open(fd: i32, name: &[u8], room: &mut [u8], slot: &mut [u8]) -> Taken
+    ensures { λ r. ⌜ Loads (now (room .exit)) (r .got) (now (slot .entry)) (now (slot .exit)) (r .found) ⌝ }
 {
-    let mut room = io::large_buffer();
-    let got = read_all(fd, &mut room);
-    if got.failed {
+    let piece = streaming::read_full(fd, room);
+    let said = piece.said;
+    if streaming::has_failed(said) {
         os::fail(name);
-        return no_sheet();
+        return none_taken();
     }
-    let n = got.count;
-    let found = place(&room[..n], slot);
+    let got = piece.got;
+    let file = &room[..got];
+    let found = place(file, slot);
     if !found.is_sheet {
         io::write_all(libc::STDERR_FILENO, name);
         io::write_all(libc::STDERR_FILENO, b": not a ledger sheet (20)\n");
     }
-    found
+    Taken { found, got }
 }
 
-// Reads until the file ends, a read fails or the room is full: no sheet is as long.
-fn read_all(fd: i32, room: &mut [u8]) -> Got
-    ensures { λ r. ⌜ Counts (r .count) (now (room .exit)) ⌝ }
-{
-    let mut have = 0;
-    while have < room.len() {
-        let part = &mut room[have..];
-        let count = libc::read(fd, part);
-        if count < 0 {
-            return Got {
-                count: have,
-                failed: true,
-            };
-        }
-        let got = io::count(count, part);
-        if got == 0 {
-            return Got {
-                count: have,
-                failed: false,
-            };
-        }
-        have += got;
-    }
-    Got {
-        count: have,
-        failed: false,
-    }
-}
-
-// Puts a sheet into the slot, converted where it has the length of an old one.
+// Puts a sheet into the slot. Converts it if it has the length of an old sheet.
 fn place(file: &[u8], slot: &mut [u8]) -> Found
     ensures { λ r. ⌜ (r, now (slot .exit)) ≡ placing (now (file .entry)) (now (slot .entry)) ⌝ }
 {

@@ -1,4 +1,4 @@
--- Adding changes no answer for an earlier day nor for another mission; what is added is given on its first day. Assumes nothing.
+-- Adding a setting changes no answer for an earlier day or another mission; and `ask` gives the setting on its first day. Assumes nothing.
 use Prim.Native.Nat.{ℕ, _<_, _^_}
 use native.Mathlib.Omega.{arith}
 use mathlib.Core.Bool.{Bool, true, false, and-false}

@@ -1,4 +1,4 @@
--- Right sheets are the layouts of well-formed lists of settings, both ways; and a refused call leaves every byte. Assumes nothing.
+-- Right sheets are exactly the layouts of well-formed lists of settings; and a refused call changes no byte. Assumes nothing.
 use Prim.Native.Nat.{ℕ}
 use mathlib.Core.Bool.{Bool, true, false}
 use mathlib.Core.List.{List, [], _∷_, _++_}

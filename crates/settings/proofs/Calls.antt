@@ -1,4 +1,4 @@
--- What the code does to a sheet is the model's call on the settings that the sheet holds, laid out again. Assumes nothing.
+-- What the code does to a sheet is the layout of the model's call on the settings in the sheet. Assumes nothing.
 use Prim.Native.Nat.{ℕ, _+_, _*_, _-_, _<_}
 use native.Mathlib.Omega.{arith}
 use mathlib.Core.Bool.{true, false}

@@ -1,4 +1,4 @@
--- A worked example: mission 7 has a setting from day 100 and one from day 200, added the other way round; mission 8 has one from day 150.
+-- A worked example: mission 7 has a setting from day 100 and one from day 200, the later one added first; mission 8 has one from day 150.
 -- Assumes nothing.
 use Prim.Native.Nat.{ℕ}
 use mathlib.Core.List.{List, [], _∷_}

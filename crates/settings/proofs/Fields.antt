@@ -1,5 +1,5 @@
--- Fields: read where they were laid out, laid out as they were read, and written one by one. Each law once, over the width. Assumes
--- nothing.
+-- Fields: reading one where it was written, the bytes of one that was read, and writing them one by one. Each law is stated once for any width.
+-- Assumes nothing.
 use Prim.Native.Nat.{ℕ, _+_, _^_, _<_, _≤_}
 use native.Mathlib.Omega.{arith}
 use mathlib.Core.List.{List, [], _∷_, _++_, append-assoc}

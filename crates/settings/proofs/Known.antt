@@ -1,4 +1,4 @@
--- What is found on a right sheet is of an edition that there is. Assumes nothing.
+-- A setting that is found on a right sheet has a known edition. Assumes nothing.
 use Prim.Native.Nat.{ℕ, zero, suc, _<_, suc-le-suc}
 use native.Mathlib.Nat.{zero-lt-suc}
 use mathlib.Core.Bool.{true}

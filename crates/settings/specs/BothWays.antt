@@ -1,4 +1,4 @@
--- Right sheets are the layouts of well-formed lists of settings, both ways; and a refused call leaves every byte. Assumes nothing.
+-- Right sheets are exactly the layouts of well-formed lists of settings. A refused call changes no byte. Assumes nothing.
 -- The manual, docs/INTERFACE.md: "Mission settings".
 use Prim.Native.Nat.{ℕ}
 use mathlib.Core.Bool.{true}
@@ -12,14 +12,14 @@ use Rattle.settings.specs.Sheet.{settingsOf, right}
 use Rattle.settings.specs.Layout.{layout, onSheet}
 
 pub record BothWays : Type 0 where
-  -- A right sheet holds a well-formed list of settings, and is that list laid out.
+  -- A right sheet holds a well-formed list of settings, and is that list's layout.
   pub holds-settings : (s : List ℕ) → AreBytes s → right s ≡ true → WellFormed (settingsOf s)
   pub is-its-layout : (s : List ℕ) → AreBytes s → right s ≡ true → layout (settingsOf s) ≡ s
-  -- A well-formed list laid out is a right sheet, and holds that list.
+  -- The layout of a well-formed list is a right sheet, and holds that list.
   pub is-right : (xs : List Setting) → WellFormed xs → right (layout xs) ≡ true
   pub holds-them : (xs : List Setting) → WellFormed xs → settingsOf (layout xs) ≡ xs
 
--- A refused `add` leaves all bytes as they were, and `ask` does whatever it answers: of every slice of bytes.
+-- A refused `add` changes no byte, and `ask` never changes one. This holds of every slice of bytes.
 pub record LeavesBytes : Type 0 where
   pub refused-add : (mission edition day frame : ℕ) (s : List ℕ) → AreBytes s → onSheet (add mission edition day frame) s .0 ≢ 0 ∷ []
       → onSheet (add mission edition day frame) s .1 ≡ s

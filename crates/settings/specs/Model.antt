@@ -1,4 +1,4 @@
--- Document 02, Req 14, "Mission agreements": the settings as a list in order of adding, and the calls on it. Assumes nothing.
+-- Document 02, Req 14, "Mission agreements": the settings as a list in the order of adding, and the calls on it. Assumes nothing.
 -- The manual, docs/INTERFACE.md: "Mission settings".
 use Prim.Native.Nat.{ℕ, _≤_, _<_, _^_}
 use mathlib.Core.Bool.{Bool, true, false, not, cond, _&&_, _||_}
@@ -11,15 +11,15 @@ use Rattle.settings.specs.declared.Setting.{Setting}
 use Rattle.settings.specs.declared.Found.{Found}
 use Rattle.settings.specs.declared.Found.the-variants.{Nothing, Latest}
 
--- The most settings of a sheet.
+-- How many settings a sheet has room for.
 abbrev pub places : ℕ
 places = 64
 
--- The editions: the old one is 1, the new one 2.
+-- The editions: 1 is old, 2 is new.
 abbrev pub known : (edition : ℕ) → Bool
 known edition = eqb edition 1 || eqb edition 2
 
--- ---- a mission has one setting for a first day
+-- ---- a mission has at most one setting for a first day
 
 abbrev pub isOf : (mission day : ℕ) → Setting → Bool
 isOf mission day x = eqb (x .mission) mission && eqb (x .day) day
@@ -32,13 +32,13 @@ unfoldable pub different : List Setting → Bool
 different [] = true
 different (x ∷ xs) = not (holds (x .mission) (x .day) xs) && different xs
 
--- ---- the setting for a day: of those that began by then, the one that began last
+-- ---- the setting in force on a day: the latest that began on or before it
 
 abbrev pub isLater : Found → (day : ℕ) → Bool
 isLater Nothing day = true
 isLater (Latest y) day = ltb (y .day) day
 
--- Of the latest so far and one more setting.
+-- The better of the best so far and one more setting.
 unfoldable pub picked : (mission day : ℕ) → Found → Setting → Found
 picked mission day best x = cond (eqb (x .mission) mission && leb (x .day) day && isLater best (x .day)) (Latest x) best
 
@@ -49,23 +49,23 @@ latestFrom mission day best (x ∷ xs) = latestFrom mission day (picked mission 
 abbrev pub latest : (mission day : ℕ) → List Setting → Found
 latest mission day xs = latestFrom mission day Nothing xs
 
--- ---- the calls: the answer's words, and the settings as they are left
+-- ---- the calls: the words of the answer, and the settings after the call
 
 abbrev pub Outcome : Type 0
 Outcome = List ℕ × List Setting
 
--- 44 for an edition that there is not, 45 where the mission has a setting for that day, 46 where no place is left.
+-- 44: no such edition. 45: the mission has a setting for that first day. 46: no place is left.
 abbrev pub addRules : (mission edition day : ℕ) → List Setting → List (Rule ℕ)
 addRules mission edition day xs =
     (44 when not (known edition)) ∷ (45 when holds mission day xs) ∷ (46 when eqb (length xs) places) ∷ []
 
--- Added behind the others, whatever its day.
+-- Adds the setting at the end of the list.
 unfoldable pub add : (mission edition day frame : ℕ) → List Setting → Outcome
 add mission edition day frame xs =
     judge (λ n. (n ∷ [], xs)) (addRules mission edition day xs)
     (0 ∷ [], xs ++ (record { mission = mission; edition = edition; day = day; frame = frame } ∷ []))
 
--- 47 where none of the mission's settings began by then.
+-- 47: no setting of the mission began on or before the day.
 abbrev pub isMissing : Found → Bool
 isMissing Nothing = true
 isMissing (Latest x) = false
@@ -84,9 +84,9 @@ foundWords found = judge (λ n. n ∷ []) (askRules found) (0 ∷ settingWords f
 unfoldable pub ask : (mission day : ℕ) → List Setting → Outcome
 ask mission day xs = (foundWords (latest mission day xs), xs)
 
--- ---- the lists that the calls make
+-- ---- well-formed lists: what the calls make
 
--- What a setting's fields hold.
+-- The fields of a setting have allowed values.
 pub record Fine (x : Setting) : Type 0 where
   pub mission-fits : x .mission < 256 ^ 1
   pub edition-known : known (x .edition) ≡ true

@@ -1,4 +1,4 @@
--- What the tests of a label's tags say of read one's rules, whatever is made of what they give. Assumes nothing.
+-- What the tests of a label's tags say of the rules of read one, for any function that is applied to what they give. Assumes nothing.
 use Prim.Native.Nat.{ℕ, _≤_}
 use native.Mathlib.Omega.{arith}
 use mathlib.Core.Bool.{Bool, true, false, not, cond}

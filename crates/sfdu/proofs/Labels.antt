@@ -1,4 +1,4 @@
--- What follows from what a check of fields found: any list of rules made of its rules goes the same way. Assumes nothing.
+-- What follows from the result of a check of fields, for any list of rules that is made from its rules. Assumes nothing.
 use Prim.Native.Nat.{ℕ}
 use mathlib.Core.List.{List, [], _∷_, _++_}
 use mathlib.Core.Path.{_≡_, ap, _∙_}

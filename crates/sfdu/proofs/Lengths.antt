@@ -1,4 +1,4 @@
--- The label's length as read one and whole size judge it: n is the length that was read. Assumes nothing.
+-- The label's length, as read one and whole size test it; n is the length that was read. Assumes nothing.
 use Prim.Native.Nat.{ℕ, _+_, _≤_, _<_}
 use native.Mathlib.Omega.{arith}
 use mathlib.Core.Bool.{Bool, true, false, _&&_}

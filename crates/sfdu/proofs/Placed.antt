@@ -1,4 +1,4 @@
--- How the offsets and lengths of a kind hang together: one record of facts that holds for both kinds. Assumes nothing.
+-- Relations between the offsets and lengths of a kind: one record of facts that holds for both kinds. Assumes nothing.
 use Prim.Native.Nat.{_+_, _-_, _≤_}
 use mathlib.Core.Path.{_≡_, refl}
 use lib.Dec.{lit≤}

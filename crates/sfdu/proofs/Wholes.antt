@@ -1,4 +1,4 @@
--- A tag and a block's label as one word; the blocks' rules as one test. Assumes nothing.
+-- A tag and a block's label as one number; and the blocks' rules as one test. Assumes nothing.
 use Prim.Native.Nat.{ℕ, _+_, _-_, _*_, _≤_, _<_}
 use native.Mathlib.Omega.{arith}
 use mathlib.Core.Bool.{Bool, true, false, not, cond, _&&_}
@@ -18,7 +18,7 @@ use Rattle.sfdu.specs.Nesting.{
   kindAt,
   tagSize,
   labelSize,
-  wordSize,
+  blockFieldSize,
   aggregationAt,
   primaryAt,
   secondaryAt,
@@ -38,16 +38,16 @@ use Rattle.sfdu.specs.inner.Checked.{isLabel}
 
 -- ---- a label
 
-pub label-word : (s : List ℕ) → Bytes s → (at type size found : ℕ) → found ≡ numberAt s at 4 → size ≤ mostData
+pub label-number : (s : List ℕ) → Bytes s → (at type size found : ℕ) → found ≡ numberAt s at 4 → size ≤ mostData
     → eqb found (type * 65536 + size) ≡ isLabel s at type size
 unfolding blockType blockLength
-label-word s bytes at type size found word small = by (eqb (blockType s at) type) (eqb (blockLength s at) size) refl refl
+label-number s bytes at type size found word small = by (eqb (blockType s at) type) (eqb (blockLength s at) size) refl refl
   where
     parts : found ≡ blockType s at * 65536 + blockLength s at
     parts = word ∙ number-join s at 2 2
 
     low : blockLength s at < 65536
-    low = number-lt s (at + wordSize) 2 bytes
+    low = number-lt s (at + blockFieldSize) 2 bytes
 
     by : (a b : Bool) → eqb (blockType s at) type ≡ a → eqb (blockLength s at) size ≡ b → eqb found (type * 65536 + size) ≡ a && b
     by true true t l =

@@ -1,4 +1,4 @@
--- The number that goes with a refusal is a place in the slice, or its end. Assumes nothing.
+-- A refusal's second number is a place in the slice, or its end. Assumes nothing.
 use Prim.Native.Nat.{ℕ, _≤_}
 use native.Mathlib.Omega.{arith}
 use mathlib.Core.List.{List, [], _∷_}

@@ -1,28 +1,29 @@
--- Document 01, "How a record nests": where the parts of a record stand, and the fixed values in them. Offsets count from the
--- record's start; N is the record's length. Assumes nothing.
+-- Document 01, "How a record nests": the offsets of a record's parts, and their fixed values. Offsets count from the record's start. N is the
+-- record's length in bytes. Assumes nothing.
 -- The manual, docs/INTERFACE.md: "Records".
 use Prim.Native.Nat.{ℕ}
-use mathlib.Core.List.{List, [], _∷_}
+use mathlib.Core.List.{List}
+use Rattle.octets.specs.Ascii.{ascii}
 use Rattle.sfdu.specs.declared.Kind.{Kind}
 use Rattle.sfdu.specs.declared.Kind.the-variants.{Telemetry, Rsr}
 
--- The kinds: 1 telemetry, 2 RSR.
+-- The number of each kind.
 abbrev pub kindNumber : Kind → ℕ
 kindNumber Telemetry = 1
 kindNumber Rsr = 2
 
 -- ---- the label, bytes 0 to 19
 
--- Bytes 0 to 3 spell NJPL, 4 to 7 2I00, 8 to 11 the kind: 0800 or C997. Bytes 12 to 19 hold N - 20.
+-- The label begins with three tags, at bytes 0 to 3, 4 to 7 and 8 to 11. Bytes 12 to 19 hold N - 20.
 abbrev pub authority : List ℕ
-authority = 78 ∷ 74 ∷ 80 ∷ 76 ∷ []
+authority = ascii "NJPL"
 
 abbrev pub versionClass : List ℕ
-versionClass = 50 ∷ 73 ∷ 48 ∷ 48 ∷ []
+versionClass = ascii "2I00"
 
 abbrev pub kindBytes : Kind → List ℕ
-kindBytes Telemetry = 48 ∷ 56 ∷ 48 ∷ 48 ∷ []
-kindBytes Rsr = 67 ∷ 57 ∷ 57 ∷ 55 ∷ []
+kindBytes Telemetry = ascii "0800"
+kindBytes Rsr = ascii "C997"
 
 abbrev pub authorityAt : ℕ
 authorityAt = 0
@@ -33,7 +34,7 @@ versionClassAt = 4
 abbrev pub kindAt : ℕ
 kindAt = 8
 
--- The width of each of these three.
+-- The size in bytes of each of these three.
 abbrev pub tagSize : ℕ
 tagSize = 4
 
@@ -46,10 +47,10 @@ lengthSize = 8
 abbrev pub labelSize : ℕ
 labelSize = 20
 
--- ---- the blocks: each has a label of 2 bytes type and 2 bytes length, and then its value
+-- ---- the blocks: each has a label, which is two bytes of type and two bytes of length, and then its value
 
-abbrev pub wordSize : ℕ
-wordSize = 2
+abbrev pub blockFieldSize : ℕ
+blockFieldSize = 2
 
 abbrev pub blockLabelSize : ℕ
 blockLabelSize = 4
@@ -102,11 +103,11 @@ secondaryType Rsr = 104
 abbrev pub dataType : ℕ
 dataType = 10
 
--- The most that the 16 bits of a data block's length hold.
+-- The longest data value that the 16 bits of its length can state.
 abbrev pub mostData : ℕ
 mostData = 65535
 
--- The range of the label's length: from headers with no data to headers with the most.
+-- The least and the greatest length in a label: a record with no data, and one with the most data.
 abbrev pub leastLabelLength : Kind → ℕ
 leastLabelLength Telemetry = 100
 leastLabelLength Rsr = 240

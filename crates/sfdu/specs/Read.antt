@@ -1,5 +1,4 @@
--- Document 01, "Calls on records" and "Refusal numbers" 1 to 11, with document 02, Req 05: the first record of a lent slice s. Assumes
--- nothing.
+-- Document 01, "Calls on records" and "Refusal numbers" 1 to 11, and document 02, Req 05: the first record of a lent slice s. Assumes nothing.
 -- The manual, docs/INTERFACE.md: "Calls on records".
 use mathlib.Core.Path.{_≡_}
 use Prim.Native.Nat.{ℕ, _+_, _-_}
@@ -28,7 +27,7 @@ use Rattle.sfdu.specs.Nesting.{
   lengthAt,
   lengthSize,
   labelSize,
-  wordSize,
+  blockFieldSize,
   aggregationAt,
   primaryAt,
   primaryValueAt,
@@ -47,12 +46,12 @@ use Rattle.sfdu.specs.Nesting.{
   mostLabelLength,
 }
 
--- ---- what the answers of the calls say
+-- ---- the words of the answers
 
 abbrev pub primaryWords : Primary → List ℕ
 primaryWords p = p .major ∷ p .minor ∷ p .mission ∷ p .format ∷ []
 
--- A refusal: its number, and the number that goes with it.
+-- A refusal: its number and its second number.
 abbrev pub faultWords : Fault → List ℕ
 faultWords f = numberOf (f .refusal) ∷ f .at ∷ []
 
@@ -65,36 +64,36 @@ wordsOf (Refused f) = faultWords f
 abbrev pub DifferentReads : Type 0
 DifferentReads = (a b : Read) → wordsOf a ≡ wordsOf b → a ≡ b
 
--- ---- the parts of a slice that its label speaks of
+-- ---- the parts of the label
 
 unfoldable pub hasKind : Kind → List ℕ → Bool
 hasKind k s = sameAt s kindAt (kindBytes k) 0 tagSize
 
--- The kind in bytes 8 to 11, where it is one of the two.
+-- The kind that bytes 8 to 11 spell, if they spell one of the two.
 unfoldable pub kindOf : List ℕ → Kind
 kindOf s = cond (hasKind Telemetry s) Telemetry Rsr
 
 unfoldable pub labelLength : List ℕ → ℕ
 labelLength s = numberAt s lengthAt lengthSize
 
--- N
+-- The length N of the record.
 unfoldable pub recordLength : List ℕ → ℕ
 recordLength s = labelSize + labelLength s
 
--- The block at an offset: its type and its length.
+-- The type and the length of the block at index `at`.
 unfoldable pub blockType : List ℕ → ℕ → ℕ
-blockType s at = numberAt s at wordSize
+blockType s at = numberAt s at blockFieldSize
 
 unfoldable pub blockLength : List ℕ → ℕ → ℕ
-blockLength s at = numberAt s (at + wordSize) wordSize
+blockLength s at = numberAt s (at + blockFieldSize) blockFieldSize
 
--- ---- the refusals, in the table's order
+-- ---- the refusals, in the order of the table
 
 unfoldable pub lengthInRange : Kind → List ℕ → Bool
 lengthInRange k s = leb (leastLabelLength k) (labelLength s) && leb (labelLength s) (mostLabelLength k)
 
--- Each rule is "n giving m when ..": refusal n, with the offset m of the first byte of the field that is wrong; of 1 and 6 m is the
--- number of bytes that were there.
+-- "n giving m when c": refusal n, with second number m. For refusals 1 and 6, m is how many bytes the slice has. For others, m is the offset of the
+-- first byte of the wrong field.
 infix 45 _giving_
 abbrev pub _giving_ : ℕ → ℕ → List ℕ
 n giving m = n ∷ m ∷ []
@@ -118,9 +117,9 @@ cutRule s = 6 giving length s when ltb (length s) (recordLength s)
 abbrev pub lengthRules : Kind → List ℕ → List (Rule (List ℕ))
 lengthRules k s = rangeRule k s ∷ cutRule s ∷ []
 
--- A block's label, its type and then its length. Each field's offset, given when it is wrong.
+-- The offset of the first wrong field of a block's label: its type, then its length.
 abbrev pub typeAndLength : List ℕ → (at type size : ℕ) → List (Rule ℕ)
-typeAndLength s at type size = (at when not (eqb (blockType s at) type)) ∷ ((at + wordSize) when not (eqb (blockLength s at) size)) ∷ []
+typeAndLength s at type size = (at when not (eqb (blockType s at) type)) ∷ ((at + blockFieldSize) when not (eqb (blockLength s at) size)) ∷ []
 
 abbrev pub blockRules : (n : ℕ) → List ℕ → (at type size : ℕ) → List (Rule (List ℕ))
 blockRules n s at type size = each (λ field. n giving field) (typeAndLength s at type size)
@@ -133,18 +132,17 @@ headerRules k s =
 abbrev pub dataRules : Kind → List ℕ → List (Rule (List ℕ))
 dataRules k s =
     (10 giving dataAt k when not (eqb (blockType s (dataAt k)) dataType))
-    ∷ (11 giving (dataAt k + wordSize) when not (eqb (blockLength s (dataAt k)) (recordLength s - dataValueAt k)))
+    ∷ (11 giving (dataAt k + blockFieldSize) when not (eqb (blockLength s (dataAt k)) (recordLength s - dataValueAt k)))
     ∷ []
 
 abbrev pub readRules : List ℕ → List (Rule (List ℕ))
 readRules s = labelRules s ++ lengthRules (kindOf s) s ++ headerRules (kindOf s) s ++ dataRules (kindOf s) s
 
--- 1 and 6 give a count of bytes.
+-- 1 and 6 give a count of bytes as second number.
 unfoldable pub isCount : ℕ → Bool
 isCount n = eqb n 1 || eqb n 6
 
--- The refusal of the record at a place of a stream: an offset is counted from the stream's start; the byte counts that go with 1 and 6
--- stay.
+-- The refusal of the record at a place of a stream. Its offset counts from the stream's start; the byte counts of 1 and 6 do not change.
 unfoldable pub inStream : (place : ℕ) → List ℕ → List ℕ
 inStream place [] = []
 inStream place (n ∷ []) = n ∷ []
@@ -165,7 +163,7 @@ recordWords k s = 0 ∷ kindNumber k ∷ recordLength s ∷ primaryOf s
 unfoldable pub readOne : List ℕ → List ℕ
 readOne s = answered (readRules s) (recordWords (kindOf s) s)
 
--- The part calls: where the part starts and how long it is; the empty part at the slice's start where read one refuses.
+-- The part calls: where the part starts, and its bytes. If read one refuses, the empty part at the slice's start.
 unfoldable pub secondaryStart : List ℕ → ℕ
 secondaryStart s = cond (accepts s) secondaryValueAt 0
 

@@ -1,4 +1,4 @@
-// The tests of labels: the record's, and those of its blocks.
+// Tests of labels: the record's and its blocks'.
 ghost use mathlib.Core.Bool.{_&&_};
 ghost use mathlib.Core.Path.{_≡_};
 ghost use Prim.Native.Nat.{_+_, _≤_};
@@ -51,7 +51,7 @@ pub(crate) fn has_version_class(s: &[u8]) -> bool
     )
 }
 
-// The length in the label: that of the record past the label.
+// The length that the label states: how many bytes of the record follow the label.
 pub(crate) fn label_length(s: &[u8]) -> u64
     requires { ⌜ labelSize ≤ length (now s) ⌝ }
     ensures { λ r. ⌜ r ≡ labelLength (now (s .entry)) ⌝ }
@@ -67,7 +67,7 @@ pub(crate) fn length_in_range(after: u64, kind: Kind) -> bool
     (least <= after) & (after <= most)
 }
 
-// Whether the block at an offset has this type and this length.
+// Whether the block at index `at` has this type and this length.
 pub(crate) fn is_label(s: &[u8], at: usize, class: u64, size: u64) -> bool
     requires { ⌜ (at + blockLabelSize ≤ length (now s)) × (class ≤ mostData) × (size ≤ mostData) ⌝ }
     ensures { λ r. ⌜ r ≡ isLabel (now (s .entry)) at class size ⌝ }

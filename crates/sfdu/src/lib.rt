@@ -1,4 +1,4 @@
-// One record: its label, its nested blocks and its parts, for telemetry and for the radio science receiver (RSR).
+// One record: its label, its blocks and its parts. It is a telemetry record or one of the radio science receiver (RSR).
 mod label;
 pub mod nesting;
 mod reader;
@@ -22,20 +22,20 @@ pub struct Primary {
     pub format: u8,
 }
 
-// A refusal, and the number that goes with it: the offset from the record's start of the first byte of the field that is wrong; for
-// `TooShort` and `Truncated` the number of bytes that were there.
+// A refusal and its second number. For `TooShort` and `Truncated` that is how many bytes the slice has. For others it is the offset, from the
+// record's start, of the first byte of the wrong field.
 pub struct Fault {
     pub refusal: refusals::Refusal,
     pub at: usize,
 }
 
-// What a check of fields finds: all are right, or else the offset of the first byte of the first that is wrong.
+// What a check of a block's label finds: both fields are right, or the offset of the first wrong one.
 pub enum Checked {
     Right,
     Wrong(usize),
 }
 
-// What reading one record finds: its kind, its length in bytes (document 01's N) and its primary value.
+// The answer of read one: the record's kind, its length in bytes (document 01's N) and its primary value.
 pub enum Read {
     Record {
         kind: Kind,

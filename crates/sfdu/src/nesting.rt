@@ -1,14 +1,14 @@
-// Where the parts of a record stand. Document 01, "How a record nests".
+// The offsets of a record's parts (document 01, "How a record nests").
 ghost use mathlib.Core.Path.{_≡_};
 ghost use Rattle.sfdu.specs.Nesting.{kindNumber, kindBytes, secondaryLength, secondaryType, dataAt, dataValueAt, aggregationLength, leastLabelLength};
 use crate::Kind;
 
-// The numbers that name the kinds in calls and answers.
+// The numbers of the kinds in calls and answers.
 pub const TELEMETRY_NUMBER: u32 = 1;
 
 pub const RSR_NUMBER: u32 = 2;
 
-// The label: three tags of four bytes, and the length of what follows it.
+// The label: three tags of four bytes, then how many bytes follow the label.
 pub const AUTHORITY_AT: usize = 0;
 
 pub const VERSION_CLASS_AT: usize = 4;
@@ -31,7 +31,7 @@ pub const LENGTH: usize = 8;
 
 pub const LABEL: usize = 20;
 
-// The blocks: a label of a type and a length, two bytes each, and then the value.
+// A block: a label with a type and a length of two bytes each, then the value.
 pub const WORD: usize = 2;
 
 pub const BLOCK_LABEL: usize = 4;
@@ -56,7 +56,7 @@ pub const DATA_TYPE: u64 = 10;
 
 pub const MOST_DATA: usize = 65535;
 
-// The secondary block of each kind.
+// The length and type of each kind's secondary block.
 const TELEMETRY_SECONDARY: usize = 80;
 
 const RSR_SECONDARY: usize = 220;
@@ -74,12 +74,12 @@ pub fn kind_number(kind: Kind) -> u32
     }
 }
 
-// What the label spells for each kind, as a word: 0800 and C997.
+// The label's tag for each kind, as a number: 0800 and C997.
 pub const TELEMETRY_TAG: u32 = 808988720;
 
 pub const RSR_TAG: u32 = 1127823671;
 
-// What the label spells for the kind.
+// The label's tag for the kind, as bytes.
 pub fn kind_tag(kind: Kind) -> [u8; TAG]
     ensures { λ r. ⌜ r ≡ kindBytes kind ⌝ }
 {
@@ -107,7 +107,7 @@ pub fn secondary_type(kind: Kind) -> u64
     }
 }
 
-// The data block, behind the secondary one, and its value.
+// The data block follows the secondary block.
 pub fn data_at(kind: Kind) -> usize
     ensures { λ r. ⌜ r ≡ dataAt kind ⌝ }
 {
@@ -120,17 +120,17 @@ pub fn data_value_at(kind: Kind) -> usize
     data_at(kind) + BLOCK_LABEL
 }
 
-// Of an RSR record, for whoever reads no other.
+// The same for RSR records alone.
 pub const RSR_DATA_VALUE_AT: usize = SECONDARY_VALUE_AT + RSR_SECONDARY + BLOCK_LABEL;
 
-// The aggregation's value: the primary and the secondary block.
+// The length of the aggregation's value: the primary and the secondary block.
 pub fn aggregation_length(kind: Kind) -> u64
     ensures { λ r. ⌜ r ≡ aggregationLength kind ⌝ }
 {
     (data_at(kind) - PRIMARY_AT) as u64
 }
 
-// The length in the label of a record with no data.
+// The length that the label of a record with no data states.
 pub fn least_label_length(kind: Kind) -> u64
     ensures { λ r. ⌜ r ≡ leastLabelLength kind ⌝ }
 {

@@ -1,4 +1,4 @@
-// Read one: the checks in the order of document 01's refusal table, and the two parts.
+// Read one, with its tests in the order of document 01's refusal table, and the two part calls.
 ghost use denote.Ref.{ptr};
 ghost use mathlib.Core.List.{[], _∷_, _++_};
 ghost use mathlib.Core.Path.{_≡_};
@@ -53,8 +53,8 @@ use crate::nesting;
 use octets::numbers;
 use refusals::Refusal;
 
-// The first record of a slice; what stands after it does not matter. Each kind has a call of its own: LLVM makes a chain of tests for
-// each, in which the kind's offsets and lengths are constants.
+// Reads the first record of a slice; bytes after it do not matter. Each kind has its own call of `read_length`, so LLVM compiles one chain of tests
+// per kind, with the kind's offsets and lengths as constants.
 pub fn read_one(s: &[u8]) -> Read
     ensures { λ r. ⌜ wordsOf r ≡ readOne (now (s .entry)) ⌝ }
 {
@@ -83,7 +83,7 @@ fn refused(refusal: Refusal, at: usize) -> Read
     Read::Refused(Fault { refusal, at })
 }
 
-// The refusals from the label's length on.
+// Tests from the label's length on.
 fn read_length(s: &[u8], kind: Kind) -> Read
     requires { ⌜ labelSize ≤ length (now s) ⌝ }
     ensures { λ r. ⌜ wordsOf r ≡ answered (lengthRules kind (now (s .entry)) ++ headerRules kind (now (s .entry))
@@ -100,7 +100,7 @@ fn read_length(s: &[u8], kind: Kind) -> Read
     read_blocks(s, kind, size)
 }
 
-// The refusals from the aggregation's label on, of a record that is `size` bytes long and lent whole.
+// Tests from the aggregation's label on. The record is `size` bytes long, and all of them are lent.
 fn read_blocks(s: &[u8], kind: Kind, size: usize) -> Read
     requires { ⌜ (size ≡ recordLength (now s)) × (dataValueAt kind ≤ size) × (size ≤ length (now s)) ⌝ }
     ensures { λ r. ⌜ wordsOf r ≡ answered (headerRules kind (now (s .entry)) ++ dataRules kind (now (s .entry))) (recordWords kind (now (s .entry))) ⌝ }
@@ -156,7 +156,7 @@ fn judge_secondary(s: &[u8], kind: Kind) -> Checked
     )
 }
 
-// The first field of the label of the block at an offset that is not this type and this length. A right label is one test.
+// Tests the label of the block at index `at` against a type and a length. A right label takes one comparison.
 fn judge_label(s: &[u8], at: usize, class: u64, size: u64) -> Checked
     requires { ⌜ (at + blockLabelSize ≤ length (now s)) × (class ≤ mostData) × (size ≤ mostData) ⌝ }
     ensures { λ r. ⌜ r ≡ checked (typeAndLength (now (s .entry)) at class size) ⌝ }
@@ -178,7 +178,7 @@ fn block_length(s: &[u8], at: usize) -> u64
     numbers::read_u16(s, at + nesting::WORD) as u64
 }
 
-// The refusals from the data block's label on, and the record where there is none.
+// Tests the data block's label. If it is right, the answer is the record.
 fn read_data(s: &[u8], kind: Kind, size: usize) -> Read
     requires { ⌜ (size ≡ recordLength (now s)) × (dataValueAt kind ≤ size) × (size ≤ length (now s)) ⌝ }
     ensures { λ r. ⌜ wordsOf r ≡ answered (dataRules kind (now (s .entry))) (recordWords kind (now (s .entry))) ⌝ }
@@ -197,7 +197,6 @@ fn read_data(s: &[u8], kind: Kind, size: usize) -> Read
     }
 }
 
-// The value of the primary block.
 fn read_primary(s: &[u8]) -> Primary
     requires { ⌜ secondaryAt ≤ length (now s) ⌝ }
     ensures { λ r. ⌜ primaryWords r ≡ primaryOf (now (s .entry)) ⌝ }
@@ -225,7 +224,7 @@ fn has_data_length(s: &[u8], kind: Kind, size: usize) -> bool
     block_length(s, nesting::data_at(kind)) == rest as u64
 }
 
-// The value of the secondary block, that very part of the slice; the empty part at its start where read one refuses.
+// The value of the secondary block: that part of the slice itself. If read one refuses, the empty part at its start.
 pub fn secondary_part(s: &[u8]) -> &[u8]
     ensures { λ r. ⌜ (now r ≡ secondaryPart (now (s .entry))) × (ptr r .0 ≡ ptr (s .entry) .0)
         × (ptr r .1 ≡ ptr (s .entry) .1 + secondaryStart (now (s .entry))) ⌝ }
@@ -244,7 +243,7 @@ pub fn secondary_part(s: &[u8]) -> &[u8]
     }
 }
 
-// The value of the data block, that very part of the slice; the empty part at its start where read one refuses.
+// The value of the data block: that part of the slice itself. If read one refuses, the empty part at its start.
 pub fn data_part(s: &[u8]) -> &[u8]
     ensures { λ r. ⌜ (now r ≡ dataPart (now (s .entry))) × (ptr r .0 ≡ ptr (s .entry) .0) × (ptr r .1 ≡ ptr (s .entry) .1 + dataStart (now (s .entry))) ⌝ }
 {

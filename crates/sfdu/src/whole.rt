@@ -1,5 +1,5 @@
-// How long the record at the start of a slice is, where read one accepts it: all that a walk asks of a record, and asked of each. A tag
-// and a block's label are each one word, and each kind is judged by itself, its offsets and lengths constants.
+// The length of the record at the start of a slice. It is all that a walk needs, and a walk asks it of each record, so it is quick: a tag and a
+// block's label are each compared as one number, and each kind has its own tests with constant offsets and lengths.
 ghost use mathlib.Core.Bool.{cond};
 ghost use mathlib.Core.List.{_++_};
 ghost use mathlib.Core.Path.{_≡_};
@@ -26,7 +26,7 @@ use crate::label;
 use crate::nesting;
 use octets::numbers;
 
-// 0 where read one refuses.
+// The length of the record; 0 if read one refuses it.
 pub fn whole_size(s: &[u8]) -> usize
     ensures { λ r. ⌜ r ≡ wholeSize (now (s .entry)) ⌝ }
 {
@@ -68,7 +68,7 @@ fn size_as(s: &[u8], kind: Kind) -> usize
     0
 }
 
-// Whether each block has its label, of a record that is `size` bytes long and lent whole.
+// Whether each block has the right label. The record is `size` bytes long, and all of them are lent.
 fn has_blocks(s: &[u8], kind: Kind, size: usize) -> bool
     requires { ⌜ (size ≡ recordLength (now s)) × (dataValueAt kind ≤ size) × (size ≤ dataValueAt kind + mostData) × (size ≤ length (now s)) ⌝ }
     ensures { λ r. ⌜ r ≡ noneApplies (headerRules kind (now (s .entry)) ++ dataRules kind (now (s .entry))) ⌝ }

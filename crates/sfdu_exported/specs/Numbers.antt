@@ -1,4 +1,4 @@
--- The numbers of a host's answer, in the order of a walk's words. Assumes nothing.
+-- The numbers of an exported answer, in the order of a walk's words. Assumes nothing.
 use Prim.Native.Nat.{ℕ}
 use mathlib.Core.List.{List, [], _∷_}
 use Rattle.sfdu_exported.specs.declared.Answer.{Answer}

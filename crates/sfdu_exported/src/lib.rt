@@ -1,5 +1,5 @@
-// Calls that no script has, for a host, their answers in numbers: the walk, the number lists and the table of entries, the room for them, the
-// table of new years. `reference/table` compares them.
+// Calls that scripts do not have, exported with answers in numbers: the walk, the number lists, the table of entries, how long lists must be, and the
+// table of new years. `reference/table` compares them with the reference.
 ghost use mathlib.Core.Path.{_≡_};
 ghost use Rattle.sfdu_stream.specs.Walk.{wordsOf};
 ghost use Rattle.sfdu_stream.specs.Listing.{walked, listNumbers, listEntries};
@@ -11,10 +11,10 @@ use sfdu_stream::Entry;
 use sfdu_stream::Stop;
 use sfdu_stream::Walked;
 
-// The entries of the table of new years.
+// How many entries the table of new years has.
 const YEARS: usize = 1101;
 
-// The count, the stop place, the stop number and the number that goes with it.
+// How many records, the stop place, the stop number and its second number.
 #[repr(C)]
 pub struct Answer {
     pub count: usize,
@@ -93,7 +93,7 @@ pub extern "C" fn rt_most_rsr_records(bytes: usize) -> usize
     sfdu_stream::most_rsr_records(bytes)
 }
 
-// Entry i of the table of new years, and 0 past its end.
+// Entry i of the table of new years; 0 past its end.
 #[no_mangle]
 pub extern "C" fn rt_new_year(i: usize) -> u32
     ensures { λ r. ⌜ r ≡ newYearAt i ⌝ }

@@ -1,4 +1,4 @@
--- The gain by a mission's agreement is the gain for the edition that asking answers. Assumes nothing.
+-- The gain by a mission's agreement is the gain for the edition that `ask` answers. Assumes nothing.
 use Prim.Native.Nat.{ℕ}
 use mathlib.Core.Bool.{Bool, true, false}
 use mathlib.Core.List.{List, [], _∷_, map}

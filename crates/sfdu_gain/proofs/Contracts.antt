@@ -1,5 +1,5 @@
--- The claim is of the functions' contracts: `agreed_gain` asks nothing of a caller, and what it learns (`Learnt`, made from its `ensures`) is
--- what the claim speaks of. `a` is the arguments, sheet and record; r the answer. Assumes nothing.
+-- The claim holds of the functions' contracts: `agreed_gain` requires nothing of a caller, and what the caller learns (`Learnt`, made from its
+-- `ensures`) is what the claim uses. `a` is the arguments, sheet and record; r is the answer. Assumes nothing.
 use mathlib.Core.Path.{_≡_}
 use Rattle.laws.proofs.Keeps.{Keeps}
 use Rattle.settings.specs.declared.Asked.{Asked}

@@ -1,4 +1,4 @@
--- The gain by a mission's agreement is the gain for the edition that asking answers. Assumes nothing.
+-- The gain by a mission's agreement is the gain for the edition that `ask` answers. Assumes nothing.
 -- The manual, docs/INTERFACE.md: "The gain multiplier".
 use Prim.Native.Nat.{ℕ}
 use mathlib.Core.Bool.{cond}
@@ -20,20 +20,20 @@ use Rattle.sfdu_gain.specs.declared.GainAnswer.{GainAnswer}
 use Rattle.sfdu_gain.specs.declared.GainAnswer.the-variants.{Refused}
 use Rattle.sfdu_gain.specs.Gain.{wordsOf, gaining, agreedGain}
 
--- What asking the sheet answers for the record's mission on its day: 0, edition, first day, frame length; or a refusal's number.
+-- The answer of `ask` for the record's mission on its day: 0, edition, first day, frame length; or a refusal's number.
 abbrev pub askedFor : (sheet s : List ℕ) → List ℕ
 askedFor sheet s = onSheet (ask (mission s) (dayCount (year s) (day s))) sheet .0
 
--- The gain for the edition in these words; a refusal as it is.
+-- The gain for the edition in these words; if they are a refusal, that refusal.
 abbrev pub gainFor : (asked s : List ℕ) → List Word
 gainFor asked s = cond (eqb (getD asked 0 0) 0) (gaining (getD asked 1 0) s) (map number asked)
 
--- For every sheet and every record: read headers' refusals, then asking's, 43 and 47, then the gain.
+-- For every sheet and every record: the refusals of read headers come first, then those of `ask` (43 and 47), then the gain.
 abbrev pub AgreedIsGain : Type 0
 AgreedIsGain = (sheet s : List ℕ) → agreedGain sheet s ≡ judge (map number) (rsrRules s) (gainFor (askedFor sheet s) s)
 
--- The same of answers. Where asking gave a setting, the answer is the one of `gain` for its edition, refusals too. Where asking was
--- refused, it is that refusal, unless read headers' come first.
+-- The same as a statement about answers. If `ask` gives a setting, the answer is that of `gain` for its edition. If `ask` refuses, the answer is that
+-- refusal, but the refusals of read headers come first.
 abbrev pub Agrees : List ℕ → Asked → GainAnswer → Type 0
 Agrees s (Given edition first frame) r = (g : GainAnswer) → wordsOf g ≡ gaining edition s → r ≡ g
 Agrees s (RefusedAsked why) r = wordsOf r ≡ judge (map number) (rsrRules s) (wordsOf (Refused why))

@@ -1,5 +1,5 @@
--- Document 02, Req 14, the gain multiplier: four bytes that the old edition of the RSR record reserves, with twelve more, at the end of the
--- secondary block. Assumes nothing.
+-- Document 02, Req 14: the gain multiplier of an RSR record. It has four of the 16 bytes at the end of the secondary block that the old edition
+-- reserves. Assumes nothing.
 -- The manual, docs/INTERFACE.md: "The gain multiplier".
 use mathlib.Core.Path.{_≡_}
 use Prim.Native.Nat.{ℕ}
@@ -30,16 +30,15 @@ wordsOf (Refused r) = map number (only (numberOf r))
 abbrev pub DifferentGains : Type 0
 DifferentGains = (a b : GainAnswer) → wordsOf a ≡ wordsOf b → a ≡ b
 
--- Document 004, section 1.2: of the 16 reserved bytes at the secondary block's end 12 are left. Section 3.5: the multiplier is bytes 208 to 211,
--- the first of the 16.
+-- Document 004, section 1.2: 12 of the 16 bytes stay reserved. Section 3.5: the multiplier is bytes 208 to 211, the first four of the 16.
 abbrev pub multiplier : List ℕ → ℕ
 multiplier s = fieldAt s 208 4
 
--- The old edition has none.
+-- The old edition has no multiplier.
 abbrev pub gainOf : (edition : ℕ) → List ℕ → Word
 gainOf edition s = cond (eqb edition 2) (number (multiplier s)) none
 
--- Read headers' refusals, then 44.
+-- The refusals of read headers, then 44.
 abbrev pub gainRules : (edition : ℕ) → List ℕ → List (Rule (List ℕ))
 gainRules edition s = rsrRules s ++ (only 44 when not (known edition)) ∷ []
 
@@ -48,7 +47,7 @@ gaining edition s = judge (map number) (gainRules edition s) (number 0 ∷ gainO
 
 -- ---- by the mission's agreement
 
--- The setting for the record's mission on its day.
+-- The setting in force for the record's mission on its day.
 abbrev pub agreed : (sheet s : List ℕ) → Found
 agreed sheet s = latest (mission s) (dayCount (year s) (day s)) (settingsOf sheet)
 
@@ -56,7 +55,7 @@ abbrev pub editionOf : Found → ℕ
 editionOf Nothing = 0
 editionOf (Latest x) = x .edition
 
--- Read headers' refusals, then those of asking: 43, 47.
+-- The refusals of `ask`: 43, 47. They follow those of read headers.
 abbrev pub askedRules : (sheet s : List ℕ) → List (Rule (List ℕ))
 askedRules sheet s = (only 43 when not (right sheet)) ∷ (only 47 when isMissing (agreed sheet s)) ∷ []
 

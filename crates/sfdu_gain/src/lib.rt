@@ -1,5 +1,5 @@
-// The sub-channel gain multiplier of an RSR record (document 02, Req 14): for an edition, and for the edition that the mission's
-// agreement has on the record's day.
+// The sub-channel gain multiplier of an RSR record (document 02, Req 14): `gain` takes the edition from the caller, `agreed_gain` from the mission's
+// agreement for the record's day.
 ghost use mathlib.Core.Path.{_≡_};
 ghost use mathlib.Core.List.{[], _∷_};
 ghost use Prim.Native.Nat.{_≤_};
@@ -16,8 +16,7 @@ use sfdu::Fault;
 use sfdu::nesting;
 use sfdu_headers::rsr_record::Rsr;
 
-// The multiplier's four bytes as one number; none in the old edition; or a refusal, read headers' 1 to 12 with the number that goes
-// with them.
+// The multiplier's four bytes as one number; Nothing in the old edition; or a refusal. `Header` is a refusal 1 to 12 of read headers, with its second number.
 pub enum GainAnswer {
     Multiplier(u32),
     Nothing,
@@ -25,7 +24,7 @@ pub enum GainAnswer {
     Refused(Refusal),
 }
 
-// Where it stands, from the record's start.
+// The offset of the multiplier from the record's start.
 const GAIN_AT: usize = nesting::SECONDARY_AT + 208;
 
 pub fn gain(s: &[u8], edition: u32) -> GainAnswer
@@ -48,7 +47,7 @@ pub fn gain(s: &[u8], edition: u32) -> GainAnswer
     }
 }
 
-// With the edition of the setting for the record's mission on its day.
+// The gain for the edition of the setting in force for the record's mission on its day.
 pub fn agreed_gain(sheet: &[u8], s: &[u8]) -> GainAnswer
     ensures { λ r. ⌜ wordsOf r ≡ agreedGain (now (sheet .entry)) (now (s .entry)) ⌝ }
 {
@@ -78,7 +77,7 @@ fn told_gain(s: &[u8], asked: Asked) -> GainAnswer
     }
 }
 
-// Of a whole RSR record, in an edition that there is.
+// The gain of a whole RSR record in a known edition.
 fn gain_in(s: &[u8], edition: u32) -> GainAnswer
     requires { ⌜ dataValueAt RsrKind ≤ length (now s) ⌝ }
     ensures { λ r. ⌜ wordsOf r ≡ number 0 ∷ gainOf edition (now (s .entry)) ∷ [] ⌝ }

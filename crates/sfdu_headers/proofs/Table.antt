@@ -15,14 +15,14 @@ use Rattle.sfdu.specs.inner.Checked.{checked}
 use Rattle.octets.specs.Octets.{all}
 use Rattle.octets.proofs.Laws.{all-at}
 use Rattle.sfdu_headers.specs.declared.Allowed.the-variants.{Between}
-use Rattle.sfdu_headers.specs.declared.Judged.{Judged}
+use Rattle.sfdu_headers.specs.declared.ByteRule.{ByteRule}
 use Rattle.sfdu_headers.specs.Ranges.{inRange, judgedBytes, byteRule, byteRules}
 
 abbrev pub entries : ℕ
 entries = 10
 
 -- What stands past the table's end.
-abbrev noField : Judged
+abbrev noField : ByteRule
 noField = record { at = 0; allowed = Between 0 0 }
 
 -- What is left to judge from entry i on.
@@ -43,7 +43,7 @@ length-judged = refl
 
 -- Entry i of a table that is the specification's: a byte out of range decides, one in range leaves it to the next entry; every
 -- entry lies before the year.
-module _ (table : List Judged) (same : table ≡ judgedBytes) (i : ℕ) (h : i < entries) where
+module _ (table : List ByteRule) (same : table ≡ judgedBytes) (i : ℕ) (h : i < entries) where
   pub fault-here : (s : List ℕ) → inRange (getD table i noField .allowed) (getD s (getD table i noField .at) 0) ≡ false
       → faultFrom s i ≡ Wrong (getD table i noField .at)
   unfolding faultFrom judge

@@ -1,5 +1,5 @@
--- Document 01, "Telemetry secondary" and "RSR secondary": where the fields stand. Offsets count from the secondary block's start,
--- as the paper gives them. s is a record. Assumes nothing.
+-- Document 01, "Telemetry secondary" and "RSR secondary": the fields of a record s. Offsets count from the start of the secondary block, as in the
+-- paper. Assumes nothing.
 -- The manual, docs/INTERFACE.md: "Telemetry fields", "RSR fields".
 use Prim.Native.Nat.{ℕ, _+_, _*_, _%_}
 use mathlib.Core.Bool.{Bool, cond}
@@ -21,7 +21,7 @@ fieldAt s at width = numberAt s (secondaryAt + at) width
 
 -- ---- telemetry
 
--- Ten bits: two of byte 6, its lowest, above the eight of byte 7.
+-- Ten bits: the lowest two of byte 6, then the eight of byte 7.
 abbrev pub spacecraft : List ℕ → ℕ
 spacecraft s = byteAt s 6 % 4 * 256 + byteAt s 7
 
@@ -31,7 +31,7 @@ source s = byteAt s 10
 abbrev pub received : List ℕ → ℕ
 received s = fieldAt s 14 8
 
--- Document 000, section 1.5.4, of the same eight bytes: days from 1 January 1958, milliseconds of the day, extended resolution.
+-- Document 000, section 1.5.4: the parts of these eight bytes are days from 1 January 1958, milliseconds of the day, extended resolution.
 abbrev pub receivedDays : List ℕ → ℕ
 receivedDays s = fieldAt s 14 2
 
@@ -47,11 +47,11 @@ uplinkAt = 26
 abbrev pub uplink : List ℕ → ℕ
 uplink s = byteAt s uplinkAt
 
--- Two bits of byte 28, its lowest.
+-- The lowest two bits of byte 28.
 abbrev pub predictsMode : List ℕ → ℕ
 predictsMode s = byteAt s 28 % 4
 
--- There is a band in modes 2 and 3 alone.
+-- Only modes 2 and 3 have a band.
 abbrev pub hasBand : List ℕ → Bool
 hasBand s = leb 2 (predictsMode s)
 
@@ -158,7 +158,7 @@ frequency s = fieldAt s 64 8
 
 -- ---- both
 
--- The record number: 22 to 25 for telemetry, 8 and 9 for RSR.
+-- The record number: bytes 22 to 25 for telemetry, 8 and 9 for RSR.
 unfoldable pub recordNumber : Kind → List ℕ → ℕ
 recordNumber Telemetry s = fieldAt s 22 4
 recordNumber Rsr s = fieldAt s 8 2

@@ -60,7 +60,7 @@ use Rattle.sfdu_headers.specs.Fields.{
 }
 use Rattle.sfdu_headers.specs.Ranges.{fieldRules}
 
--- ---- what an answer says: each case's number and values, in the paper's order
+-- ---- the words of an answer: the number and values of each case, in the order of the paper
 
 abbrev pub bandWord : Band → Word
 bandWord (Letter b) = number b
@@ -95,7 +95,7 @@ timeWords f = number (f .year) ∷ number (f .day) ∷ number (f .frequency) ∷
 abbrev pub receivedWords : ReceivedTime → List Word
 receivedWords f = number (f .days) ∷ number (f .milliseconds) ∷ number (f .extended) ∷ []
 
--- What document 02 adds (Req 01) stands last, behind the key.
+-- Values that document 02 adds (Req 01) stand last, after the key.
 abbrev pub accepted : Kind → (size : ℕ) (primary : List ℕ) (fields : List Word) (key : ℕ) (added : List Word) → List Word
 accepted k size primary fields key added =
     number 0 ∷ number (kindNumber k) ∷ number size ∷ map number primary ++ fields ++ number key ∷ added
@@ -153,7 +153,7 @@ abbrev pub keyOf : Kind → List ℕ → ℕ
 keyOf Telemetry s = telemetryKey (spacecraft s) (source s) (equipment s) (virtualStream s)
 keyOf Rsr s = rsrKey (rsrSpacecraft s) (station s) (receiver s) (subchannel s)
 
--- Document 02, Req 01: the received time in its three parts, not judged; the day count of the ADC reading.
+-- Document 02, Req 01: the received time in its three parts, which no call tests; the day count of the ADC reading.
 abbrev pub addedOf : Kind → List ℕ → List Word
 addedOf Telemetry s = number (receivedDays s) ∷ number (receivedMilliseconds s) ∷ number (receivedExtended s) ∷ []
 addedOf Rsr s = number (dayCount (year s) (day s)) ∷ []
@@ -163,11 +163,11 @@ addedOf Rsr s = number (dayCount (year s) (day s)) ∷ []
 abbrev pub acceptedFields : Kind → List ℕ → List Word
 acceptedFields k s = accepted k (recordLength s) (primaryOf s) (fieldsOf k s) (keyOf k s) (addedOf k s)
 
--- 12, judged last: the offset of the lowest field out of range; else the fields.
+-- 12 is tested last: it gives the offset of the lowest field that is out of range. Else the answer is the fields.
 abbrev pub judgedFields : Kind → List ℕ → List Word
 judgedFields k s = judge outOfRange (fieldRules k s) (acceptedFields k s)
 
--- Read one's refusals, then 15, then 12.
+-- The refusals of read one, then 15, then 12.
 unfoldable pub readHeaders : (wanted : ℕ) → List ℕ → List Word
 readHeaders wanted s =
     judge (map number) (readRules s)

@@ -1,4 +1,4 @@
--- The key that read headers gives, beside the key calls. Assumes nothing.
+-- The key that read headers gives is the one that the key calls make. Assumes nothing.
 -- The manual, docs/INTERFACE.md: "Stream key".
 use Prim.Native.Nat.{ℕ, _<_}
 use mathlib.Core.Bool.{true}
@@ -17,11 +17,11 @@ abbrev pub streamOf : Kind → List ℕ → Stream
 streamOf Telemetry s = telemetry (spacecraft s) (source s) (equipment s) (virtualStream s)
 streamOf Rsr s = rsr (rsrSpacecraft s) (station s) (receiver s) (subchannel s)
 
--- The key is what the key call of its kind answers for those fields, and it is valid.
+-- The key is what the kind's key call answers for those fields, and it is valid.
 pub record KeyRight (k : Kind) (s : List ℕ) : Type 0 where
   pub made : keyCall (streamOf k s) ≡ 0 ∷ keyOf k s ∷ []
   pub valid : validKey (keyOf k s) ≡ true
 
--- Of any bytes.
+-- This holds of any bytes.
 abbrev pub EveryKey : Type 0
 EveryKey = (k : Kind) (s : List ℕ) → ((i : ℕ) → getD s i 0 < 256) → KeyRight k s

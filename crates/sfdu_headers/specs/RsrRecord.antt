@@ -1,5 +1,5 @@
--- Document 02, Req 08 and Req 14: what every call on an RSR record is refused for first, read headers' refusals for kind 2 with the
--- numbers that go with them (Req 05), as one list of rules. Assumes nothing.
+-- Document 02, Req 08 and Req 14: the refusals that every call on an RSR record tests first. They are those of read headers for kind 2, with their
+-- second numbers (Req 05), as one list of rules. Assumes nothing.
 -- The manual, docs/INTERFACE.md: "Calls on records".
 use Prim.Native.Nat.{ℕ, _+_}
 use mathlib.Core.Bool.{not}
@@ -21,23 +21,23 @@ use Rattle.sfdu_headers.specs.Headers.{acceptedFields, readHeaders}
 use Rattle.sfdu_headers.specs.declared.rsr_record.Rsr.{Rsr}
 use Rattle.sfdu_headers.specs.declared.rsr_record.Rsr.the-variants.{Record, Refused, WrongKind}
 
--- A refusal with which no other number goes.
+-- A refusal without a second number.
 abbrev pub only : ℕ → List ℕ
 only n = n ∷ []
 
--- 15, then 12 with the offset of the lowest field out of range.
+-- 15, then 12 with the offset of the lowest field that is out of range.
 abbrev pub kindRules : List ℕ → List (Rule (List ℕ))
 kindRules s = (only 15 when not (eqb (kindNumber RsrKind) (kindNumber (kindOf s)))) ∷ each (λ at. 12 giving at) (fieldRules RsrKind s)
 
--- Read one's refusals, then these.
+-- The refusals of read one, then these.
 abbrev pub rsrRules : List ℕ → List (Rule (List ℕ))
 rsrRules s = readRules s ++ kindRules s
 
--- These are the refusals of read headers, and where none is given it accepts.
+-- These are exactly the refusals of read headers: if none holds, it accepts.
 abbrev pub HeadersRefuse : Type 0
 HeadersRefuse = (s : List ℕ) → readHeaders (kindNumber RsrKind) s ≡ judge (map number) (rsrRules s) (acceptedFields RsrKind s)
 
--- The third byte of the primary value.
+-- The mission is the third byte of the primary value.
 abbrev pub mission : List ℕ → ℕ
 mission s = getD s (primaryValueAt + 2) 0
 

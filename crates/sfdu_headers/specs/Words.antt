@@ -1,4 +1,4 @@
--- The words of an answer: numbers, a signed number, and none, which no number is. Assumes nothing.
+-- The words of an answer: a number, a signed number, or none, which differs from every number. Assumes nothing.
 use Prim.Native.Nat.{ℕ}
 use lib.IntN.{ℤ}
 

@@ -2,3 +2,4 @@ pub mod Dated
 pub mod Parts
 pub mod Fault
 pub mod Numbers
+pub mod Streams

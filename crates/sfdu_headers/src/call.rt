@@ -1,16 +1,21 @@
 // Read headers, for a wanted kind.
 ghost use mathlib.Core.Path.{_≡_};
+ghost use Prim.Native.Nat.{_≤_};
+ghost use lib.ListN.{length};
+ghost use Rattle.sfdu.specs.Nesting.{dataValueAt};
 ghost use Rattle.sfdu_headers.specs.Headers.{wordsOf, readHeaders};
 ghost use Rattle.sfdu_headers.specs.inner.Numbers.{numberIn};
+ghost use Rattle.sfdu_headers.specs.inner.Streams.{streamKeyIn};
 use crate::Headers;
+use crate::StreamKey;
 use crate::rsr;
 use crate::telemetry;
 use sfdu::Kind;
 use sfdu::Read;
 use sfdu::nesting;
 
-// The headers of the first record of a slice, where it is of the wanted kind. Each kind returns its own answer: where the two
-// meet first, LLVM copies every field.
+// The headers of the first record of a slice, if it is of the wanted kind. Each kind returns its own answer: if both went through one variable, LLVM
+// would copy every field.
 pub fn read_headers(s: &[u8], wanted: u32) -> Headers
     ensures { λ r. ⌜ wordsOf r ≡ readHeaders wanted (now (s .entry)) ⌝ }
 {
@@ -33,7 +38,7 @@ pub fn read_headers(s: &[u8], wanted: u32) -> Headers
     }
 }
 
-// The record number of a record of that kind; 0 where the slice is too short for one.
+// The record number of a record of this kind; 0 if the slice is too short for one.
 pub fn record_number(s: &[u8], kind: Kind) -> u32
     ensures { λ r. ⌜ r ≡ numberIn kind (now (s .entry)) ⌝ }
 {
@@ -43,5 +48,16 @@ pub fn record_number(s: &[u8], kind: Kind) -> u32
     match kind {
         Kind::Telemetry => telemetry::number(s),
         Kind::Rsr => rsr::number(s) as u32,
+    }
+}
+
+// The stream key of a record that is known to be whole. Its blocks are not tested again.
+pub fn stream_key(s: &[u8], kind: Kind) -> StreamKey
+    requires { ⌜ dataValueAt kind ≤ length (now s) ⌝ }
+    ensures { λ r. ⌜ r ≡ streamKeyIn kind (now (s .entry)) ⌝ }
+{
+    match kind {
+        Kind::Telemetry => telemetry::stream_key(s),
+        Kind::Rsr => rsr::stream_key(s),
     }
 }

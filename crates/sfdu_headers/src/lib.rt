@@ -1,4 +1,4 @@
-// The header fields of a record, for both kinds, and its stream key.
+// The header fields of a record of either kind, and its stream key.
 mod bands;
 mod call;
 mod rsr;
@@ -7,11 +7,12 @@ mod telemetry;
 
 pub use call::read_headers;
 pub use call::record_number;
+pub use call::stream_key;
 use sfdu::Checked;
 use sfdu::Fault;
 use sfdu::Primary;
 
-// The uplink band of a telemetry record; none where the predicts mode says that it means nothing.
+// The uplink band of a telemetry record; unused if the predicts mode has no band.
 pub enum Band {
     Letter(u8),
     Unused,
@@ -29,7 +30,7 @@ pub struct TelemetryFields {
     pub equipment: u16,
 }
 
-// Where an RSR record comes from.
+// The source of an RSR record.
 pub struct RsrSource {
     pub software: u16,
     pub number: u16,
@@ -41,7 +42,7 @@ pub struct RsrSource {
     pub pass: u16,
 }
 
-// The signal that an RSR record holds.
+// The signal in an RSR record.
 pub struct RsrSignal {
     pub uplink: u8,
     pub downlink: u8,
@@ -62,33 +63,39 @@ pub struct RsrReading {
     pub frequency: u64,
 }
 
-// A telemetry record's received time: days from 1 January 1958, milliseconds of the day, extended resolution. None is judged.
+// A telemetry record's received time: days from 1 January 1958, milliseconds of the day, extended resolution. No call tests them.
 pub struct ReceivedTime {
     pub days: u16,
     pub milliseconds: u32,
     pub extended: u16,
 }
 
-// What is wrong with an RSR record's year and day; where nothing is, their day count. (Public for the prover's sake.)
+// Whether an RSR record's year and day are right; if they are, their day count. (Public because the prover needs it.)
 pub struct Dated {
     pub checked: Checked,
     pub count: u32,
 }
 
-// Which bytes a judged field may hold. (Public for the prover's sake.)
+// The values that a tested byte may have. (Public because the prover needs it.)
 pub enum Allowed {
     Between(u8, u8),
     Bands,
 }
 
-// A judged field of one byte: its offset from the record's start, and what it may hold. (Public for the prover's sake.)
-pub struct Judged {
+// A byte that is tested: its offset from the record's start, and the values it may have. (Public because the prover needs it.)
+pub struct ByteRule {
     pub at: usize,
     pub allowed: Allowed,
 }
 
-// What reading the headers of a record finds: its length, its primary value, its fields, its stream key, and the received time or the
-// day count; or a refusal, with the offset or the count that goes with it; or that it is of the other kind.
+// The stream key of a record; none if a field of its header is out of range.
+pub enum StreamKey {
+    Key(u64),
+    OutOfRange,
+}
+
+// The answer of read headers: the record's length, its primary value, its fields, its stream key, and the received time or the day count; or a
+// refusal with its second number; or that the record is of the other kind.
 pub enum Headers {
     Telemetry {
         size: usize,

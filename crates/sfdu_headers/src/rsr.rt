@@ -10,6 +10,7 @@ ghost use Rattle.sfdu.specs.Read.{primaryWords, primaryOf, recordLength};
 ghost use Rattle.sfdu.specs.inner.Checked.{checked};
 ghost use Rattle.dates.specs.Calendar.{isYear};
 ghost use Rattle.sfdu_headers.specs.inner.Dated.{IsDated};
+ghost use Rattle.sfdu_headers.specs.inner.Streams.{streamKeyIn};
 ghost use Rattle.sfdu_headers.specs.Fields.{recordNumber, signedByte, yearAt, dayAt};
 ghost use Rattle.sfdu_headers.specs.Headers.{
   wordsOf,
@@ -36,7 +37,7 @@ use sfdu::Fault;
 use sfdu::Primary;
 use sfdu::nesting;
 
-// Where the fields stand, from the record's start.
+// The offsets of the fields from the record's start.
 const SOFTWARE_AT: usize = nesting::SECONDARY_AT + 6;
 
 const NUMBER_AT: usize = nesting::SECONDARY_AT + 8;
@@ -79,51 +80,51 @@ const DAY_AT: usize = nesting::SECONDARY_AT + 30;
 
 const FREQUENCY_AT: usize = nesting::SECONDARY_AT + 64;
 
-// The judged bytes, from the lowest.
-const JUDGED: [headers::Judged; 10] = [
-    headers::Judged {
+// The bytes that are tested, lowest first.
+const BYTE_RULES: [headers::ByteRule; 10] = [
+    headers::ByteRule {
         at: nesting::PRIMARY_VALUE_AT,
         allowed: headers::Allowed::Between(21, 21),
     },
-    headers::Judged {
+    headers::ByteRule {
         at: nesting::PRIMARY_VALUE_AT + 1,
         allowed: headers::Allowed::Between(4, 4),
     },
-    headers::Judged {
+    headers::ByteRule {
         at: nesting::PRIMARY_VALUE_AT + 3,
         allowed: headers::Allowed::Between(0, 0),
     },
-    headers::Judged {
+    headers::ByteRule {
         at: UPLINK_AT,
         allowed: headers::Allowed::Bands,
     },
-    headers::Judged {
+    headers::ByteRule {
         at: DOWNLINK_AT,
         allowed: headers::Allowed::Bands,
     },
-    headers::Judged {
+    headers::ByteRule {
         at: MODE_AT,
         allowed: headers::Allowed::Between(1, 3),
     },
-    headers::Judged {
+    headers::ByteRule {
         at: BANDWIDTH_AT,
         allowed: headers::Allowed::Between(1, 127),
     },
-    headers::Judged {
+    headers::ByteRule {
         at: ATTENUATION_AT,
         allowed: headers::Allowed::Between(0, 63),
     },
-    headers::Judged {
+    headers::ByteRule {
         at: RMS_AT,
         allowed: headers::Allowed::Between(0, 128),
     },
-    headers::Judged {
+    headers::ByteRule {
         at: PEAK_AT,
         allowed: headers::Allowed::Between(0, 128),
     },
 ];
 
-// The fields, the key and the day count of a whole RSR record, or the offset of the lowest field out of range.
+// The fields, the key and the day count of a whole RSR record; or the offset of the lowest field that is out of range.
 pub(crate) fn fields(s: &[u8], size: usize, primary: Primary) -> headers::Headers
     requires { ⌜ (size ≡ recordLength (now s)) × (primaryWords primary ≡ primaryOf (now s)) × (dataValueAt Rsr ≤ length (now s)) ⌝ }
     ensures { λ r. ⌜ wordsOf r ≡ judgedFields Rsr (now (s .entry)) ⌝ }
@@ -138,6 +139,28 @@ pub(crate) fn fields(s: &[u8], size: usize, primary: Primary) -> headers::Header
         return out_of_range(at);
     }
     read_fields(s, size, primary, dated.count)
+}
+
+// The stream key, if no field is out of range.
+pub(crate) fn stream_key(s: &[u8]) -> headers::StreamKey
+    requires { ⌜ dataValueAt Rsr ≤ length (now s) ⌝ }
+    ensures { λ r. ⌜ r ≡ streamKeyIn Rsr (now (s .entry)) ⌝ }
+{
+    let bytes = byte_fault(s);
+    if let Checked::Wrong(_) = bytes {
+        return headers::StreamKey::OutOfRange;
+    }
+    let dated = read_date(s);
+    let date = dated.checked;
+    if let Checked::Wrong(_) = date {
+        return headers::StreamKey::OutOfRange;
+    }
+    headers::StreamKey::Key(keys::rsr_key_of(
+        s[SPACECRAFT_AT],
+        s[STATION_AT],
+        s[RECEIVER_AT],
+        s[SUBCHANNEL_AT],
+    ))
 }
 
 fn out_of_range(at: usize) -> headers::Headers
@@ -174,13 +197,12 @@ fn read_fields(s: &[u8], size: usize, primary: Primary, count: u32) -> headers::
     }
 }
 
-// The lowest judged byte out of range. The table is made once, before the loop: LLVM then unrolls the loop, and each entry is a
-// constant.
+// The lowest tested byte that is out of range. The table is a local before the loop, so LLVM unrolls the loop and each entry is a constant.
 fn byte_fault(s: &[u8]) -> Checked
     requires { ⌜ dataValueAt Rsr ≤ length (now s) ⌝ }
     ensures { λ r. ⌜ r ≡ checked (byteRules (now (s .entry))) ⌝ }
 {
-    let table = JUDGED;
+    let table = BYTE_RULES;
     for i in 0..table.len() {
         let field = table[i];
         let at = field.at;
@@ -221,7 +243,7 @@ fn read_date(s: &[u8]) -> headers::Dated
     }
 }
 
-// Where a year and a day are no date: the year's offset, or the day's where the year is one.
+// The offset of the wrong field, if a year and a day are no date: the year's, or the day's if the year is right.
 fn wrong_date_at(year: u16) -> usize
     ensures { λ r. ⌜ r ≡ cond (isYear year) (secondaryAt + dayAt) (secondaryAt + yearAt) ⌝ }
 {
@@ -273,7 +295,7 @@ fn read_signal(s: &[u8]) -> headers::RsrSignal
     }
 }
 
-// A byte in two's complement.
+// A byte as a number in two's complement.
 fn signed(b: u8) -> i8
     ensures { λ r. ⌜ r ≡ signedByte b ⌝ }
 {

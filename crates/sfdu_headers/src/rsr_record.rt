@@ -1,4 +1,4 @@
-// An RSR record as the calls on one see it: read headers' refusals for that kind come first, and then what those calls need of it.
+// What unpack and gain need of an RSR record. The refusals of read headers for kind 2 come first.
 ghost use mathlib.Core.Path.{_≡_};
 ghost use Rattle.sfdu_headers.specs.RsrRecord.{wordsOf, readRsr};
 use crate::Headers;
@@ -36,7 +36,7 @@ pub fn read_rsr(s: &[u8]) -> Rsr
         },
         Headers::Refused(f) => Rsr::Refused(f),
         Headers::WrongKind => Rsr::WrongKind,
-        // Never, where kind 2 is wanted.
+        // Cannot happen: the caller wants kind 2.
         Headers::Telemetry {
             size: _,
             primary: _,

@@ -11,10 +11,12 @@ ghost use Rattle.sfdu_headers.specs.Fields.{recordNumber, spacecraft, ha
 ghost use Rattle.sfdu_headers.specs.Headers.{wordsOf, judgedFields, telemetryFieldWords, fieldsOf, bandWord, receivedWords};
 ghost use Rattle.sfdu_headers.specs.inner.Parts.{extendedValues, millisecondValues};
 ghost use Rattle.sfdu_headers.specs.inner.Fault.{fault};
+ghost use Rattle.sfdu_headers.specs.inner.Streams.{streamKeyIn};
 ghost use Rattle.sfdu_headers.specs.Words.{number, none};
 use crate::Band;
 use crate::Headers;
 use crate::ReceivedTime;
+use crate::StreamKey;
 use crate::TelemetryFields;
 use crate::bands;
 use octets::numbers;
@@ -24,7 +26,7 @@ use sfdu::Fault;
 use sfdu::Primary;
 use sfdu::nesting;
 
-// Where the fields stand, from the record's start.
+// The offsets of the fields from the record's start.
 const SPACECRAFT_AT: usize = nesting::SECONDARY_AT + 6;
 
 const SOURCE_AT: usize = nesting::SECONDARY_AT + 10;
@@ -46,7 +48,7 @@ const STREAM_AT: usize = nesting::SECONDARY_AT + 30;
 
 const EQUIPMENT_AT: usize = nesting::SECONDARY_AT + 74;
 
-// The fields and the key of a whole telemetry record, or the offset of the band where that is out of range.
+// The fields and the key of a whole telemetry record; or the offset of the band, if it is out of range.
 pub(crate) fn fields(s: &[u8], size: usize, primary: Primary) -> Headers
     requires { ⌜ (size ≡ recordLength (now s)) × (primaryWords primary ≡ primaryOf (now s)) × (dataValueAt Telemetry ≤ length (now s)) ⌝ }
     ensures { λ r. ⌜ wordsOf r ≡ judgedFields Telemetry (now (s .entry)) ⌝ }
@@ -75,7 +77,20 @@ pub(crate) fn fields(s: &[u8], size: usize, primary: Primary) -> Headers
     }
 }
 
-// The band's offset where it means something and is no band, else that all is right.
+// The stream key, if the band is in range.
+pub(crate) fn stream_key(s: &[u8]) -> StreamKey
+    requires { ⌜ dataValueAt Telemetry ≤ length (now s) ⌝ }
+    ensures { λ r. ⌜ r ≡ streamKeyIn Telemetry (now (s .entry)) ⌝ }
+{
+    let checked = band_fault(s);
+    if let Checked::Wrong(_) = checked {
+        return StreamKey::OutOfRange;
+    }
+    let equipment = numbers::read_u16(s, EQUIPMENT_AT);
+    StreamKey::Key(keys::telemetry_key_of(spacecraft(s), s[SOURCE_AT], equipment, s[STREAM_AT]))
+}
+
+// The band's offset, if the record has a band and its letter is not one; else Right.
 fn band_fault(s: &[u8]) -> Checked
     requires { ⌜ dataValueAt Telemetry ≤ length (now s) ⌝ }
     ensures { λ r. ⌜ r ≡ fault Telemetry (now (s .entry)) ⌝ }
@@ -113,7 +128,7 @@ fn read_fields(s: &[u8]) -> TelemetryFields
     }
 }
 
-// The received time's parts, from the one number: days, milliseconds of the day, extended resolution.
+// The parts of the received time: days, milliseconds of the day, extended resolution.
 fn split(received: u64) -> ReceivedTime
     ensures { λ r. ⌜ receivedWords r ≡ number (received / extendedValues / millisecondValues)
         ∷ number (received / extendedValues % millisecondValues) ∷ number (received % extendedValues) ∷ [] ⌝ }

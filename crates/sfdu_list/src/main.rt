@@ -1,59 +1,57 @@
-// Lists streams of records: the files that its arguments name, one after the other, or standard input where there is none. The
-// work is in `sfdu_listing`, on slices; here are the calls of the system.
+// Lists streams of records: the files that its arguments name, one after the other, or standard input if there are none. `sfdu_list_text` does the work
+// on slices; this file has the calls of the system.
 ghost use mathlib.Core.Path.{_≡_};
 ghost use lib.ListN.{length};
-ghost use Rattle.sfdu_listing.specs.Listing.{bufferSize};
-ghost use Rattle.turns.specs.Turn.{textSize};
-ghost use Rattle.sfdu_list.specs.Turn.{Turns, Ends};
-ghost use Rattle.sfdu_list.specs.inner.Turn.{Going};
+ghost use Rattle.sfdu_list_text.specs.Listing.{bufferSize};
+ghost use Rattle.streaming.specs.Turn.{textSize, mostTurns, Turns, Ends, EndsWhole};
+ghost use Rattle.streaming.specs.inner.Turn.{Going, Round};
+ghost use Rattle.sfdu_list_text.specs.Window.{ofStreams};
 use arguments::Asked;
-use text::State;
-use turns::Turn;
+use streaming::State;
+use streaming::Turn;
 
-// One turn: a piece is read and listed, and the text is written where there is enough of it.
+// One turn: reads a piece and lists it, and writes the text if there is enough of it.
 fn take_turn(fd: i32, name: &[u8], w: &mut [u8], out: &mut [u8], s: State) -> Turn
-    requires { ⌜ Going (now w) (now out) s ⌝ }
-    ensures { λ r. ⌜ Turns (now (w .entry)) (now (out .entry)) s (now (w .exit)) (now (out .exit)) r ⌝ }
+    requires { ⌜ Going ofStreams (now w) (now out) s ⌝ }
+    ensures { λ r. ⌜ Turns ofStreams (now (w .entry)) (now (out .entry)) s (now (w .exit)) (now (out .exit)) r ⌝ }
 {
-    let have = s.have;
-    let piece = turns::read_piece(fd, w, have);
-    if piece.failed {
+    let room = w.len();
+    let piece = streaming::read_piece(fd, w, s.have, room);
+    let said = piece.said;
+    if streaming::has_failed(said) {
         os::fail(name);
-        return Turn {
-            state: s,
-            failed: true,
-        };
+        return Turn { state: s, said };
     }
-    let listed = sfdu_listing::list_piece(w, out, s, piece.got);
-    if listed.text <= turns::ENOUGH {
-        return Turn {
-            state: listed,
-            failed: false,
-        };
-    }
-    turns::flush(out, listed)
+    let listed = sfdu_list_text::list_piece(w, out, s, piece.got);
+    streaming::write_enough(out, listed, said)
 }
 
-// Lists the stream of a descriptor, but for the last of the text.
-fn list_stream(fd: i32, name: &[u8], w: &mut [u8], out: &mut [u8]) -> Turn
-    requires { ⌜ (length (now w) ≡ bufferSize) × (length (now out) ≡ textSize) ⌝ }
-    ensures { λ r. ⌜ Ends (now (w .exit)) (now (out .exit)) r ⌝ }
+// Lists the stream of a descriptor from a state on. The caller writes the last text in the buffer.
+fn list_from(fd: i32, name: &[u8], w: &mut [u8], out: &mut [u8], begun: State) -> Turn
+    requires { ⌜ Round ofStreams (now w) (now out) begun mostTurns ⌝ }
+    ensures { λ r. ⌜ Ends ofStreams (now (w .entry)) (now (out .entry)) begun (now (w .exit)) (now (out .exit)) r ⌝ }
 {
-    let mut s = sfdu_listing::begin(out);
-    let mut left = turns::TURNS;
+    let mut t = streaming::start(begun);
+    let mut left = streaming::TURNS;
     while 0 < left {
-        let t = take_turn(fd, name, w, out, s);
-        s = t.state;
-        if t.failed | s.done {
+        let s = t.state;
+        t = take_turn(fd, name, w, out, s);
+        let said = t.said;
+        if streaming::has_failed(said) | t.state.done {
             return t;
         }
         left -= 1;
     }
-    turns::give_up(name);
-    Turn {
-        state: s,
-        failed: true,
-    }
+    streaming::give_up(name);
+    t
+}
+
+fn list_stream(fd: i32, name: &[u8], w: &mut [u8], out: &mut [u8]) -> Turn
+    requires { ⌜ (length (now w) ≡ bufferSize) × (length (now out) ≡ textSize) ⌝ }
+    ensures { λ r. ⌜ EndsWhole ofStreams (now (w .exit)) (now (out .exit)) r ⌝ }
+{
+    let begun = sfdu_list_text::begin(out);
+    list_from(fd, name, w, out, begun)
 }
 
 fn list(fd: i32, name: &[u8]) {
@@ -62,10 +60,11 @@ fn list(fd: i32, name: &[u8]) {
     let mut text = io::large_buffer();
     let out: &mut [u8] = &mut text;
     let t = list_stream(fd, name, w, out);
-    turns::flush(out, t.state);
+    let s = t.state;
+    streaming::write_text(out, s);
 }
 
-// Lists the file that argument i names, under a line with its name where there are several.
+// Lists the file that argument i names. If there are several, it first writes a line with the name.
 fn list_argument(i: usize, several: bool) {
     let mut path = io::buffer();
     let file = arguments::open_at(i, &mut path);

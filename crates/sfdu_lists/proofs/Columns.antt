@@ -1,4 +1,4 @@
--- Number lists under way: what holds of the four lists each time the loop of `list_numbers` comes round. Assumes nothing.
+-- What holds of the four number lists in each turn of the loop of `list_numbers`. Assumes nothing.
 use Prim.Native.Nat.{ℕ, _+_, _≤_, _<_}
 use native.Mathlib.Nat.{min-le-left, min-le-right, le-trans}
 use native.Mathlib.Omega.{arith}

@@ -1,5 +1,5 @@
--- A list that is filled from its start: its first elements are xs, and the rest is as it was. For elements of any type, so for
--- a table of entries and for a list of numbers. Assumes nothing.
+-- A list that is filled from its start: its first elements are xs, and the others are unchanged. It holds for elements of any type, so for a table of
+-- entries and for a list of numbers. Assumes nothing.
 use Prim.Native.Nat.{_≤_, _<_}
 use native.Mathlib.Numerals.{add-one}
 use native.Mathlib.Omega.{arith}

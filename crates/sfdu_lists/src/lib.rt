@@ -1,4 +1,4 @@
-// Lists of a stream's records in two layouts: four lists of numbers, and a table of entries.
+// Lists of a stream's records, in two layouts: four lists of numbers, or a table of entries.
 ghost use mathlib.Core.Path.{_≡_};
 ghost use Prim.Native.Nat.{min};
 ghost use Rattle.sfdu_stream.specs.Walk.{wordsOf};
@@ -11,7 +11,7 @@ use sfdu::Kind;
 use sfdu::nesting;
 use sfdu_stream as stream;
 
-// A turn of a list: the next record's entry and the place past it, or the list's answer. (Public for the prover's sake.)
+// One turn of a list's loop: the entry of the next record and the place behind it, or the list's answer. (Public because the prover needs it.)
 pub struct Turn {
     pub listed: bool,
     pub entry: stream::Entry,
@@ -32,7 +32,7 @@ fn entry_at(s: &[u8], at: usize, kind: Kind, size: usize) -> stream::Entry
     }
 }
 
-// No record is listed: the list stops.
+// The turn of a list that stops.
 fn no_turn(answer: stream::Walked) -> Turn
     ensures { λ r. ⌜ r ≡ noTurn answer ⌝ }
 {
@@ -50,7 +50,7 @@ fn no_turn(answer: stream::Walked) -> Turn
     }
 }
 
-// The turn at a place of a list of `size` entries, `count` of them filled.
+// The turn at a place of a list of `size` entries, of which `count` are filled.
 pub fn turn_at(s: &[u8], at: usize, count: usize, size: usize) -> Turn
     ensures { λ r. ⌜ TurnAt (now (s .entry)) at count size r ⌝ }
 {
@@ -92,8 +92,8 @@ fn least(a: usize, b: usize) -> usize
     if a < b { a } else { b }
 }
 
-// Fills four lists of numbers from a stream, one number in each list for a record. The shortest list counts; what stands past
-// the count stays.
+// Fills four lists of numbers from a stream, one number in each for each record. The shortest list limits how many. Numbers behind the last record
+// are unchanged.
 pub fn list_numbers(
     s: &[u8],
     places: &mut [u64],
@@ -130,7 +130,44 @@ pub fn list_numbers(
     }
 }
 
-// Fills a table of entries from a stream, one entry for a record. Entries past the count stay.
+// The same with four lists of 64-bit numbers, as a C program lends them.
+pub fn list_wide_numbers(
+    s: &[u8],
+    places: &mut [u64],
+    lengths: &mut [u64],
+    kinds: &mut [u64],
+    numbers: &mut [u64],
+) -> stream::Walked
+    ensures { λ r. ⌜ (
+      wordsOf r,
+      record { places = now (places .exit); lengths = now (lengths .exit); kinds = now (kinds .exit); numbers = now (numbers .exit) },
+    )
+        ≡ listNumbers (now (s .entry))
+        (record { places = now (places .entry); lengths = now (lengths .entry); kinds = now (kinds .entry); numbers = now (numbers .entry) }) ⌝ }
+{
+    let size = least(
+        least(places.len(), lengths.len()),
+        least(kinds.len(), numbers.len()),
+    );
+    let mut at = 0;
+    let mut i = 0;
+    loop {
+        let turn = turn_at(s, at, i, size);
+        if turn.listed {
+            let e = turn.entry;
+            places[i] = e.place;
+            lengths[i] = e.length;
+            kinds[i] = e.kind as u64;
+            numbers[i] = e.number as u64;
+            at = turn.next;
+            i = i + 1;
+        } else {
+            return turn.answer;
+        }
+    }
+}
+
+// Fills a table of entries from a stream, one entry for each record. Entries behind the last record are unchanged.
 pub fn list_entries(s: &[u8], table: &mut [stream::Entry]) -> stream::Walked
     ensures { λ r. ⌜ (wordsOf r, now (table .exit)) ≡ listEntries (now (s .entry)) (now (table .entry)) ⌝ }
 {

@@ -33,14 +33,14 @@ use Rattle.sfdu_samples.specs.Packing.{
   hasCode,
   codeOf,
   perHalf,
-  perWord,
-  halfWord,
+  perSampleWord,
+  halfSampleWord,
   pairsOf,
   samplesOf,
   halfOf,
-  wordOf,
-  unpackedWords,
-  packedWords,
+  sampleWordOf,
+  unpackedSampleWords,
+  packedSampleWords,
   unpacked,
   packed,
   allCoded,
@@ -111,56 +111,56 @@ number-again v ys h = number-first (bytesOf 4 v) ys 0 4 (rw length-bytesOf (omeg
 
 -- ---- words
 
-word-again : (w v : ℕ) (ys : List ℤ) → Width w → v < 256 ^ 4 → wordOf w (samplesOf w v ++ ys) ≡ v
-unfolding wordOf samplesOf
+word-again : (w v : ℕ) (ys : List ℤ) → Width w → v < 256 ^ 4 → sampleWordOf w (samplesOf w v ++ ys) ≡ v
+unfolding sampleWordOf samplesOf
 word-again w v ys h l =
-    let i : v % halfWord < (2 ^ w) ^ perHalf w = rw (h .whole) (omega arith) in
-    let q : v / halfWord < (2 ^ w) ^ perHalf w = rw (h .whole) (omega arith) in
-    rw (i-again w (h .some) (perHalf w) (v % halfWord) (v / halfWord) ys i, q-again w (h .some) (perHalf w) (v % halfWord) (v / halfWord) ys q) (omega arith)
+    let i : v % halfSampleWord < (2 ^ w) ^ perHalf w = rw (h .whole) (omega arith) in
+    let q : v / halfSampleWord < (2 ^ w) ^ perHalf w = rw (h .whole) (omega arith) in
+    rw (i-again w (h .some) (perHalf w) (v % halfSampleWord) (v / halfSampleWord) ys i, q-again w (h .some) (perHalf w) (v % halfSampleWord) (v / halfSampleWord) ys q) (omega arith)
 
 bytes-drop : (n : ℕ) (s : List ℕ) → Bytes s → Bytes (drop n s)
 bytes-drop n s b k = rw getD-drop (b (n + k))
 
-pub packed-again : (w n : ℕ) (s : List ℕ) → Width w → Bytes s → length s ≡ n * 4 → packedWords w n (unpackedWords w n s) ≡ s
-unfolding packedWords unpackedWords
+pub packed-again : (w n : ℕ) (s : List ℕ) → Width w → Bytes s → length s ≡ n * 4 → packedSampleWords w n (unpackedSampleWords w n s) ≡ s
+unfolding packedSampleWords unpackedSampleWords
 packed-again w zero [] h b l = refl
 packed-again w zero (x ∷ s) h b l = absurd (omega arith)
 packed-again w (suc n) s h b l =
     let v = numberAt s 0 4 in
-    let rest = unpackedWords w n (drop 4 s) in
+    let rest = unpackedSampleWords w n (drop 4 s) in
     let left : length (drop 4 s) ≡ n * 4 = rw length-drop (omega arith) in
     rw (
       word-again w v rest h (number-lt s 0 4 b),
-      drop-at (samplesOf w v) rest (perWord w) (length-samples w v),
+      drop-at (samplesOf w v) rest (perSampleWord w) (length-samples w v),
       packed-again w n (drop 4 s) h (bytes-drop 4 s b) left,
       bytes-again s b (omega arith),
       take-append-drop,
     )
 
-samples-again : (w : ℕ) (xs : List ℤ) → Width w → Coded w xs → perWord w ≤ length xs
-    → (wordOf w xs < 256 ^ 4) × (samplesOf w (wordOf w xs) ≡ take (perWord w) xs)
-unfolding wordOf samplesOf
+samples-again : (w : ℕ) (xs : List ℤ) → Width w → Coded w xs → perSampleWord w ≤ length xs
+    → (sampleWordOf w xs < 256 ^ 4) × (samplesOf w (sampleWordOf w xs) ≡ take (perSampleWord w) xs)
+unfolding sampleWordOf samplesOf
 samples-again w xs h c l =
     let long : 2 * perHalf w ≤ length (drop 1 xs) + 1 = rw length-drop (omega arith) in
     let i = half-small w (perHalf w) xs h c (omega arith) (omega arith) in
     let q = half-small w (perHalf w) (drop 1 xs) h (coded-drop w 1 xs c) (omega arith) long in
-    let low : (halfOf w (perHalf w) (drop 1 xs) * halfWord + halfOf w (perHalf w) xs) % halfWord ≡ halfOf w (perHalf w) xs = omega arith in
-    let high : (halfOf w (perHalf w) (drop 1 xs) * halfWord + halfOf w (perHalf w) xs) / halfWord ≡ halfOf w (perHalf w) (drop 1 xs) = omega arith in
+    let low : (halfOf w (perHalf w) (drop 1 xs) * halfSampleWord + halfOf w (perHalf w) xs) % halfSampleWord ≡ halfOf w (perHalf w) xs = omega arith in
+    let high : (halfOf w (perHalf w) (drop 1 xs) * halfSampleWord + halfOf w (perHalf w) xs) / halfSampleWord ≡ halfOf w (perHalf w) (drop 1 xs) = omega arith in
     (omega arith, rw (low, high) (pairs-again w (h .some) (perHalf w) xs c l))
 
-pub unpacked-again : (w n : ℕ) (xs : List ℤ) → Width w → Coded w xs → length xs ≡ n * perWord w → unpackedWords w n (packedWords w n xs) ≡ xs
-unfolding packedWords unpackedWords
+pub unpacked-again : (w n : ℕ) (xs : List ℤ) → Width w → Coded w xs → length xs ≡ n * perSampleWord w → unpackedSampleWords w n (packedSampleWords w n xs) ≡ xs
+unfolding packedSampleWords unpackedSampleWords
 unpacked-again w zero [] h c l = refl
 unpacked-again w zero (x ∷ xs) h c l = absurd (omega arith)
 unpacked-again w (suc n) xs h c l =
-    let long : perWord w ≤ length xs = omega (arith, suc-mul n (perWord w)) in
+    let long : perSampleWord w ≤ length xs = omega (arith, suc-mul n (perSampleWord w)) in
     let word = samples-again w xs h c long in
-    let rest = packedWords w n (drop (perWord w) xs) in
-    let left : length (drop (perWord w) xs) ≡ n * perWord w = rw length-drop (omega (arith, suc-mul n (perWord w))) in
+    let rest = packedSampleWords w n (drop (perSampleWord w) xs) in
+    let left : length (drop (perSampleWord w) xs) ≡ n * perSampleWord w = rw length-drop (omega (arith, suc-mul n (perSampleWord w))) in
     rw (
-      number-again (wordOf w xs) rest (word .0),
-      drop-at (bytesOf 4 (wordOf w xs)) rest 4 (length-bytesOf 4 (wordOf w xs)),
-      unpacked-again w n (drop (perWord w) xs) h (coded-drop w (perWord w) xs c) left,
+      number-again (sampleWordOf w xs) rest (word .0),
+      drop-at (bytesOf 4 (sampleWordOf w xs)) rest 4 (length-bytesOf 4 (sampleWordOf w xs)),
+      unpacked-again w n (drop (perSampleWord w) xs) h (coded-drop w (perSampleWord w) xs c) left,
       word .1,
       take-append-drop,
     )
@@ -187,37 +187,37 @@ every-pair w (suc n) i q s =
     let b = codes-some w in
     (value-code w (i % 2 ^ w) s (mod-lt i b) .has, (value-code w (q % 2 ^ w) s (mod-lt q b) .has, every-pair w n (i / 2 ^ w) (q / 2 ^ w) s))
 
-every-word : (w n : ℕ) (s : List ℕ) → 0 < w → Every w (unpackedWords w n s)
-unfolding unpackedWords samplesOf
+every-word : (w n : ℕ) (s : List ℕ) → 0 < w → Every w (unpackedSampleWords w n s)
+unfolding unpackedSampleWords samplesOf
 every-word w zero s p = tt
 every-word w (suc n) s p =
     let v = numberAt s 0 4 in
-    every-append w (pairsOf w (perHalf w) (v % halfWord) (v / halfWord)) (unpackedWords w n (drop 4 s))
-    (every-pair w (perHalf w) (v % halfWord) (v / halfWord) p) (every-word w n (drop 4 s) p)
+    every-append w (pairsOf w (perHalf w) (v % halfSampleWord) (v / halfSampleWord)) (unpackedSampleWords w n (drop 4 s))
+    (every-pair w (perHalf w) (v % halfSampleWord) (v / halfSampleWord) p) (every-word w n (drop 4 s) p)
 
 -- ---- a data part
 
 pub packed-whole : (w : ℕ) (xs : List ℤ) → length (packed w xs) % 4 ≡ 0
-packed-whole w xs = rw length-packed (mul-mod-left (length xs / perWord w) 4)
+packed-whole w xs = rw length-packed (mul-mod-left (length xs / perSampleWord w) 4)
 
 module _ (w : ℕ) (h : Width w) where
-  per : 0 < perWord w
+  per : 0 < perSampleWord w
   per = per-some w h
 
   pub unpacked-coded : (s : List ℕ) → allCoded w (unpacked w s) ≡ true
   unpacked-coded s = all-each _ _ (every-at w (unpacked w s) (every-word w (length s / 4) s (h .some)))
 
-  pub unpacked-whole : (s : List ℕ) → length (unpacked w s) % perWord w ≡ 0
-  unpacked-whole s = rw length-unpacked (mul-mod-left (length s / 4) (perWord w))
+  pub unpacked-whole : (s : List ℕ) → length (unpacked w s) % perSampleWord w ≡ 0
+  unpacked-whole s = rw length-unpacked (mul-mod-left (length s / 4) (perSampleWord w))
 
   -- Packing what was unpacked gives the data part again.
   pub packed-unpacked : (s : List ℕ) → Bytes s → length s % 4 ≡ 0 → packed w (unpacked w s) ≡ s
   packed-unpacked s b e =
-      let n : length (unpacked w s) / perWord w ≡ length s / 4 = rw length-unpacked (mul-div-cancel (length s / 4) per) in
+      let n : length (unpacked w s) / perSampleWord w ≡ length s / 4 = rw length-unpacked (mul-div-cancel (length s / 4) per) in
       rw n (packed-again w (length s / 4) s h b (omega arith))
 
-  pub unpacked-packed : (xs : List ℤ) → allCoded w xs ≡ true → length xs % perWord w ≡ 0 → unpacked w (packed w xs) ≡ xs
+  pub unpacked-packed : (xs : List ℤ) → allCoded w xs ≡ true → length xs % perSampleWord w ≡ 0 → unpacked w (packed w xs) ≡ xs
   unpacked-packed xs c e =
-      let n : length (packed w xs) / 4 ≡ length xs / perWord w = rw length-packed (mul-div-cancel (length xs / perWord w) (lit< tt)) in
-      let l : length xs ≡ length xs / perWord w * perWord w = omega (arith, div-add-mod' (length xs) (perWord w), e) in
-      rw n (unpacked-again w (length xs / perWord w) xs h (coded w xs c) l)
+      let n : length (packed w xs) / 4 ≡ length xs / perSampleWord w = rw length-packed (mul-div-cancel (length xs / perSampleWord w) (lit< tt)) in
+      let l : length xs ≡ length xs / perSampleWord w * perSampleWord w = omega (arith, div-add-mod' (length xs) (perSampleWord w), e) in
+      rw n (unpacked-again w (length xs / perSampleWord w) xs h (coded w xs c) l)

@@ -30,7 +30,7 @@ use mir.Syntax.{w32}
 use mir.Val.{SFits}
 use Rattle.octets.specs.Octets.{all}
 use Rattle.octets.proofs.Laws.{all-at}
-use Rattle.sfdu_samples.specs.Packing.{twos, perHalf, halfWord}
+use Rattle.sfdu_samples.specs.Packing.{twos, perHalf, halfSampleWord}
 use Rattle.sfdu_samples.specs.inner.Unpacking.{Width}
 use Rattle.sfdu_samples.proofs.Values.{minus, negated, doubled, codes-most}
 
@@ -67,7 +67,7 @@ shifted x a b c p q s =
 -- ---- the widths, as one computed test
 
 abbrev fillsHalf : ℕ → Bool
-fillsHalf w = ltb 0 w && leb w 16 && eqb ((2 ^ w) ^ perHalf w) halfWord
+fillsHalf w = ltb 0 w && leb w 16 && eqb ((2 ^ w) ^ perHalf w) halfSampleWord
 
 every-width : all 17 (λ w. not (fillsHalf w) || eqb (w * perHalf w) 16) ≡ true
 unfolding all
@@ -172,8 +172,8 @@ low-digits y b r =
     sym (ap (λ (x : ℕ). x % b) whole ∙ add-mul-mod-self-left (y % (b * r)) b (r * t))
 
 pub record Turn (w left word : ℕ) : Type 0 where
-  pub i : word / 2 ^ (32 - w - (16 + w * left - w)) % 2 ^ w ≡ word % halfWord / 2 ^ (w * (perHalf w - left)) % 2 ^ w
-  pub q : word / 2 ^ (32 - w - (16 + w * left - w - 16)) % 2 ^ w ≡ word / halfWord / 2 ^ (w * (perHalf w - left)) % 2 ^ w
+  pub i : word / 2 ^ (32 - w - (16 + w * left - w)) % 2 ^ w ≡ word % halfSampleWord / 2 ^ (w * (perHalf w - left)) % 2 ^ w
+  pub q : word / 2 ^ (32 - w - (16 + w * left - w - 16)) % 2 ^ w ≡ word / halfSampleWord / 2 ^ (w * (perHalf w - left)) % 2 ^ w
   pub next : (x : ℕ) → x / 2 ^ (w * (perHalf w - left)) / 2 ^ w ≡ x / 2 ^ (w * (perHalf w - (left - 1)))
   pub some : w ≤ w * left
   pub most : w * left ≤ 16
@@ -192,14 +192,14 @@ turn w left word h p l =
     let q-index : w * (perHalf w + j) ≡ 16 + w * j = mul-add w (perHalf w) j ∙ omega (arith, filled) in
     let at-q : 32 - w - (16 + w * left - w - 16) ≡ w * (perHalf w + j) = omega (arith, q-index) in
     let exponent : 16 ≡ w * j + (w + w * one) = omega arith in
-    let range : halfWord ≡ 2 ^ (w * j) * (2 ^ w * 2 ^ (w * one)) =
+    let range : halfSampleWord ≡ 2 ^ (w * j) * (2 ^ w * 2 ^ (w * one)) =
     ap (λ (e : ℕ). 2 ^ e) exponent ∙ pow-add 2 (w * j) (w + w * one) ∙ ap (λ (y : ℕ). 2 ^ (w * j) * y) (pow-add 2 w (w * one)) in
     let n : 0 < 2 ^ w * 2 ^ (w * one) = mul-pos (pow-pos w) (pow-pos (w * one)) in
-    let low : word % halfWord / 2 ^ (w * j) % 2 ^ w ≡ word / 2 ^ (w * j) % 2 ^ w =
+    let low : word % halfSampleWord / 2 ^ (w * j) % 2 ^ w ≡ word / 2 ^ (w * j) % 2 ^ w =
     rw (range, mod-div word (2 ^ (w * j)) (2 ^ w * 2 ^ (w * one)) (pow-pos (w * j)) n) (low-digits (word / 2 ^ (w * j)) (2 ^ w) (2 ^ (w * one))) in
-    let above-half : 2 ^ (w * (perHalf w + j)) ≡ halfWord * 2 ^ (w * j) = ap (λ (e : ℕ). 2 ^ e) q-index ∙ pow-add 2 16 (w * j) in
-    let high : word / halfWord / 2 ^ (w * j) ≡ word / 2 ^ (w * (perHalf w + j)) =
-    div-div-eq-div-mul word halfWord (2 ^ (w * j)) ∙ ap (λ (y : ℕ). word / y) (sym above-half) in
+    let above-half : 2 ^ (w * (perHalf w + j)) ≡ halfSampleWord * 2 ^ (w * j) = ap (λ (e : ℕ). 2 ^ e) q-index ∙ pow-add 2 16 (w * j) in
+    let high : word / halfSampleWord / 2 ^ (w * j) ≡ word / 2 ^ (w * (perHalf w + j)) =
+    div-div-eq-div-mul word halfSampleWord (2 ^ (w * j)) ∙ ap (λ (y : ℕ). word / y) (sym above-half) in
     let more : j + 1 ≡ perHalf w - one = omega arith in
     let further : w * j + w ≡ w * (perHalf w - one) = omega (arith, mul-add w j 1, ap (λ (n : ℕ). w * n) more) in
     record {

@@ -16,14 +16,14 @@ use Rattle.sfdu_headers.specs.RsrRecord.{rsrRules}
 use Rattle.sfdu_headers.proofs.Rules.{refuse, first-refuses, refuse-append, none-of-both}
 use Rattle.sfdu_headers.proofs.RsrRules.{all-refuse}
 use Rattle.sfdu_samples.specs.Calls.{fills, writes, sizeOf, rateOf, dataRules, unpackRules, unpacking, packRules, packing}
-use Rattle.sfdu_samples.specs.Packing.{perHalf, perWord, unpackedWords, packedWords, unpacked, packed, allCoded}
+use Rattle.sfdu_samples.specs.Packing.{perHalf, perSampleWord, unpackedSampleWords, packedSampleWords, unpacked, packed, allCoded}
 use Rattle.sfdu_samples.specs.Rates.{isListed}
 use Rattle.sfdu_samples.specs.inner.Unpacking.{Width, unpackingData}
 use Rattle.sfdu_samples.proofs.Packed.{length-packed}
 use Rattle.sfdu_samples.proofs.Runs.{sets-fills}
 use Rattle.sfdu_samples.proofs.Unpacking.{length-unpacked}
 
-pub per-some : (w : ℕ) → Width w → 0 < perWord w
+pub per-some : (w : ℕ) → Width w → 0 < perSampleWord w
 per-some w h =
     let p : 1 ≤ perHalf w = le-div-iff-mul-le {k = w} {x = 1} {y = 16} (h .some) .1 (omega (arith, h .most)) in
     omega arith
@@ -46,7 +46,7 @@ module _ (size rate : ℕ) (s : List ℕ) (old : List ℤ) where
     data-34 h = rw (e, ne-eqb _ _ h)
 
     module _ (whole : length s % 4 ≡ 0) where
-      pub data-35 : length old < length s / 4 * perWord size → _≡_ {A = List ℕ × List ℤ} (35 ∷ [], old) (unpackingData size rate s old)
+      pub data-35 : length old < length s / 4 * perSampleWord size → _≡_ {A = List ℕ × List ℤ} (35 ∷ [], old) (unpackingData size rate s old)
       unfolding unpackingData judge
       data-35 h = rw (e, eq-eqb _ _ whole, length-unpacked, lt-ltb _ _ h)
 
@@ -55,8 +55,8 @@ module _ (size rate : ℕ) (s : List ℕ) (old : List ℤ) where
       unfolding unpackingData judge
       data-is h = rw (e, eq-eqb _ _ whole, le-ltb _ _ h)
 
-      pub data-accepts : (list : List ℤ) → length s / 4 * perWord size ≤ length old → list ≡ sets old 0 (unpackedWords size (length s / 4) s)
-          → _≡_ {A = List ℕ × List ℤ} (0 ∷ length s / 4 * perWord size ∷ [], list) (unpackingData size rate s old)
+      pub data-accepts : (list : List ℤ) → length s / 4 * perSampleWord size ≤ length old → list ≡ sets old 0 (unpackedSampleWords size (length s / 4) s)
+          → _≡_ {A = List ℕ × List ℤ} (0 ∷ length s / 4 * perSampleWord size ∷ [], list) (unpackingData size rate s old)
       data-accepts list h f =
           let n = length-unpacked size (length s / 4) s in
           let l : length (unpacked size s) ≤ length old = rw n h in
@@ -68,17 +68,17 @@ module _ (size rate : ℕ) (xs : List ℤ) (old : List ℕ) where
   pack-19 e = rw e
 
   module _ (e : isListed size rate ≡ true) where
-    pub pack-34 : (length xs % perWord size ≡ 0 → ⊥) → _≡_ {A = List ℕ × List ℕ} (34 ∷ [], old) (packing size rate xs old)
+    pub pack-34 : (length xs % perSampleWord size ≡ 0 → ⊥) → _≡_ {A = List ℕ × List ℕ} (34 ∷ [], old) (packing size rate xs old)
     unfolding packing judge
     pack-34 h = rw (e, ne-eqb _ _ h)
 
-    module _ (whole : length xs % perWord size ≡ 0) where
+    module _ (whole : length xs % perSampleWord size ≡ 0) where
       pub pack-37 : allCoded size xs ≡ false → _≡_ {A = List ℕ × List ℕ} (37 ∷ [], old) (packing size rate xs old)
       unfolding packing judge
       pack-37 c = rw (e, eq-eqb _ _ whole, c)
 
       module _ (c : allCoded size xs ≡ true) where
-        pub pack-35 : length old < length xs / perWord size * 4 → _≡_ {A = List ℕ × List ℕ} (35 ∷ [], old) (packing size rate xs old)
+        pub pack-35 : length old < length xs / perSampleWord size * 4 → _≡_ {A = List ℕ × List ℕ} (35 ∷ [], old) (packing size rate xs old)
         unfolding packing judge
         pack-35 h = rw (e, eq-eqb _ _ whole, c, length-packed, lt-ltb _ _ h)
 
@@ -86,10 +86,10 @@ module _ (size rate : ℕ) (xs : List ℤ) (old : List ℕ) where
         unfolding packing judge
         pack-is h = rw (e, eq-eqb _ _ whole, c, le-ltb _ _ h)
 
-        pub pack-accepts : (out : List ℕ) → length xs / perWord size * 4 ≤ length old → out ≡ sets old 0 (packedWords size (length xs / perWord size) xs)
-            → _≡_ {A = List ℕ × List ℕ} (0 ∷ length xs / perWord size * 4 ∷ [], out) (packing size rate xs old)
+        pub pack-accepts : (out : List ℕ) → length xs / perSampleWord size * 4 ≤ length old → out ≡ sets old 0 (packedSampleWords size (length xs / perSampleWord size) xs)
+            → _≡_ {A = List ℕ × List ℕ} (0 ∷ length xs / perSampleWord size * 4 ∷ [], out) (packing size rate xs old)
         pack-accepts out h f =
-            let n = length-packed size (length xs / perWord size) xs in
+            let n = length-packed size (length xs / perSampleWord size) xs in
             let l : length (packed size xs) ≤ length old = rw n h in
             rw (f, sets-fills (packed size xs) old l, ← n) (sym (pack-is l))
 
@@ -140,7 +140,7 @@ unpacks s list n e =
 
 pub record Packs (size rate : ℕ) (xs : List ℤ) (out : List ℕ) (n : ℕ) : Type 0 where
   pub listed : isListed size rate ≡ true
-  pub whole : length xs % perWord size ≡ 0
+  pub whole : length xs % perSampleWord size ≡ 0
   pub coded : allCoded size xs ≡ true
   pub room : length (packed size xs) ≤ length out
   pub count : n ≡ length (packed size xs)

@@ -2,6 +2,7 @@ pub mod Values
 pub mod Flipped
 pub mod Runs
 pub mod Unpacking
+pub mod Stored
 pub mod Packed
 pub mod Widths
 pub mod Parts

@@ -11,7 +11,7 @@ use lib.ListN.{length, drop, getD, length-append, length-drop}
 use lib.Seq.{sets, drop-drop, getD-drop}
 use Rattle.octets.specs.Octets.{bytesOf}
 use Rattle.octets.proofs.Laws.{all-at, length-bytesOf}
-use Rattle.sfdu_samples.specs.Packing.{hasCode, codeOf, perHalf, perWord, halfWord, halfOf, wordOf, packedWords, allCoded}
+use Rattle.sfdu_samples.specs.Packing.{hasCode, codeOf, perHalf, perSampleWord, halfSampleWord, halfOf, sampleWordOf, packedSampleWords, allCoded}
 use Rattle.sfdu_samples.specs.inner.Unpacking.{Width}
 use Rattle.sfdu_samples.proofs.Values.{codes-some, code-value}
 use Rattle.sfdu_samples.proofs.Runs.{sets-append}
@@ -57,7 +57,7 @@ half-lt w (suc n) xs s c h =
     rw pow-suc
     (room _ (2 ^ w) ((2 ^ w) ^ n) _ (half-lt w n (drop 2 xs) s (coded-drop w 2 xs c) rest) (code-value w _ s (c 0 first) .less))
 
-pub half-small : (w n : ℕ) (xs : List ℤ) → Width w → Coded w xs → n ≤ perHalf w → 2 * n ≤ length xs + 1 → halfOf w n xs < halfWord
+pub half-small : (w n : ℕ) (xs : List ℤ) → Width w → Coded w xs → n ≤ perHalf w → 2 * n ≤ length xs + 1 → halfOf w n xs < halfSampleWord
 half-small w n xs h c m l =
     let most : (2 ^ w) ^ n ≤ (2 ^ w) ^ perHalf w = pow-le-pow-right {n = 2 ^ w} (codes-some w) {i = n} {j = perHalf w} m in
     omega (arith, half-lt w n xs (h .some) c l, most, h .whole)
@@ -65,9 +65,9 @@ half-small w n xs h c m l =
 -- A turn of the loop over a half word: one number more is taken, the one before those taken.
 pub record Turn (w left at half : ℕ) (xs : List ℤ) : Type 0 where
   pub is : half * 2 ^ w + codeOf w (getD xs (at + 2 * (left - 1)) (pos 0)) ≡ halfOf w (perHalf w - (left - 1)) (drop (at + 2 * (left - 1)) xs)
-  pub less : half * 2 ^ w + codeOf w (getD xs (at + 2 * (left - 1)) (pos 0)) < halfWord
+  pub less : half * 2 ^ w + codeOf w (getD xs (at + 2 * (left - 1)) (pos 0)) < halfSampleWord
 
-pub turn : (w left at half : ℕ) (xs : List ℤ) → Width w → Coded w xs → 0 < left → left ≤ perHalf w → at + perWord w ≤ length xs + 1
+pub turn : (w left at half : ℕ) (xs : List ℤ) → Width w → Coded w xs → 0 < left → left ≤ perHalf w → at + perSampleWord w ≤ length xs + 1
     → half ≡ halfOf w (perHalf w - left) (drop (at + 2 * left) xs) → Turn w left at half xs
 turn w left at half xs h c p l m e =
     let here : half * 2 ^ w + codeOf w (getD xs (at + 2 * (left - 1)) (pos 0)) ≡ halfOf w (perHalf w - (left - 1)) (drop (at + 2 * (left - 1)) xs) =
@@ -77,19 +77,19 @@ turn w left at half xs h c p l m e =
 
 -- ---- words
 
-pub length-packed : (w n : ℕ) (xs : List ℤ) → length (packedWords w n xs) ≡ n * 4
-unfolding packedWords
+pub length-packed : (w n : ℕ) (xs : List ℤ) → length (packedSampleWords w n xs) ≡ n * 4
+unfolding packedSampleWords
 length-packed w zero xs = refl
-length-packed w (suc n) xs = rw (length-append, length-bytesOf, length-packed w n (drop (perWord w) xs)) (omega arith)
+length-packed w (suc n) xs = rw (length-append, length-bytesOf, length-packed w n (drop (perSampleWord w) xs)) (omega arith)
 
-pub packed-none : (l : List ℕ) (to w left : ℕ) (xs : List ℤ) → left ≡ 0 → sets l to (packedWords w left xs) ≡ l
-unfolding packedWords
+pub packed-none : (l : List ℕ) (to w left : ℕ) (xs : List ℤ) → left ≡ 0 → sets l to (packedSampleWords w left xs) ≡ l
+unfolding packedSampleWords
 packed-none l to w left xs e = rw e
 
 pub packed-more : (l : List ℕ) (w i n at : ℕ) (xs : List ℤ) → i < n
-    → sets (sets l (i * 4) (bytesOf 4 (wordOf w (drop at xs)))) ((i + 1) * 4) (packedWords w (n - (i + 1)) (drop (at + perWord w) xs))
-    ≡ sets l (i * 4) (packedWords w (n - i) (drop at xs))
-unfolding packedWords
+    → sets (sets l (i * 4) (bytesOf 4 (sampleWordOf w (drop at xs)))) ((i + 1) * 4) (packedSampleWords w (n - (i + 1)) (drop (at + perSampleWord w) xs))
+    ≡ sets l (i * 4) (packedSampleWords w (n - i) (drop at xs))
+unfolding packedSampleWords
 packed-more l w i n at xs h =
     let e : n - i ≡ suc (n - (i + 1)) = omega arith in
     let f : (i + 1) * 4 ≡ i * 4 + 4 = omega arith in

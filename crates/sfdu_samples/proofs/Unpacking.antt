@@ -9,7 +9,7 @@ use lib.IntN.{ℤ}
 use lib.ListN.{length, set, drop, length-append}
 use lib.Seq.{sets, drop-drop, getD-drop}
 use Rattle.octets.specs.Octets.{numberAt}
-use Rattle.sfdu_samples.specs.Packing.{valueOf, perHalf, perWord, halfWord, pairsOf, samplesOf, unpackedWords}
+use Rattle.sfdu_samples.specs.Packing.{valueOf, perHalf, perSampleWord, halfSampleWord, pairsOf, samplesOf, unpackedSampleWords}
 use Rattle.sfdu_samples.proofs.Runs.{sets-append}
 
 pub length-pairs : (w n i q : ℕ) → length (pairsOf w n i q) ≡ 2 * n
@@ -17,12 +17,12 @@ unfolding pairsOf
 length-pairs w zero i q = refl
 length-pairs w (suc n) i q = ap (λ (k : ℕ). suc (suc k)) (length-pairs w n _ _) ∙ omega arith
 
-pub length-samples : (w v : ℕ) → length (samplesOf w v) ≡ perWord w
+pub length-samples : (w v : ℕ) → length (samplesOf w v) ≡ perSampleWord w
 unfolding samplesOf
-length-samples w v = length-pairs w (perHalf w) (v % halfWord) (v / halfWord)
+length-samples w v = length-pairs w (perHalf w) (v % halfSampleWord) (v / halfSampleWord)
 
-pub length-unpacked : (w n : ℕ) (s : List ℕ) → length (unpackedWords w n s) ≡ n * perWord w
-unfolding unpackedWords
+pub length-unpacked : (w n : ℕ) (s : List ℕ) → length (unpackedSampleWords w n s) ≡ n * perSampleWord w
+unfolding unpackedSampleWords
 length-unpacked w zero s = sym (omega arith)
 length-unpacked w (suc n) s =
     rw (length-append, length-samples, length-unpacked w n (drop 4 s), suc-mul) (omega arith)
@@ -43,7 +43,7 @@ pair-more l to w (suc left) i q h =
     rw (e, f, add-one)
 
 pub word-first : (l : List ℤ) (at w v : ℕ)
-    → sets l at (pairsOf w (perHalf w) (v % halfWord / 2 ^ (w * (perHalf w - perHalf w))) (v / halfWord / 2 ^ (w * (perHalf w - perHalf w))))
+    → sets l at (pairsOf w (perHalf w) (v % halfSampleWord / 2 ^ (w * (perHalf w - perHalf w))) (v / halfSampleWord / 2 ^ (w * (perHalf w - perHalf w))))
     ≡ sets l at (samplesOf w v)
 unfolding samplesOf
 word-first l at w v =
@@ -51,8 +51,8 @@ word-first l at w v =
     rw (e, mul-zero, pow-zero, div-one, div-one)
 
 -- the loop over words: `left` words are still to unpack
-pub words-none : (l : List ℤ) (to w left : ℕ) (s : List ℕ) → left ≡ 0 → sets l to (unpackedWords w left s) ≡ l
-unfolding unpackedWords
+pub words-none : (l : List ℤ) (to w left : ℕ) (s : List ℕ) → left ≡ 0 → sets l to (unpackedSampleWords w left s) ≡ l
+unfolding unpackedSampleWords
 words-none l to w left s e = rw e
 
 number-at : (s : List ℕ) (a n : ℕ) → numberAt (drop a s) 0 n ≡ numberAt s a n
@@ -61,9 +61,9 @@ number-at s a zero = refl
 number-at s a (suc n) = rw (number-at s a n, getD-drop, zero-add)
 
 pub words-more : (l : List ℤ) (to w i n : ℕ) (s : List ℕ) → i < n
-    → sets (sets l to (samplesOf w (numberAt s (i * 4) 4))) (to + perWord w) (unpackedWords w (n - (i + 1)) (drop ((i + 1) * 4) s))
-    ≡ sets l to (unpackedWords w (n - i) (drop (i * 4) s))
-unfolding unpackedWords
+    → sets (sets l to (samplesOf w (numberAt s (i * 4) 4))) (to + perSampleWord w) (unpackedSampleWords w (n - (i + 1)) (drop ((i + 1) * 4) s))
+    ≡ sets l to (unpackedSampleWords w (n - i) (drop (i * 4) s))
+unfolding unpackedSampleWords
 words-more l to w i n s h =
     let e : n - i ≡ suc (n - (i + 1)) = omega arith in
     let f : (i + 1) * 4 ≡ i * 4 + 4 = omega arith in

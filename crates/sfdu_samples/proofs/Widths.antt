@@ -8,16 +8,16 @@ use lib.Dec.{eqb, ltb, leb}
 use Rattle.laws.proofs.Bools.{and-split}
 use Rattle.sfdu_samples.specs.declared.rates.Listed.{Listed}
 use Rattle.sfdu_samples.specs.Rates.{table, among, isListed}
-use Rattle.sfdu_samples.specs.Packing.{perHalf, halfWord}
+use Rattle.sfdu_samples.specs.Packing.{perHalf, halfSampleWord}
 use Rattle.sfdu_samples.specs.inner.Unpacking.{Width}
 
 -- Samples of w bits fill a half word, as a test.
 abbrev fillsHalf : ℕ → Bool
-fillsHalf w = ltb 0 w && leb w 16 && eqb ((2 ^ w) ^ perHalf w) halfWord
+fillsHalf w = ltb 0 w && leb w 16 && eqb ((2 ^ w) ^ perHalf w) halfSampleWord
 
 is-width : (w : ℕ) → fillsHalf w ≡ true → Width w
 is-width w e =
-    let a = and-split (ltb 0 w && leb w 16) (eqb ((2 ^ w) ^ perHalf w) halfWord) e in
+    let a = and-split (ltb 0 w && leb w 16) (eqb ((2 ^ w) ^ perHalf w) halfSampleWord) e in
     let b = and-split (ltb 0 w) (leb w 16) (a .0) in
     record { some = ltb-true _ _ (b .0); most = leb-true _ _ (b .1); whole = eqb-true _ _ (a .1) }
 

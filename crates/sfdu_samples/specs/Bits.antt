@@ -1,4 +1,4 @@
--- A signed number of 32 bits as its bits, two's complement. (`twos 32` of Packing.antt is the way back.) Assumes nothing.
+-- The 32 bits of a signed number in two's complement, as a number. (`twos 32` of Packing.antt is the way back.) Assumes nothing.
 use Prim.Native.Nat.{ℕ, suc, _-_}
 use lib.IntN.{ℤ, pos, negsuc}
 

@@ -1,4 +1,4 @@
--- Document 02, Req 08: what the calls refuse, what they answer, and what the lent list holds after them. Assumes nothing.
+-- Document 02, Req 08: the refusals of unpack and pack, their answers, and the lent list after a call. Assumes nothing.
 -- The manual, docs/INTERFACE.md: "Samples".
 use mathlib.Core.Path.{_≡_}
 use Prim.Native.Nat.{ℕ, _%_}
@@ -15,9 +15,9 @@ use Rattle.sfdu_headers.specs.RsrRecord.{only, rsrRules}
 use Rattle.sfdu_samples.specs.declared.Answer.{Answer}
 use Rattle.sfdu_samples.specs.declared.Answer.the-variants.{Count, Header, Refused}
 use Rattle.sfdu_samples.specs.Rates.{isListed}
-use Rattle.sfdu_samples.specs.Packing.{perWord, unpacked, packed, allCoded}
+use Rattle.sfdu_samples.specs.Packing.{perSampleWord, unpacked, packed, allCoded}
 
--- An answer in words: 0 and the count, or the refusal's number, with the number that goes with it where one does.
+-- The words of an answer: 0 and the count; or the refusal's number, with its second number if it has one.
 abbrev pub wordsOf : Answer → List ℕ
 wordsOf (Count n) = 0 ∷ n ∷ []
 wordsOf (Header f) = faultWords f
@@ -27,24 +27,24 @@ wordsOf (Refused r) = only (numberOf r)
 abbrev pub DifferentAnswers : Type 0
 DifferentAnswers = (a b : Answer) → wordsOf a ≡ wordsOf b → a ≡ b
 
--- A list with xs at its start; the rest stays.
+-- A list whose first elements become xs; the others are unchanged.
 abbrev pub fills : {A : Type 0} → List A → List A → List A
 fills xs old = xs ++ drop (length xs) old
 
--- A call that writes xs into a lent list, unless a rule refuses it: the answer, and the list after it.
+-- A call that writes xs into a lent list, unless a rule refuses it: the answer, and the list after the call.
 abbrev pub writes : {A : Type 0} → List (Rule (List ℕ)) → (xs old : List A) → List ℕ × List A
 writes rules xs old = judge (λ refusal. (refusal, old)) rules (0 ∷ length xs ∷ [], fills xs old)
 
 -- ---- unpack
 
--- Document 004, section 3.5, of a record s: how many bits a sample has, and how many thousand samples there are in a second.
+-- Document 004, section 3.5: how many bits a sample of record s has, and how many thousand samples a second has.
 abbrev pub sizeOf : List ℕ → ℕ
 sizeOf s = byteAt s 36
 
 abbrev pub rateOf : List ℕ → ℕ
 rateOf s = fieldAt s 38 2
 
--- Of a data part d of that size and rate.
+-- The refusals of a data part d of this size and rate.
 abbrev pub dataRules : (size rate : ℕ) → List ℕ → List ℤ → List (Rule (List ℕ))
 dataRules size rate d old =
     (only 19 when not (isListed size rate))
@@ -52,7 +52,7 @@ dataRules size rate d old =
     ∷ (only 35 when ltb (length old) (length (unpacked size d)))
     ∷ []
 
--- Read headers' refusals for kind 2, then 19, 34, 35.
+-- The refusals of read headers for kind 2, then 19, 34, 35.
 abbrev pub unpackRules : List ℕ → List ℤ → List (Rule (List ℕ))
 unpackRules s old = rsrRules s ++ dataRules (sizeOf s) (rateOf s) (dataPart s) old
 
@@ -64,7 +64,7 @@ unpacking s old = writes (unpackRules s old) (unpacked (sizeOf s) (dataPart s)) 
 abbrev pub packRules : (size rate : ℕ) → List ℤ → List ℕ → List (Rule (List ℕ))
 packRules size rate xs old =
     (only 19 when not (isListed size rate))
-    ∷ (only 34 when not (eqb (length xs % perWord size) 0))
+    ∷ (only 34 when not (eqb (length xs % perSampleWord size) 0))
     ∷ (only 37 when not (allCoded size xs))
     ∷ (only 35 when ltb (length old) (length (packed size xs)))
     ∷ []

@@ -1,5 +1,4 @@
--- Document 004, table 3-1, the listed pairs: the 36 rows in its order, rate (Ksamp/sec) and size
--- (bits/samp). Assumes nothing.
+-- Document 004, table 3-1: the 36 listed pairs in the order of the table, rate (Ksamp/sec) and size (bits/samp). Assumes nothing.
 -- The manual, docs/INTERFACE.md: "Samples".
 use Prim.Native.Nat.{ℕ}
 use mathlib.Core.Bool.{Bool, false, _&&_, _||_}
@@ -24,6 +23,6 @@ unfoldable pub among : (size rate : ℕ) → List Listed → Bool
 among size rate [] = false
 among size rate (row ∷ rows) = eqb (row .size) size && eqb (row .rate) rate || among size rate rows
 
--- The pair is listed.
+-- Whether the pair is listed.
 abbrev pub isListed : (size rate : ℕ) → Bool
 isListed size rate = among size rate table

@@ -1,20 +1,20 @@
-// Numbers of 32 bits, signed, and their bits: for callers that keep samples as bytes.
+// Signed numbers of 32 bits and their bits, for callers that keep samples as bytes.
 ghost use mathlib.Core.Path.{_≡_};
 ghost use Rattle.sfdu_samples.specs.Packing.{twos};
 ghost use Rattle.sfdu_samples.specs.Bits.{bitsOf};
 use crate::packs;
 
-// What the bits of a negative number count more than it.
+// The bits of a negative number, read as unsigned, are this much more than the number.
 const RANGE: i64 = 4294967296;
 
-// The bits of a number, two's complement.
+// The bits of a number in two's complement.
 pub fn to_bits(z: i32) -> u32
     ensures { λ r. ⌜ r ≡ bitsOf z ⌝ }
 {
     std::num::wrapping_add_u32(packs::raise(z), packs::RAISE)
 }
 
-// The number of bits in two's complement.
+// The number with these bits in two's complement.
 pub fn from_bits(v: u32) -> i32
     ensures { λ r. ⌜ r ≡ twos 32 v ⌝ }
 {

@@ -1,4 +1,4 @@
-// The samples of an RSR record: its data part unpacked into pairs of numbers, and numbers packed into a data part.
+// The samples of an RSR record: unpacks its data part into pairs of numbers, and packs numbers into a data part.
 pub mod rates;
 
 ghost use mathlib.Core.Path.{_≡_};
@@ -19,19 +19,19 @@ mod bits;
 mod packs;
 mod unpacks;
 
-// How many numbers or bytes were written; or a refusal, read headers' 1 to 12 with the number that goes with them.
+// How many numbers or bytes were written; or a refusal. `Header` is a refusal 1 to 12 of read headers, with its second number.
 pub enum Answer {
     Count(usize),
     Header(Fault),
     Refused(Refusal),
 }
 
-// Where the samples' size and rate stand, from the record's start.
+// The offsets of the samples' size and rate from the record's start.
 const SIZE_AT: usize = nesting::SECONDARY_AT + 36;
 
 const RATE_AT: usize = nesting::SECONDARY_AT + 38;
 
-// The numbers of a record's data part, I then Q, go to the start of the list.
+// Writes the numbers of a record's data part, I before Q, to the start of the list.
 pub fn unpack(s: &[u8], list: &mut [i32]) -> Answer
     ensures { λ r. ⌜ (wordsOf r, now (list .exit)) ≡ unpacking (now (s .entry)) (now (list .entry)) ⌝ }
 {
@@ -71,14 +71,14 @@ fn sample_rate(s: &[u8]) -> u32
     numbers::read_u16(s, RATE_AT) as u32
 }
 
-// The data part of the samples goes to the start of out.
+// Writes the data part that holds the samples to the start of `out`.
 pub fn pack(size: u32, rate: u32, samples: &[i32], out: &mut [u8]) -> Answer
     ensures { λ r. ⌜ (wordsOf r, now (out .exit)) ≡ packing size rate (now (samples .entry)) (now (out .entry)) ⌝ }
 {
     if !crate::rates::is_listed(size, rate) {
         return Answer::Refused(Refusal::SamplePair);
     }
-    let per = unpacks::per_word(size);
+    let per = unpacks::per_sample_word(size);
     if samples.len() % per != 0 {
         return Answer::Refused(Refusal::SampleWords);
     }
@@ -86,9 +86,9 @@ pub fn pack(size: u32, rate: u32, samples: &[i32], out: &mut [u8]) -> Answer
         return Answer::Refused(Refusal::SampleValue);
     }
     let words = samples.len() / per;
-    if out.len() / unpacks::WORD < words {
+    if out.len() / unpacks::SAMPLE_WORD < words {
         return Answer::Refused(Refusal::SampleSpace);
     }
     packs::pack_sized(samples, words, size, out);
-    Answer::Count(words * unpacks::WORD)
+    Answer::Count(words * unpacks::SAMPLE_WORD)
 }

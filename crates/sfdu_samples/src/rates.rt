@@ -87,7 +87,7 @@ const LISTED: [Listed; 36] = [
     },
 ];
 
-// Whether samples of so many bits come at so many thousand a second.
+// Whether table 3-1 has this size (in bits) and this rate (in thousand samples per second).
 pub fn is_listed(size: u32, rate: u32) -> bool
     ensures { λ r. ⌜ r ≡ isListed size rate ⌝ }
 {

@@ -1,5 +1,5 @@
--- Document 01, "Calls on records": what a walk passes and what a list holds ("packing list"), and where they stop. One
--- definition for the walk, the number lists and the table of entries. Assumes nothing.
+-- Document 01, "Calls on records": the records that a walk passes or a list holds ("packing list"), and where it stops. The walk, the number lists
+-- and the table of entries share one definition. Assumes nothing.
 -- The manual, docs/INTERFACE.md: "Streams".
 use Prim.Native.Nat.{ℕ, zero, suc, _+_, min}
 use mathlib.Core.Bool.{cond}
@@ -11,7 +11,7 @@ use Rattle.sfdu_headers.specs.Fields.{recordNumber}
 use Rattle.sfdu_stream.specs.declared.Entry.{Entry}
 use Rattle.sfdu_stream.specs.Walk.{Rules, wholeBy, full, refusalBy}
 
--- The entry of the whole record at a place; s is the stream from there on.
+-- The entry of the whole record at a place; s is the stream from that place on.
 unfoldable pub entryOf : (place : ℕ) → List ℕ → Entry
 entryOf place s = record {
   place = place;
@@ -20,11 +20,11 @@ entryOf place s = record {
   number = recordNumber (kindOf s) s;
 }
 
--- The same at a place in the stream s.
+-- The entry of the whole record at index `at` of the stream s.
 unfoldable pub entryAt : List ℕ → ℕ → Entry
 entryAt s at = entryOf at (drop at s)
 
--- The entries found, the stop place and why there.
+-- The entries, the place where the walk or list stops, and the stop number with its second number.
 pub record Listing : Type 0 where
   pub entries : List Entry
   pub stop : ℕ
@@ -36,8 +36,8 @@ stopped at why = record { entries = []; stop = at; why = why }
 abbrev pub prepend : List Entry → Listing → Listing
 prepend es l = record { entries = es ++ l .entries; stop = l .stop; why = l .why }
 
--- From a place on, where `free` entries are free: records are listed up to the first place with none, or with one and no
--- free entry (16). The one walk over a stream, by any rules; s is the stream from that place on.
+-- Lists the records from a place on. Stops at the first place without a whole record, or with 16 at a whole record when no entry is free. `rules` are
+-- the refusals of a record; s is the stream from the place on.
 unfoldable pub listingBy : Rules → (free place : ℕ) → List ℕ → Listing
 listingBy rules zero place s = cond (wholeBy rules s) (stopped place full) (stopped place (refusalBy rules place s))
 listingBy rules (suc free) place s =
@@ -45,21 +45,21 @@ listingBy rules (suc free) place s =
     (prepend (entryOf place s ∷ []) (listingBy rules free (place + recordLength s) (drop (recordLength s) s)))
     (stopped place (refusalBy rules place s))
 
--- By read one's rules.
+-- The same by the rules of read one.
 unfoldable pub listing : (free : ℕ) → List ℕ → (at : ℕ) → Listing
 listing free s at = listingBy readRules free at (drop at s)
 
--- Its answer: the count, the stop place and why there.
+-- The answer: how many records, the stop place, the stop number and its second number.
 abbrev pub answer : Listing → List ℕ
 answer l = length (l .entries) ∷ l .stop ∷ l .why
 
 -- ---- the walk
 
--- A walk is never short of entries: there is one for each byte (the law `enough-by`).
+-- A walk has one entry for each byte, so it never runs out of entries (the law `enough-by`).
 unfoldable pub walkBy : Rules → (place : ℕ) → List ℕ → Listing
 walkBy rules place s = listingBy rules (length s) place s
 
--- By read one's rules.
+-- The same by the rules of read one.
 unfoldable pub walkFrom : List ℕ → (at : ℕ) → Listing
 walkFrom s at = walkBy readRules at (drop at s)
 
@@ -68,7 +68,7 @@ walked s = answer (walkFrom s 0)
 
 -- ---- the lists
 
--- A list with xs at its start; what stands behind them stays.
+-- A list whose first elements become xs; the others are unchanged.
 abbrev pub fills {ℓ} : {A : Type ℓ} → List A → List A → List A
 fills xs old = xs ++ drop (length xs) old
 
@@ -79,7 +79,7 @@ pub record Columns : Type 0 where
   pub kinds : List ℕ
   pub numbers : List ℕ
 
--- Number lists hold as many records as the shortest of them.
+-- Number lists hold as many records as the shortest of them has room for.
 abbrev pub shortest : Columns → ℕ
 shortest c = min (min (length (c .places)) (length (c .lengths))) (min (length (c .kinds)) (length (c .numbers)))
 
@@ -91,7 +91,7 @@ fillsColumns es old = record {
   numbers = fills (map (λ (e : Entry). e .number) es) (old .numbers);
 }
 
--- The answer, and what the lists hold after it.
+-- The answer, and the lists after the call.
 unfoldable pub listNumbers : List ℕ → Columns → List ℕ × Columns
 listNumbers s old = let l = listing (shortest old) s 0 in (answer l, fillsColumns (l .entries) old)
 

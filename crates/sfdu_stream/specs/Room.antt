@@ -1,4 +1,4 @@
--- Document 02, Req 12: how many entries a list needs, so that it is never full (16). Assumes nothing.
+-- Document 02, Req 12: how many entries a list needs so that no call ever answers 16 (list full). Assumes nothing.
 -- The manual, docs/INTERFACE.md: "Streams".
 use Prim.Native.Nat.{ℕ, _/_, _≤_, _<_}
 use mathlib.Core.List.{List, [], _∷_}
@@ -11,17 +11,16 @@ use Rattle.sfdu.specs.Nesting.{kindNumber, dataValueAt}
 use Rattle.sfdu_stream.specs.declared.Entry.{Entry}
 use Rattle.sfdu_stream.specs.Listing.{walkFrom, walked, Columns, shortest, listNumbers, listEntries}
 
--- A record's data value starts at 120 (telemetry) or 260 (RSR), so no record of the kind is shorter: a stream's length divided by
--- that, rounded down. Telemetry's number is the one for every stream.
+-- No telemetry record is shorter than 120 bytes and no RSR record shorter than 260, where the data value starts. So a stream of this many bytes holds
+-- at most this many records. Telemetry's number holds for every stream.
 abbrev pub mostRecords : Kind → (bytes : ℕ) → ℕ
 mostRecords k bytes = bytes / dataValueAt k
 
--- The stop number among the words of a walk or a list.
+-- The stop number in the answer of a walk or a list.
 abbrev pub stopNumber : List ℕ → ℕ
 stopNumber words = getD words 2 0
 
--- So many entries are enough for the stream s: it has no more whole records; and every list of so many entries or more answers
--- what the walk answers, and never 16.
+-- n entries are enough for the stream s: it has no more whole records; and every list of n entries or more gives the walk's answer, and never 16.
 pub record Enough (s : List ℕ) (n : ℕ) : Type 0 where
   pub no-more : length (walkFrom s 0 .entries) ≤ n
   pub numbers-walked : (old : Columns) → n ≤ shortest old → listNumbers s old .0 ≡ walked s
@@ -32,7 +31,7 @@ pub record Enough (s : List ℕ) (n : ℕ) : Type 0 where
 abbrev pub EveryStream : Type 0
 EveryStream = (s : List ℕ) → Enough s (mostRecords Telemetry (length s))
 
--- A stream of RSR alone: every whole record that the walk of the whole stream passes is RSR, also those past where a list is full.
+-- A stream of RSR records only: every whole record that the walk passes is RSR, also records behind the place where a list is full.
 abbrev pub AllRsr : List Entry → Type 0
 AllRsr [] = Unit {0}
 AllRsr (e ∷ es) = (e .kind ≡ kindNumber Rsr) × AllRsr es
@@ -43,8 +42,8 @@ RsrAlone s = AllRsr (walkFrom s 0 .entries)
 abbrev pub RsrStreams : Type 0
 RsrStreams = (s : List ℕ) → RsrAlone s → Enough s (mostRecords Rsr (length s))
 
--- No smaller number would do, whatever the length: there is a stream of so many bytes that has that number of whole records, and every
--- list of fewer entries answers 16 there. For the number for RSR streams, it is a stream of RSR alone.
+-- No smaller number is enough: for each length there is a stream that has this many whole records, and every shorter list answers 16 for it. For RSR,
+-- that stream has RSR records only.
 pub record Needed (k : Kind) (bytes : ℕ) : Type 0 where
   pub stream : List ℕ
   pub long : length stream ≡ bytes

@@ -1,4 +1,4 @@
-// Streams of records back to back: a cursor, a walk, and how long a list of them has to be. The lists are `sfdu_lists`'.
+// Streams of records: a cursor, a walk, and how long a list of the records must be. `sfdu_lists` makes the lists.
 mod room;
 mod walking;
 
@@ -8,12 +8,12 @@ pub use walking::in_stream;
 pub use walking::stopped;
 pub use walking::walk;
 
-// A place in a stream, in bytes from its start.
+// A place in a stream: an offset in bytes from its start.
 pub struct Cursor {
     pub at: usize,
 }
 
-// What a step finds, with the cursor it hands back: moved on past a record, and else unmoved.
+// The answer of a step, with the cursor that it gives back: moved past the record if there is one, else unmoved.
 pub enum Step {
     Found {
         kind: sfdu::Kind,
@@ -25,21 +25,20 @@ pub enum Step {
     Refused(sfdu::Fault, Cursor),
 }
 
-// Why a walk or a list stops: at the stream's end, or by a refusal, whose offset counts from the stream's start; 0 goes with a full
-// list.
+// Why a walk or a list stops: at the stream's end, or by a refusal. The refusal's offset counts from the stream's start; a full list has 0.
 pub enum Stop {
     End,
     Refused(sfdu::Fault),
 }
 
-// What a walk or a list answers: how many whole records it passed or listed, the place where it stopped, and why there.
+// The answer of a walk or a list: how many whole records it found, the place where it stopped, and why.
 pub struct Walked {
     pub count: usize,
     pub place: usize,
     pub stop: Stop,
 }
 
-// An entry of a list: where a record stands, its length in bytes, its kind's number and its record number.
+// An entry of a list: a record's place, its length in bytes, its kind's number and its record number.
 #[repr(C)]
 pub struct Entry {
     pub place: u64,

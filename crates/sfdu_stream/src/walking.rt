@@ -17,7 +17,7 @@ use sfdu::Fault;
 use sfdu::Read;
 
 impl Cursor {
-    // The record at the cursor, and the cursor past it.
+    // Reads the record at the cursor, and gives back the cursor behind it.
     pub fn step(self, s: &[u8]) -> Step
         ensures { λ r. ⌜ stepWords r ≡ step (now (s .entry)) (self .at) ⌝ }
     {
@@ -42,7 +42,7 @@ impl Cursor {
     }
 }
 
-// The whole records from the stream's start, up to its end or to the first record that read one refuses.
+// Counts the whole records from the stream's start to its end, or to the first record that read one refuses.
 pub fn walk(s: &[u8]) -> Walked
     ensures { λ r. ⌜ wordsOf r ≡ walked (now (s .entry)) ⌝ }
 {
@@ -58,7 +58,7 @@ pub fn walk(s: &[u8]) -> Walked
     }
 }
 
-// Why a walk stops at a place where no whole record stands.
+// Why a walk stops at a place where there is no whole record.
 fn stop_at(s: &[u8], at: usize) -> Stop
     requires { ⌜ whole (now s) at ≡ false ⌝ }
     ensures { λ r. ⌜ stopWords r ≡ refusal (now (s .entry)) at ⌝ }
@@ -66,7 +66,7 @@ fn stop_at(s: &[u8], at: usize) -> Stop
     let cursor = Cursor { at };
     let found = cursor.step(s);
     match found {
-        // It has none to find.
+        // Cannot happen: no whole record is here.
         Step::Found {
             kind: _,
             size: _,
@@ -84,7 +84,7 @@ pub fn stopped(count: usize, place: usize, stop: Stop) -> Walked
     Walked { count, place, stop }
 }
 
-// The refusal of the record at a place, its offset counted from the stream's start; a count of bytes stays.
+// The refusal of the record at a place, with its offset counted from the stream's start. A count of bytes does not change.
 pub fn in_stream(s: &[u8], place: usize, fault: Fault) -> Fault
     requires { ⌜ place + fault .at ≤ length (now s) ⌝ }
     ensures { λ r. ⌜ faultWords r ≡ inStream place (faultWords fault) ⌝ }
@@ -100,7 +100,7 @@ pub fn in_stream(s: &[u8], place: usize, fault: Fault) -> Fault
     }
 }
 
-// Whether a refusal gives a count of bytes.
+// Whether a refusal's second number is a count of bytes.
 fn is_count(refusal: Refusal) -> bool
     ensures { λ r. ⌜ r ≡ isCount (numberOf refusal) ⌝ }
 {

@@ -23,7 +23,7 @@ use Rattle.sfdu.specs.Nesting.{
   lengthAt,
   lengthSize,
   labelSize,
-  wordSize,
+  blockFieldSize,
   blockLabelSize,
   aggregationAt,
   primaryAt,
@@ -55,8 +55,8 @@ block-part : (s : List ℕ) (at type size : ℕ) → Bytes s → at + blockLabel
     → block type size ≡ part s at blockLabelSize
 unfolding block blockType blockLength
 block-part s at type size b h e =
-    rw (← e .class, ← e .size-is, bytes-number s at wordSize b (omega arith), bytes-number s (at + wordSize) wordSize b (omega arith))
-    (part-join s at wordSize (at + wordSize) wordSize blockLabelSize refl refl)
+    rw (← e .class, ← e .size-is, bytes-number s at blockFieldSize b (omega arith), bytes-number s (at + blockFieldSize) blockFieldSize b (omega arith))
+    (part-join s at blockFieldSize (at + blockFieldSize) blockFieldSize blockLabelSize refl refl)
 
 -- The four primary values are the part where they stand.
 primary-part : (s : List ℕ) → secondaryAt ≤ length s → primaryOf s ≡ part s primaryValueAt primaryLength

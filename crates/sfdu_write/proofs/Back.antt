@@ -26,7 +26,7 @@ use Rattle.sfdu.specs.Nesting.{
   lengthAt,
   lengthSize,
   labelSize,
-  wordSize,
+  blockFieldSize,
   aggregationAt,
   primaryAt,
   primaryValueAt,
@@ -88,12 +88,12 @@ piece-block : (before after : List ℕ) (a type size : ℕ) → length before �
     → IsBlock (before ++ (block type size ++ after)) a type size
 unfolding blockType blockLength block
 piece-block before after a type size e t s =
-    let one : numberAt (before ++ (block type size ++ after)) a wordSize ≡ type =
-    rw append-assoc (piece-number before (bytesOf wordSize size ++ after) a wordSize type e t) in
-    let two : numberAt (before ++ (block type size ++ after)) (a + wordSize) wordSize ≡ size =
-    rw (append-assoc (bytesOf wordSize type) (bytesOf wordSize size) after, ← append-assoc before (bytesOf wordSize type))
-    (piece-number (before ++ bytesOf wordSize type) after (a + wordSize) wordSize size
-    (length-append before (bytesOf wordSize type) ∙ omega (arith, length-bytesOf wordSize type)) s) in
+    let one : numberAt (before ++ (block type size ++ after)) a blockFieldSize ≡ type =
+    rw append-assoc (piece-number before (bytesOf blockFieldSize size ++ after) a blockFieldSize type e t) in
+    let two : numberAt (before ++ (block type size ++ after)) (a + blockFieldSize) blockFieldSize ≡ size =
+    rw (append-assoc (bytesOf blockFieldSize type) (bytesOf blockFieldSize size) after, ← append-assoc before (bytesOf blockFieldSize type))
+    (piece-number (before ++ bytesOf blockFieldSize type) after (a + blockFieldSize) blockFieldSize size
+    (length-append before (bytesOf blockFieldSize type) ∙ omega (arith, length-bytesOf blockFieldSize type)) s) in
     record { class = one; size-is = two }
 
 -- No slice has both kinds.

@@ -21,7 +21,7 @@ use Rattle.sfdu.specs.Nesting.{
   kindBytes,
   lengthSize,
   labelSize,
-  wordSize,
+  blockFieldSize,
   dataValueAt,
   aggregationLength,
   primaryLength,
@@ -34,7 +34,7 @@ use Rattle.sfdu.specs.Nesting.{
 }
 use Rattle.sfdu.specs.Read.{primaryWords}
 
--- Write one: 0 and N, or the refusal's number.
+-- The answer of write one: 0 and N, or the refusal's number.
 abbrev pub wordsOf : Write → List ℕ
 wordsOf (Written n) = 0 ∷ n ∷ []
 wordsOf (Refused r) = numberOf r ∷ []
@@ -49,7 +49,7 @@ unfoldable pub labelBytes : Kind → (n : ℕ) → List ℕ
 labelBytes k n = authority ++ versionClass ++ kindBytes k ++ bytesOf lengthSize (n - labelSize)
 
 unfoldable pub block : (type : ℕ) → (size : ℕ) → List ℕ
-block type size = bytesOf wordSize type ++ bytesOf wordSize size
+block type size = bytesOf blockFieldSize type ++ bytesOf blockFieldSize size
 
 unfoldable pub primaryBlock : Primary → List ℕ
 primaryBlock p = block primaryType primaryLength ++ primaryWords p
@@ -65,22 +65,22 @@ recordBytes k p secondary value =
 
 -- ---- the call
 
--- The kind that a number names.
+-- The kind with this number.
 unfoldable pub isKind : ℕ → Bool
 isKind number = eqb number (kindNumber Telemetry) || eqb number (kindNumber Rsr)
 
 unfoldable pub kindNamed : ℕ → Kind
 kindNamed number = cond (eqb number (kindNumber Telemetry)) Telemetry Rsr
 
--- The secondary bytes are as many as the kind asks, and the data's fit 16 bits.
+-- The secondary value has the kind's length, and the data's length fits 16 bits.
 unfoldable pub isInput : Kind → (secondary value : List ℕ) → Bool
 isInput k secondary value = eqb (length secondary) (secondaryLength k) && leb (length value) mostData
 
--- N
+-- The length N of the record.
 abbrev pub sizeOf : Kind → (value : List ℕ) → ℕ
 sizeOf k value = dataValueAt k + length value
 
--- The answer and what the lent slice holds after it: the record and then what stood there; a refusal leaves the slice whole.
+-- The answer, and the lent slice after the call: the record, then the bytes that stood there. A refusal leaves the slice unchanged.
 unfoldable pub writeOne : (number : ℕ) → Primary → (secondary value out : List ℕ) → List ℕ × List ℕ
 writeOne number p secondary value out =
     let k = kindNamed number in

@@ -1,4 +1,4 @@
-// Write one: a record from its kind, its primary value and the bytes of its secondary and data values. It judges no field.
+// Write one: makes a record from its kind, its primary value, and the bytes of its secondary and data values. It tests no field in them.
 ghost use mathlib.Core.Path.{_≡_};
 ghost use Prim.Native.Nat.{_+_, _≤_};
 ghost use lib.ListN.{length};
@@ -11,13 +11,13 @@ use sfdu::Kind;
 use sfdu::Primary;
 use sfdu::nesting;
 
-// What writing one record answers: its length in bytes.
+// The answer of write one: the length of the record in bytes.
 pub enum Write {
     Written(usize),
     Refused(Refusal),
 }
 
-// Writes a record at the start of `out` and answers its length; the rest of `out` stays, and all of it where it refuses.
+// Writes a record at the start of `out` and answers its length. The rest of `out` is unchanged. A refusal leaves all of `out` unchanged.
 pub fn write_one(
     kind: u32,
     primary: Primary,
@@ -36,7 +36,7 @@ pub fn write_one(
     Write::Refused(Refusal::WriterInput)
 }
 
-// The same for one of the two kinds.
+// The same for a kind.
 fn write_kind(kind: Kind, primary: Primary, secondary: &[u8], value: &[u8], out: &mut [u8]) -> Write
     ensures { λ r. ⌜ (wordsOf r, now (out .exit)) ≡ writeOne (kindNumber kind) primary (now (secondary .entry)) (now (value .entry)) (now (out .entry)) ⌝ }
 {
@@ -51,7 +51,7 @@ fn write_kind(kind: Kind, primary: Primary, secondary: &[u8], value: &[u8], out:
     Write::Written(size)
 }
 
-// Whether the lengths are those that the kind asks for.
+// Whether the kind has secondary values of this length, and the data is not too long.
 fn is_input(kind: Kind, secondary: &[u8], value: &[u8]) -> bool
     ensures { λ r. ⌜ r ≡ isInput kind (now (secondary .entry)) (now (value .entry)) ⌝ }
 {
@@ -75,7 +75,7 @@ fn write_record(kind: Kind, primary: Primary, secondary: &[u8], value: &[u8], ou
     octets::copy_in(value, out, at);
 }
 
-// All that stands before the secondary value, of a record that is `size` bytes long.
+// Writes all that comes before the secondary value of a record of `size` bytes.
 fn write_head(kind: Kind, primary: Primary, size: usize, out: &mut [u8])
     requires { ⌜ (labelSize ≤ size) × (secondaryValueAt ≤ length (now out)) ⌝ }
     ensures { λ _. ⌜ now (out .exit) ≡ put (now (out .entry)) 0 (headBytes kind primary size) ⌝ }
@@ -111,7 +111,7 @@ fn write_label(kind: Kind, size: usize, out: &mut [u8])
     );
 }
 
-// The primary block, label and value.
+// Writes the primary block: its label and its value.
 fn write_primary(p: Primary, out: &mut [u8])
     requires { ⌜ secondaryValueAt ≤ length (now out) ⌝ }
     ensures { λ _. ⌜ now (out .exit) ≡ put (now (out .entry)) primaryAt (primaryBlock p) ⌝ }
@@ -128,7 +128,7 @@ fn write_primary(p: Primary, out: &mut [u8])
     out[nesting::PRIMARY_VALUE_AT + 3] = p.format;
 }
 
-// The label of a block: its type and its length.
+// Writes the label of a block: its type and its length.
 fn write_block(out: &mut [u8], at: usize, class: u64, size: u64)
     requires { ⌜ at + blockLabelSize ≤ length (now out) ⌝ }
     ensures { λ _. ⌜ now (out .exit) ≡ put (now (out .entry)) at (block class size) ⌝ }

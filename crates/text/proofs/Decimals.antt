@@ -12,7 +12,7 @@ use lib.ListN.{length, length-append}
 use mir.Syntax.{w64}
 use mir.Val.{Fits}
 use Rattle.io.specs.Digits.{digits, glyph, Fewest}
-use Rattle.text.specs.Text.{placesIn, decimal, word}
+use Rattle.text.specs.Text.{placesIn, decimal, numeral}
 
 -- ---- the digits' count
 
@@ -71,17 +71,17 @@ pub decimal-short : (m n : ℕ) → 0 < m → n < 10 ^ m → length (decimal n) 
 unfolding decimal
 decimal-short m n p h = rw (length-digits (placesIn n n) n) (few n m n p h)
 
-pub length-word : (n after : ℕ) → length (word n after) ≡ length (decimal n) + 1
-unfolding word
-length-word n after = length-append (decimal n) (after ∷ [])
+pub length-numeral : (n after : ℕ) → length (numeral n after) ≡ length (decimal n) + 1
+unfolding numeral
+length-numeral n after = length-append (decimal n) (after ∷ [])
 
 -- below 10 ^ m, m digits at most and one byte more
-pub word-short : (m n after : ℕ) → 0 < m → n < 10 ^ m → length (word n after) ≤ m + 1
-word-short m n after p h = omega (arith, length-word n after, decimal-short m n p h)
+pub numeral-short : (m n after : ℕ) → 0 < m → n < 10 ^ m → length (numeral n after) ≤ m + 1
+numeral-short m n after p h = omega (arith, length-numeral n after, decimal-short m n p h)
 
 -- of k digits and one byte more: for a number of 64 bits, at most 20 digits
-pub word-length : (k n after : ℕ) → Fits w64 n → Fewest 10 1 n k → (length (word n after) ≡ k + 1) × (k ≤ 20)
-word-length k n after h f =
+pub numeral-length : (k n after : ℕ) → Fits w64 n → Fewest 10 1 n k → (length (numeral n after) ≡ k + 1) × (k ≤ 20)
+numeral-length k n after h f =
     let l : length (decimal n) ≡ k = sym (ap length (decimal-is k n f)) ∙ length-digits k n in
     let s : length (decimal n) ≤ 20 = decimal-short 20 n (omega arith) (omega (arith, h .fits)) in
-    (length-word n after ∙ ap (λ (i : ℕ). i + 1) l, omega arith)
+    (length-numeral n after ∙ ap (λ (i : ℕ). i + 1) l, omega arith)

@@ -1,21 +1,12 @@
-// Text laid out in a lent slice. Each function puts its text from index `at` on and answers where it ends.
+// Writes text into a lent slice. Each function writes from index `at` on, and gives the index behind its text.
 ghost use Prim.Native.Nat.{_+_, _≤_};
 ghost use lib.ListN.{length};
-ghost use Rattle.text.specs.Text.{word, Puts};
-ghost use Rattle.text.specs.inner.Room.{mostWord};
+ghost use Rattle.text.specs.Text.{numeral, Puts};
+ghost use Rattle.text.specs.inner.Room.{mostNumeral};
 
 pub const SPACE: u8 = b' ';
 
 pub const LINE_END: u8 = b'\n';
-
-// Where a listing stands: the place in its input of the first byte that is held, how many bytes are held, how many bytes of text are laid
-// out, and whether the last line is among them.
-pub struct State {
-    pub place: u64,
-    pub have: usize,
-    pub text: usize,
-    pub done: bool,
-}
 
 pub fn put_text(out: &mut [u8], at: usize, source: &[u8]) -> usize
     requires { ⌜ at + length (now source) ≤ length (now out) ⌝ }
@@ -25,11 +16,11 @@ pub fn put_text(out: &mut [u8], at: usize, source: &[u8]) -> usize
     at + source.len()
 }
 
-// A number in decimal and the byte that ends it.
-pub fn put_word(out: &mut [u8], at: usize, n: u64, after: u8) -> usize
-    requires { ⌜ at + mostWord ≤ length (now out) ⌝ }
-    ensures { λ r. ⌜ Puts (now (out .entry)) (now (out .exit)) at r (word n after) ⌝ }
-    ensures { λ r. ⌜ r ≤ at + mostWord ⌝ }
+// Writes a number in decimal, and a byte behind it.
+pub fn put_numeral(out: &mut [u8], at: usize, n: u64, after: u8) -> usize
+    requires { ⌜ at + mostNumeral ≤ length (now out) ⌝ }
+    ensures { λ r. ⌜ Puts (now (out .entry)) (now (out .exit)) at r (numeral n after) ⌝ }
+    ensures { λ r. ⌜ r ≤ at + mostNumeral ⌝ }
 {
     let mut digits = [0u8; 20];
     let k = io::decimal(n, &mut digits);

@@ -1,4 +1,4 @@
--- The records that the worked examples speak of. Assumes nothing.
+-- The records of the worked examples. Assumes nothing.
 use Prim.Native.Nat.{ℕ}
 use mathlib.Core.List.{List, [], _∷_, _++_}
 use lib.ListN.{replicate}
@@ -9,11 +9,11 @@ use Rattle.sfdu.specs.declared.Primary.{Primary}
 use Rattle.sfdu.specs.Nesting.{lengthAt, lengthSize, secondaryLength}
 use Rattle.sfdu_write.specs.Write.{recordBytes}
 
--- The primary value of an RSR record; telemetry's is not judged.
+-- The primary value of an RSR record. No call tests telemetry's.
 abbrev pub primary : Primary
 primary = record { major = 21; minor = 4; mission = 255; format = 0 }
 
--- A record with these bytes at the start of its secondary value, zeros after them, and so many zeros for data.
+-- A record with these bytes at the start of its secondary value, then `spare` zeros, and `value` zeros as data.
 abbrev pub sample : Kind → (start : List ℕ) (spare value : ℕ) → List ℕ
 sample k start spare value = recordBytes k primary (start ++ replicate spare 0) (replicate value 0)
 

@@ -8,7 +8,7 @@ use crate::script::Frame;
 #[derive(Clone, Copy)]
 pub enum DateCase {
     Count(u32),
-    /// About 1 January of a year: any, one that can be divided by four, and the hundreds.
+    /// Near 1 January of a year: any year, one that four divides, or a hundredth.
     NewYear(u32),
     Any,
 }

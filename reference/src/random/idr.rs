@@ -1,4 +1,4 @@
-//! Medium band records in random scripts: every field at its edges, and what the writer is lent.
+//! Medium band records in random scripts: every field at the ends of its range, and what the writer is lent.
 
 use super::Generator;
 use crate::idr::{HEADER, HEADER_WORDS, LENGTH_WORD, PLAYBACK_RATES, RATES, RECORD, SAMPLES};
@@ -8,13 +8,13 @@ use crate::script::{Frame, MOST_TAPE_SLICE};
 
 #[derive(Clone, Copy)]
 pub enum TapeCase {
-    /// Every field in range, the rest by chance.
+    /// Every field in range, the rest random.
     Good,
-    /// Time tag not valid: nothing but the length word is judged.
+    /// The time tag is not valid, so only the length word is tested.
     Untagged,
     /// Word 3, with the time tag valid or not.
     LengthWord(u16, bool),
-    /// One of the nine digits from the day's hundreds on.
+    /// One of the nine digits, from the day's hundreds on.
     Digit(usize, u16),
     Day(u16),
     Hour(u16),
@@ -23,7 +23,7 @@ pub enum TapeCase {
     Microseconds(u32),
     Playback(u16),
     Sampling(u16),
-    /// The block size as it is stored.
+    /// The block size as stored.
     Block(u32),
     /// Several of time, rates and block size at once.
     Several,
@@ -36,7 +36,7 @@ pub enum TapeCase {
     Noise,
 }
 
-/// The cases by what they are about, what is refused apart; each kind comes up as often as the others.
+/// The cases by kind, with the refused ones separate. Each kind comes up as often as the others.
 pub fn tape_cases() -> Vec<Vec<TapeCase>> {
     use TapeCase::*;
     let lengths = [0, 1, LENGTH_WORD - 1, LENGTH_WORD + 1, LENGTH_WORD ^ 0x8000, LENGTH_WORD.swap_bytes(), u16::MAX];
@@ -109,7 +109,7 @@ impl Generator {
     }
 }
 
-/// The header words of a record with a valid time tag, every judged field in range, and the rest by chance.
+/// The header words of a record with a valid time tag, every tested field in range, and the rest random.
 fn tagged_words(rng: &Rng) -> [u16; HEADER_WORDS] {
     let mut words = [0; HEADER_WORDS].map(|_: u16| rng.word() as u16);
     words[0] |= 1 << 15;
@@ -139,7 +139,7 @@ fn spoil(rng: &Rng, words: &mut [u16; HEADER_WORDS], case: TapeCase) {
             words[0] = words[0] << 1 >> 1 | (tagged as u16) << 15;
         }
         Digit(place, digit) => {
-            // A time whose digits are small, so that the one digit decides.
+            // A time with small digits, so that only the one digit decides.
             put_day(words, 111);
             [3, 5, 7].into_iter().for_each(|place| put_pair(words, place, 11));
             put_digit(words, place, digit);

@@ -1,4 +1,4 @@
-//! Samples in random scripts: every listed size and rate unpacked and packed, and what is refused.
+//! Samples in random scripts: every listed size and rate, unpacked and packed, and the refusals.
 
 use super::{damaged, damages, header_case, Generator};
 use crate::iq::{LISTED, RATE, SIZE};
@@ -7,16 +7,16 @@ use crate::ops;
 use crate::record::{RSR, TELEMETRY};
 use crate::script::Frame;
 
-/// What is wrong, if anything; several at once to try the order.
+/// What is wrong, if anything. Some cases have several faults, to test the order of refusals.
 #[derive(Clone, Copy)]
 pub enum IqCase {
-    /// Lent exactly what is needed, or more.
+    /// The call is lent exactly what it needs, or more.
     Good(u32, u32),
-    /// Not a listed pair, and maybe more.
+    /// Not a listed pair, and perhaps more faults.
     Unlisted(u32, u32),
-    /// The data or the numbers do not fill whole words: so many bytes or numbers too many.
+    /// The data or the numbers do not fill whole words: there are so many bytes or numbers too many.
     Ragged(usize),
-    /// One number, or one byte, too short.
+    /// The lent slice is one number, or one byte, too short.
     Short,
     /// Packing: a number that has no code.
     NoCode(Bad),
@@ -34,7 +34,7 @@ pub enum Bad {
     Far,
 }
 
-/// Which of `iq_cases` comes up how often.
+/// How often each of `iq_cases` comes up.
 pub const IQ_KINDS: [usize; 8] = [0, 0, 0, 1, 2, 3, 4, 5];
 
 pub fn iq_cases() -> [Vec<IqCase>; 6] {
@@ -113,14 +113,14 @@ impl Generator {
 
 fn pack_case(rng: &Rng, case: IqCase) -> Frame {
     let (size, rate) = pair_of(rng, case);
-    // Of a size that there is, where this is none.
+    // A size that exists, if this one does not.
     let real = if [1, 2, 4, 8, 16].contains(&size) { size } else { 8 };
     let words = match case {
         IqCase::NoCode(_) | IqCase::Short => rng.pick(&[1, 2, 5, 20]),
         _ => rng.pick(&[0, 1, 2, 5, 20]),
     };
     let ragged = if let IqCase::Ragged(more) = case { more } else { sometimes_ragged(rng, case) };
-    // One number too many fills no word, two fill one of 16 bits.
+    // One number too many does not fill a word. Two fill a word of 16 bits.
     let ragged = if real == 16 { ragged % 2 } else { ragged };
     let ragged = if matches!(case, IqCase::Ragged(_)) { ragged.max(1) } else { ragged };
     let count = words * 32 / real as usize + ragged;
@@ -163,7 +163,7 @@ fn sometimes_ragged(rng: &Rng, case: IqCase) -> usize {
     }
 }
 
-/// How much is lent where so much is needed.
+/// How much is lent, if this much is needed.
 fn lent(rng: &Rng, case: IqCase, needed: u32) -> u32 {
     match case {
         IqCase::Short => rng.pick(&[needed.saturating_sub(1), needed / 2, 0]),
@@ -172,7 +172,7 @@ fn lent(rng: &Rng, case: IqCase, needed: u32) -> u32 {
     }
 }
 
-/// The value of any code of this size, often at the ends.
+/// The value of any code of this size, often at the ends of its range.
 fn any_value(rng: &Rng, size: u32) -> i32 {
     let bound = 1 << size;
     rng.pick(&[1, -1, bound - 1, 1 - bound, 2 * (rng.below(bound as u64) as i32) + 1 - bound])

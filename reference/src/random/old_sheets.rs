@@ -1,4 +1,4 @@
-//! Old sheets in random scripts: converted, right and damaged, and given to new calls.
+//! Old sheets in random scripts, right and damaged: converted, and passed to new calls.
 
 use super::Generator;
 use crate::convert::{OLD_DESKS, OLD_SHEET};
@@ -15,7 +15,7 @@ pub enum OldCase {
     Length(usize),
     /// A new sheet as it is.
     New,
-    /// A new sheet, right or damaged, with its bytes in the old places.
+    /// A new sheet, right or damaged, with its bytes at the old places.
     As(SheetCase),
     /// The new slice's length.
     Slice(usize),
@@ -32,7 +32,7 @@ pub fn old_cases() -> Vec<OldCase> {
 }
 
 impl Generator {
-    /// An old sheet converted, and a few calls on what it becomes; sometimes given to them as it is.
+    /// Converts an old sheet and makes a few calls on the result; sometimes passes the old sheet to them.
     pub fn old_sheets(&mut self) {
         let case = self.old_sheets.deal(&self.rng);
         let old = old_case(&self.rng, case);
@@ -63,8 +63,8 @@ fn old_case(rng: &Rng, case: OldCase) -> Vec<u8> {
     }
 }
 
-/// A new sheet's bytes in document 01's places: without the used words, and with the old sizes in the header where the new
-/// ones were right.
+/// A new sheet's bytes at document 01's places: without the used words, and with the old sizes in the header if the
+/// new ones were right.
 pub fn as_old(new: &[u8]) -> Vec<u8> {
     let without_word = |at: usize| &new[at + ledger::KEY..at + ledger::ROW];
     let mut old = new[..ledger::ROWS].to_vec();

@@ -1,5 +1,5 @@
-//! Streams received by a desk in random scripts, and the missing lists of rows. The streams are those of the sheet's rows
-//! and of others, with numbers about the rows' ends, so that every outcome comes up.
+//! Streams that a desk receives in random scripts, and missing lists of rows. The streams are those of the sheet's
+//! rows and others, with numbers near the rows' ends, so that every outcome comes up.
 
 use super::{damaged, damages, Generator};
 use crate::keys;
@@ -14,7 +14,7 @@ use crate::script::{Frame, MOST_NUMBERS};
 pub enum ReceiveCase {
     /// A fresh sheet with a few rows, and a stream of so many records.
     Rows(usize),
-    /// One row, over the end of the stream's numbers.
+    /// One row that passes the end of the stream's numbers.
     Wrap,
     /// A right sheet with ticks everywhere.
     Underway,
@@ -70,7 +70,7 @@ impl Generator {
             ReceiveCase::OpenDesk => nights::sheet_with(rng, rng.pick(&[1, 3]), 0, 60),
             ReceiveCase::DamagedSheet => sheet_case(rng, self.sheets.deal(rng), true),
             ReceiveCase::Wrap => wrapping_sheet(rng),
-            // Mostly the sheet that is there, if rows are.
+            // Mostly the current sheet, if it has rows.
             _ if ledger::is_sheet(&self.calls.sheet) && rng.percent(50) => return,
             _ => {
                 let mut s = nights::sheet_with(rng, rng.between(1, 4), 0, 0);
@@ -83,7 +83,7 @@ impl Generator {
         self.emit(Frame { op: ops::NEW_SHEET, a: sheet, ..Frame::default() });
     }
 
-    /// A stream for the sheet's rows, and how many records it was made of.
+    /// A stream for the sheet's rows, and how many records it was made from.
     fn stream_for(&mut self, case: ReceiveCase) -> (Vec<u8>, usize) {
         let records = match case {
             ReceiveCase::Rows(records) => records,
@@ -113,7 +113,7 @@ impl Generator {
         (stream, records)
     }
 
-    /// The key and the number of a record: mostly of a row that is there, about its ends and its first positions.
+    /// The key and number of a record, mostly for an enrolled row, near its ends and its first positions.
     fn arrival(&self) -> (u64, u32) {
         let (view, rng) = (self.view(), &self.rng);
         let used: Vec<usize> = ledger::used_rows(&view).collect();
@@ -142,14 +142,14 @@ impl Generator {
         self.rng.pick(&such)
     }
 
-    /// About as many as there are, none, or the most.
+    /// A list length near the number of records, or none, or the most.
     fn list_length(&self, records: usize) -> u32 {
         let near = records as u32;
         let chosen = [near, near, near + 1, near + 3, near.saturating_sub(1), near / 2, 0, MOST_NUMBERS];
         self.rng.pick(&chosen)
     }
 
-    /// A call for a missing list of about the length that is missing.
+    /// A call for a missing list, with a list of about the right length.
     pub fn missing_list(&mut self) {
         let (view, x) = (self.view(), self.row());
         let missing = ledger::report(&view, x).map_or(3, |report| report.missing);
@@ -171,13 +171,13 @@ impl Generator {
     }
 }
 
-/// A record of the stream with this key, mostly without data. Where it is `odd`, mostly a field is out of range.
+/// A record of the stream with this key, mostly without data. If `odd`, mostly with a field out of range.
 fn record_of(rng: &Rng, key: u64, n: u32, odd: bool) -> Vec<u8> {
     let (kind, [a, b, c, d]) = keys::parts(key).expect("a valid key");
     let mut secondary = make::secondary(rng, kind);
     let mut set = |at, width, value: u32| put_secondary(&mut secondary, at, width, value.into());
     let (fields, number) = if kind == TELEMETRY {
-        // The spacecraft's upper bits are another field's.
+        // The spacecraft field's upper bits belong to another field.
         let upper = (rng.byte() as u32 & 0b1111_1100) << 8;
         ([(6, 2, upper + a), (10, 1, b), (74, 2, c), (30, 1, d)], (22, 4))
     } else {
@@ -192,7 +192,8 @@ fn record_of(rng: &Rng, key: u64, n: u32, odd: bool) -> Vec<u8> {
     make::record(kind, make::primary(rng, kind), &secondary, &data)
 }
 
-/// Mostly out of range. Telemetry: the band, which counts where the mode has two bits; RSR: a range, or day 366.
+/// Fields that are mostly out of range. Telemetry: the band, which counts if the mode has two bits. RSR: a range, or
+/// day 366.
 fn odd_fields(rng: &Rng, kind: u32) -> [(usize, usize, u32); 2] {
     match (kind, rng.percent(50)) {
         (TELEMETRY, _) => [(26, 1, rng.pick(b"LsU").into()), (28, 1, rng.pick(&[1, 2, 3, 255]))],
@@ -201,7 +202,7 @@ fn odd_fields(rng: &Rng, kind: u32) -> [(usize, usize, u32); 2] {
     }
 }
 
-/// One row whose numbers go over the end: of 32 bits, or of 16.
+/// One row whose numbers pass the end: of 32 bits, or of 16.
 fn wrapping_sheet(rng: &Rng) -> Vec<u8> {
     let mut s = vec![0; ledger::SHEET];
     ledger::fresh(&mut s).expect("the length is right");

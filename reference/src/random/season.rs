@@ -1,4 +1,4 @@
-//! Seasons in random scripts: sheets one after another, right ones of different streams, and not.
+//! Seasons in random scripts: sheets one after another, with different streams or with common ones, right and damaged.
 
 use super::Generator;
 use crate::keys::FIRST_RSR;
@@ -25,7 +25,7 @@ pub enum SeasonCase {
     Damaged,
 }
 
-/// Which of `season_cases` comes up how often: as many seasons are accepted as refused, and each refusal is met soon.
+/// How often each of `season_cases` comes up. As many seasons are accepted as refused, and each refusal comes up soon.
 pub const SEASON_KINDS: [usize; 6] = [0, 0, 1, 2, 2, 3];
 
 pub fn season_cases() -> [Vec<SeasonCase>; 4] {
@@ -77,7 +77,7 @@ impl Generator {
     }
 }
 
-/// Streams that no two sheets have in common.
+/// Streams such that no two sheets share one.
 #[derive(Default)]
 pub struct Streams {
     given: u64,
@@ -86,12 +86,12 @@ pub struct Streams {
 impl Streams {
     fn next_key(&mut self, rng: &Rng) -> u64 {
         self.given += 1;
-        // Spread out, so that sheets do not have them in order.
+        // Spread out, so that a sheet does not have them in order.
         let number = self.given * 0x9E37 % 65_536;
         rng.pick(&[0, 1 << 41, FIRST_RSR]) + number
     }
 
-    /// A right sheet with so many rows, free ones between them where it is not full, and sometimes a desk open.
+    /// A right sheet with so many rows, with free rows between them if it is not full, and sometimes an open desk.
     pub fn sheet(&mut self, rng: &Rng, rows: usize) -> Vec<u8> {
         let mut s = vec![0; SHEET];
         ledger::fresh(&mut s).expect("the length is right");
@@ -110,7 +110,7 @@ impl Streams {
     }
 }
 
-/// Every row is ticked from its start up to somewhere, and all desks are closed.
+/// Ticks every row from its start up to some position, and closes all desks.
 fn close_gaps(rng: &Rng, s: &mut [u8]) {
     for desk in 0..DESK_PLACES as u32 {
         let _ = ledger::drop_desk(s, desk);

@@ -1,4 +1,4 @@
-//! Mission settings in random scripts: added, asked for, and settings sheets right and damaged.
+//! Mission settings in random scripts: adding, asking, and settings sheets, right and damaged.
 
 use super::Generator;
 use crate::dates::LAST_COUNT;
@@ -8,7 +8,7 @@ use crate::record::number;
 use crate::script::{Frame, MOST_SETTINGS};
 use crate::settings::{self, Setting, COUNT, EDITION, ENTRIES, ENTRY, FIRST_DAY, PLACES, SETTINGS, ZEROS};
 
-/// Few missions and days, so that many are there already.
+/// Few missions and days, so that many are in the sheet already.
 const MISSIONS: [u8; 5] = [0, 1, 74, 177, 255];
 const DAYS: [u32; 12] = [0, 1, 2, 39_000, 39_001, 40_000, 65_535, 65_536, LAST_COUNT, 1 << 31, u32::MAX - 1, u32::MAX];
 const BAD_EDITIONS: [u32; 7] = [0, 3, 255, 256, 257, 65_537, u32::MAX];
@@ -16,7 +16,7 @@ const BAD_EDITIONS: [u32; 7] = [0, 3, 255, 256, 257, 65_537, u32::MAX];
 /// What a scene starts from.
 #[derive(Clone, Copy)]
 pub enum SettingsCase {
-    /// From an empty sheet: settings, and questions between.
+    /// Starts from an empty sheet: adds settings, with questions between.
     Season,
     /// A sheet with some settings, and calls on it.
     With,
@@ -37,7 +37,7 @@ pub const SETTINGS_CASES: [SettingsCase; 6] = [
 pub enum Damage {
     Length(usize),
     Header(usize, u32),
-    /// So many settings, and the count that the header has.
+    /// How many settings there are, and how many the header counts.
     Count(usize, u32),
     Edition(u8),
     /// Offset in a used entry.
@@ -72,7 +72,7 @@ impl Generator {
         match self.settings.deal(&self.rng) {
             SettingsCase::Season => {
                 if self.calls.settings.len() != SETTINGS {
-                    // An empty sheet cannot be made in it.
+                    // The slice does not have the right length, so no empty sheet can be made in it.
                     self.emit(Frame { op: ops::MAKE_EMPTY, ..Frame::default() });
                     self.emit(Frame { op: ops::NEW_SETTINGS, a: vec![1; SETTINGS], ..Frame::default() });
                 }
@@ -116,12 +116,13 @@ impl Generator {
         self.emit(Frame { op: ops::ADD, x, y: edition, z: day(rng), w: frame_length(rng), ..Frame::default() });
     }
 
-    /// A mission and day that are there, with an edition that is not known and one that is; and the day for another mission.
+    /// A mission and day that are in the sheet, with an edition that is not known and with one that is; and the same
+    /// day for another mission.
     fn add_refused(&mut self) {
         let rng = &self.rng;
         let s = &self.calls.settings;
         if !settings::is_settings(s) {
-            // The script is full, and the settings were not made.
+            // The script is full, and the settings were not added.
             return;
         }
         let count = number(s, COUNT, 4) as usize;
@@ -185,7 +186,7 @@ fn damaged(rng: &Rng, damage: Damage) -> Vec<u8> {
         Damage::SameDay => {
             let other = (one + 1 + rng.index(count - 1)) % count;
             let (mission, day) = (s[entry(one)], s[entry(one) + FIRST_DAY..][..4].to_vec());
-            // Of another mission the day may stand there too.
+            // Another mission may have a setting for the same day.
             s[entry(other)] = if rng.percent(75) { mission } else { mission ^ 1 };
             s[entry(other) + FIRST_DAY..][..4].copy_from_slice(&day);
         }

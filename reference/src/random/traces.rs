@@ -1,4 +1,5 @@
-//! Traces in random scripts: recorded nights, whole or in pieces, and such as differ from what the calls answer or are not well formed.
+//! Traces in random scripts: recorded nights, whole or in pieces; traces that differ from the calls' answers; traces
+//! that are not well formed.
 
 use super::Generator;
 use crate::convert::OLD_SHEET;
@@ -11,13 +12,13 @@ use crate::script::Frame;
 
 #[derive(Clone, Copy)]
 pub enum TraceCase {
-    /// So many calls as they were answered.
+    /// So many calls with the answers that they got.
     Recorded(usize),
-    /// Another answer in one entry: a number of no refusal too.
+    /// Another answer in one entry, also a number that is no refusal's.
     OtherAnswer,
     /// Another row in an accepted enrolment.
     OtherRow,
-    /// One byte anywhere.
+    /// One byte changed, anywhere.
     AnyByte,
     /// A byte that the call does not use, at this offset of an entry.
     Unused(usize),
@@ -25,16 +26,16 @@ pub enum TraceCase {
     CallNumber(u8),
     /// A number of the header, and what is added to it.
     Header(usize, i64),
-    /// So many bytes less, or more.
+    /// So many bytes less; or more.
     Cut(usize),
     Longer(usize),
-    /// So many bytes of all.
+    /// Only the first so many bytes.
     Short(usize),
     /// A sheet of another length.
     SheetLength(usize),
 }
 
-/// Which of `trace_cases` comes up how often.
+/// How often each of `trace_cases` comes up.
 pub const TRACE_KINDS: [usize; 6] = [0, 0, 1, 2, 2, 3];
 
 pub fn trace_cases() -> [Vec<TraceCase>; 4] {
@@ -80,8 +81,8 @@ impl Generator {
 }
 
 impl Generator {
-    /// A night in pieces: the first played over a fresh sheet, each other over what the one before left. Sometimes an answer
-    /// in one of them differs.
+    /// A night in pieces: the first is replayed over a fresh sheet, each other over what the one before left.
+    /// Sometimes an answer in one of them differs.
     fn pieces_of_night(&mut self, count: usize) {
         let log = recorded(&self.rng, count);
         let mut cuts = vec![0, log.len()];
@@ -98,7 +99,8 @@ impl Generator {
         }
     }
 
-    /// A few calls over the sheet as it stands, with what they answer there, or would on a fresh sheet.
+    /// A few calls over the sheet as it is, with the answers that they get there, or that they would get on a fresh
+    /// sheet.
     pub fn short_replay(&mut self) {
         let rng = &self.rng;
         let start = if rng.percent(80) { self.view() } else { fresh_sheet() };
@@ -143,7 +145,7 @@ fn trace_case(rng: &Rng, case: TraceCase) -> Vec<u8> {
             let right = [trace.len(), count, HEADER][i] as i64;
             put(&mut trace, 4 * i, 4, (right + more) as u32 as u64);
             if rng.percent(30) {
-                // What the header says of the count, its length says too.
+                // The header's length is made to agree with its count.
                 let length = (trace.len() as i64 + ENTRY as i64 * more) as u32;
                 put(&mut trace, 0, 4, length.into());
             }
@@ -166,7 +168,7 @@ fn trace_case(rng: &Rng, case: TraceCase) -> Vec<u8> {
     trace
 }
 
-/// Calls made one after the other on a fresh sheet, with what they answered.
+/// Calls made one after the other on a fresh sheet, with their answers.
 pub fn recorded(rng: &Rng, count: usize) -> Vec<(Call, Answer)> {
     recorded_on(rng, fresh_sheet(), count, 3)
 }
@@ -177,13 +179,13 @@ fn fresh_sheet() -> Vec<u8> {
     s
 }
 
-/// The same on this sheet; the first so many are enrolments.
+/// The same on this sheet. The first so many are enrolments.
 fn recorded_on(rng: &Rng, mut s: Vec<u8>, count: usize, enrolments: usize) -> Vec<(Call, Answer)> {
     let mut log = Vec::new();
     while log.len() < count {
         let call = if log.len() < enrolments { enrolment(rng) } else { call(rng) };
         let answer = call.make(&mut s);
-        // Of refused calls fewer than come, but 31 closes the desk.
+        // Keeps only half of the refused calls, except 31, which closes the desk.
         if [0, 31].contains(&answer.number) || rng.percent(50) || log.len() < enrolments {
             log.push((call, answer));
         }
@@ -196,7 +198,7 @@ fn enrolment(rng: &Rng) -> Call {
     Call::Enrol { key, first: rng.pick(&[0, 1, 65_530, 65_530, 65_536, u32::MAX - 3]) }
 }
 
-/// Few desks, rows and numbers, so that the calls meet.
+/// Few desks, rows and numbers, so that calls affect each other.
 fn call(rng: &Rng) -> Call {
     let desk = rng.below(if rng.percent(4) { 256 } else { 5 }) as u8;
     let row = rng.below(if rng.percent(4) { 256 } else { 4 }) as u8;

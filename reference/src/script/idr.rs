@@ -26,7 +26,7 @@ pub fn write(f: &Frame) -> Option<String> {
     Some(format!("{} {}", answer.err().unwrap_or(0), crc32(&slice)))
 }
 
-/// The fields in document 001's order, flags as 0 or 1; the line's form has no tape type.
+/// The fields in document 001's order, flags as 0 or 1. The line has no tape type.
 fn field_words(f: &Fields) -> String {
     let flag = |flag: bool| flag as u64;
     [

@@ -1,4 +1,4 @@
-//! `UNPACK` and `PACK`: samples of RSR records. The crc of all that is lent is always there.
+//! `UNPACK` and `PACK`: samples of RSR records. Each line has the crc of all that is lent.
 
 use super::{crc32, refusal_words, Frame, LIST_FILL, MOST_SLICE, SLICE_FILL};
 use crate::iq;

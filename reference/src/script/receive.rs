@@ -1,13 +1,14 @@
-//! The ops on a sheet that are lent a list too: `MISSING_NUMBERS` and `RECEIVE`.
+//! The ops on a sheet that are also lent a list: `MISSING_NUMBERS` and `RECEIVE`.
 
 use super::{crc32, Calls, Frame, LIST_FILL};
 use crate::receive::Received;
 use crate::{ledger, ops, receive};
 
-/// The most numbers that the list of a frame has.
+/// The longest list that a frame can ask for.
 pub const MOST_NUMBERS: u32 = 1_100;
 
-/// The crc of the whole list, its numbers of 4 bytes, and that of the sheet end each line. None where the list is to be too long.
+/// Each line ends with the crc of the whole list, with numbers of 4 bytes, and that of the sheet. None if the list
+/// would be too long.
 pub fn line(calls: &mut Calls, f: &Frame) -> Option<String> {
     if f.z > MOST_NUMBERS {
         return None;

@@ -1,4 +1,4 @@
-//! `NEW_SETTINGS` to `ASK`: mission settings. The crc of the settings after the call ends each line.
+//! `NEW_SETTINGS` to `ASK`: mission settings. Each line ends with the crc of the settings after the call.
 
 use super::{crc32, Frame};
 use crate::ops;

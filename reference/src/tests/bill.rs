@@ -1,4 +1,4 @@
-//! The bill of nights with the rule of the stale save, and without it.
+//! The bill of nights, with the rule of the stale save and without it.
 
 use crate::bill::{self, nights, Bill, Rule};
 
@@ -10,7 +10,7 @@ fn what_was_ticked_and_saved_is_never_ordered_again() {
         assert_eq!((with.ordered_again, with.nights), (0, 0), "seed {seed}");
         assert!(with.stale > 0);
     }
-    // A desk alone is never stale, and loses nothing without the rule.
+    // A desk that is alone is never stale, and loses nothing without the rule.
     for rule in [Rule::Stale, Rule::LastSaveWins] {
         assert_eq!(nights(1, 20, 1, rule), Bill::default());
     }

@@ -1,11 +1,11 @@
-//! Request 01: every date of the 1,101 years and every count, against a calendar that goes on day by day.
+//! Request 01: every date of the 1,101 years and every count, compared with a calendar that counts day by day.
 
 use super::{by_hand, field, lines, rsr_secondary, telemetry_by_hand, Frame};
 use crate::dates::{date_of, day_count};
 use crate::ops;
 use crate::record::{read_headers, Fields, RSR, TELEMETRY};
 
-/// Month lengths, and 29 February in a leap year: not the reference's rule.
+/// Month lengths, with 29 February in a leap year: another rule than the reference's.
 fn months(year: u32) -> [u32; 12] {
     let february = match (year % 400, year % 100, year % 4) {
         (0, _, _) => 29,

@@ -6,7 +6,7 @@ use crate::ops;
 use crate::record::{Refused, RSR};
 use crate::settings::{self, Setting};
 
-/// Bytes 240 to 243 are 1 to 4; those about them are not.
+/// Bytes 240 to 243 are 1 to 4; the bytes around them are others.
 fn record() -> Vec<u8> {
     let mut secondary = rsr_secondary();
     secondary[200..212].copy_from_slice(&[9, 8, 7, 6, 1, 2, 3, 4, 5, 4, 3, 2]);
@@ -22,7 +22,7 @@ fn gains() {
     for edition in [0, 3, 258, u32::MAX] {
         assert_eq!(gain(&s, edition), Err(Refused::Number(44)));
     }
-    // Read headers' refusals stand first.
+    // The refusals of read headers come first.
     assert_eq!(gain(&s[..259], 3), Err(short(6, 259)));
     assert_eq!(gain(&telemetry_by_hand(100, &[]), 3), Err(Refused::Number(15)));
     let mut late = s.clone();
@@ -37,7 +37,7 @@ fn gains_by_settings() {
     assert_eq!(gain_by_settings(&s, &sheet), Err(Refused::Number(43)));
     settings::make_empty(&mut sheet).unwrap();
     assert_eq!(gain_by_settings(&s, &sheet), Err(Refused::Number(47)));
-    // The record is of mission 255 and the last day of 2008, which is 39,811.
+    // The record is of mission 255 and of the last day of 2008, which is day 39,811.
     for (mission, edition, first_day, answer) in [
         (254, 2, 0, Err(Refused::Number(47))),
         (255, 2, 39_812, Err(Refused::Number(47))),

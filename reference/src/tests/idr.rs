@@ -1,4 +1,4 @@
-//! Medium band records: the request's examples, and every field held to a string of the header's bits.
+//! Medium band records: the request's examples, and every field compared with a string of the header's bits.
 
 use super::{lines, Slow};
 use crate::idr::{self, Fields, Time, HEADER_WORDS, RECORD, SAMPLES};
@@ -6,7 +6,7 @@ use crate::script::{crc32, Frame};
 use crate::{ops, random, sample, tapes};
 use std::io::Read;
 
-/// Words 1 to 28 of a record whose time tag is valid, with words put in.
+/// Words 1 to 28 of a record with a valid time tag, of which some are replaced.
 fn tagged(put: &[(usize, u16)]) -> [u16; 28] {
     let mut words = [0; 28];
     for (n, word) in [(1, 0x8000), (3, 2_528), (6, 0x0010), (10, 0b10000), (11, 0b00100), (12, 0x00FE), (13, 0xDB08)]
@@ -40,7 +40,7 @@ fn block_sizes() {
     assert_eq!(block_size(8_388_607), Err(54));
 }
 
-/// Word 1 bits 5 to 8: read and not judged.
+/// Word 1 bits 5 to 8 are read and not tested.
 #[test]
 fn tape_types() {
     for (word, tape_type, tape_number) in [(0x8F01, 15, 1), (0x8000, 0, 0), (0xF0FF, 0, 255), (0x8801, 8, 1)] {
@@ -51,7 +51,7 @@ fn tape_types() {
 
 #[test]
 fn rates() {
-    // As words 10 and 11 list them, speed by speed.
+    // The codes as words 10 and 11 list them, speed by speed.
     let listed = ["10000", "01000", "00000", "10001", "01001", "00001", "10010", "01010", "00010", "10011", "01011"];
     let listed = [&listed[..], &["00011", "10100", "01100", "00100"]].concat();
     let thousands =
@@ -88,7 +88,7 @@ fn times() {
     }
 }
 
-/// 51 where the tag is not valid too, 52 to 54 only where it is; in the table's order.
+/// 51 also if the time tag is not valid; 52 to 54 only if it is; in the order of the table.
 #[test]
 fn order() {
     let mut words = tagged(&[(3, 2_527), (6, 0), (10, 1), (12, 0)]);
@@ -114,7 +114,7 @@ fn order() {
 struct Bits(String);
 
 impl Bits {
-    /// Words and bits count from 1, to the last included; a field may go on into the next word.
+    /// Words and bits count from 1; the last bit is included. A field may go on into the next word.
     fn cut(&self, (n, first): (usize, usize), (last_n, last): (usize, usize)) -> u64 {
         u64::from_str_radix(&self.0[16 * (n - 1) + first - 1..16 * (last_n - 1) + last], 2).unwrap()
     }

@@ -1,4 +1,4 @@
-//! Request 08: samples held to strings of bits.
+//! Request 08: samples compared with strings of bits.
 
 use super::{by_hand, field, lines, rsr_secondary, telemetry_by_hand, Frame};
 use crate::iq::{pack, unpack, LISTED};
@@ -16,7 +16,7 @@ fn record(size: u8, rate: u16, data: &[u8]) -> Vec<u8> {
     by_hand(RSR, 240 + data.len() as u64, &secondary, data)
 }
 
-/// Table 3-2: each word as text, Q before I; in each the samples from the right.
+/// Table 3-2: each word as text, Q before I; in each half the samples from the right.
 fn plainly(size: usize, data: &[u8]) -> Vec<i32> {
     let mut numbers = Vec::new();
     for word in data.chunks(4) {
@@ -184,21 +184,21 @@ fn the_tone() {
     let raw = text(&tone, true).0;
     assert_eq!(raw.len(), 2_000 * 8);
     assert_eq!(raw[..8], [201, 0, 0, 0, 1, 0, 0, 0]);
-    // What came before a stop is written.
+    // The samples before a stop are written.
     let (lines, stop) = text(&tone[..4_000], false);
     assert_eq!(lines.split(|byte| *byte == b'\n').count(), 1_001);
-    assert_eq!(stop.as_deref(), Some("stopped at byte 2260: 6 1740 record cut off"));
+    assert_eq!(stop.as_deref(), Some("stopped at byte 2260: 6 1740 fewer bytes are there than the label says"));
     let mut unlisted = tone.clone();
     unlisted[2_260 + 68] = 3;
     assert_eq!(
         text(&unlisted, false).1.as_deref(),
-        Some("stopped at byte 2260: 19 0 sample size and rate are not a listed pair")
+        Some("stopped at byte 2260: 19 0 the sample size and rate are not a listed pair")
     );
     unlisted[2_260 + 52] = 0;
-    assert_eq!(text(&unlisted, false).1.as_deref(), Some("stopped at byte 2260: 12 2312 field out of range"));
+    assert_eq!(text(&unlisted, false).1.as_deref(), Some("stopped at byte 2260: 12 2312 a field is out of its range"));
     assert_eq!(
         text(&telemetry_by_hand(100, &[]), false).1.as_deref(),
-        Some("stopped at byte 0: 15 0 record of another kind")
+        Some("stopped at byte 0: 15 0 the record is not of the kind asked for, or that is neither 1 nor 2")
     );
 }
 

@@ -1,4 +1,5 @@
-//! The missing list, receive, and the questions on rows, desks and keys, held to the plain book; traces played in pieces.
+//! The missing list, receive, and the questions on rows, desks and keys, compared with the plain book; traces
+//! replayed in pieces.
 
 use super::{by_hand, fresh, lines, rsr_secondary, Frame};
 use crate::book::{Book, Call, Desk, Place};
@@ -13,7 +14,7 @@ use crate::stream::{self, Cursor, Step};
 use crate::{keys, nights, ops};
 use std::collections::BTreeSet;
 
-/// The numbers that the unticked positions below the highest ticked one have.
+/// The numbers at the unticked positions below the highest ticked one.
 fn missing(place: &Place) -> Vec<u32> {
     let modulus = if place.key >= 1 << 42 { 65_536 } else { 1u64 << 32 };
     let highest = place.set.last().copied().unwrap_or(0);
@@ -21,7 +22,7 @@ fn missing(place: &Place) -> Vec<u32> {
     unticked.map(|position| ((place.first as u64 + position as u64) % modulus) as u32).collect()
 }
 
-/// The outcomes of the records that are handled, made by the book's own calls, and where the walk stops.
+/// The outcomes of the records, made with the book's own calls, and where the walk stops.
 fn visits(book: &mut Book, desk: u32, s: &[u8], free: usize) -> (Vec<u32>, u64, u32) {
     let (mut outcomes, mut cursor) = (Vec::new(), Cursor { place: 0 });
     loop {
@@ -60,7 +61,7 @@ fn crc_of(list: &[u32]) -> u32 {
     crc32(&bytes)
 }
 
-/// The line that the book gives for the call of a frame, but for the sheet's crc; the book after it.
+/// The line that the book gives for a frame's call, without the sheet's crc. Changes the book.
 fn plainly(book: Option<&mut Book>, f: &Frame) -> String {
     let mut list = list_of(f.z);
     let lent = matches!(f.op, ops::MISSING_NUMBERS | ops::RECEIVE);
@@ -100,7 +101,7 @@ fn answer(book: &mut Book, f: &Frame, list: &mut [u32]) -> Result<String, u32> {
             }
             let (outcomes, place, number) = visits(book, f.x, &f.a, list.len());
             list[..outcomes.len()].copy_from_slice(&outcomes);
-            // The detail is that of number lists of this length.
+            // The detail is the one that number lists of this length give.
             let mut wide = vec![0; list.len()];
             let stop = stream::number_lists(&f.a, &mut wide.clone(), &mut wide, &mut list_of(f.z), &mut list_of(f.z));
             assert_eq!((stop.count, stop.place, stop.number), (outcomes.len() as u64, place, number));
@@ -151,7 +152,8 @@ fn rsr(n: u16, day: u8) -> Vec<u8> {
     by_hand(RSR, 240, &secondary, &[])
 }
 
-/// A night of one telemetry row and one RSR row over their ends: each outcome, and what is missing then.
+/// A night of one telemetry row and one RSR row that pass the ends of their numbers: each outcome, and what is then
+/// missing.
 #[test]
 fn a_stream_is_received() {
     let mut s = fresh();
@@ -180,7 +182,7 @@ fn a_stream_is_received() {
     assert_eq!(list, [65_535, 0, 1, 7]);
     assert_eq!(ledger::missing_numbers(&s, 0, &mut list[..2]), Err(60));
     assert_eq!(list, [65_535, 0, 1, 7]);
-    // Struck, the stream has no row; the walk goes on.
+    // A struck stream has no row; the walk goes on.
     ledger::strike(&mut s, 0).unwrap();
     let mut list = list_of(3);
     let Ok(Received { stop, ticked }) = receive(&mut s, 7, &stream, &mut list) else { panic!() };
@@ -188,7 +190,7 @@ fn a_stream_is_received() {
     assert_eq!(list, [25, 25, 25]);
 }
 
-/// 20, 21, 26 are judged for an empty stream and an empty list too, in this order, and leave all as it was.
+/// 20, 21 and 26 are tested in this order, also for an empty stream and an empty list, and change nothing.
 #[test]
 fn receive_refusals() {
     let mut s = fresh();
@@ -238,7 +240,7 @@ fn parts_make_the_key_again() {
     assert_eq!(keys::parts(key), Ok((RSR, [255, 14, 2, 4])));
 }
 
-/// A night in pieces leaves what the night leaves; an entry that differs is counted in its own piece.
+/// A night in pieces leaves what the whole night leaves. An entry that differs is counted in its own piece.
 #[test]
 fn pieces_of_a_night() {
     let rng = Rng::new(17);
@@ -306,7 +308,7 @@ fn lines_of_the_new_ops() {
     assert_eq!(lines(&[frame(ops::RECEIVE, 0, 1_101)]), ["bad frame"]);
 }
 
-/// Received again, what was ticked is ticked already, and nothing changes.
+/// If a stream is received again, its records are already ticked, and nothing changes.
 #[test]
 fn the_same_stream_again() {
     let rng = Rng::new(8);

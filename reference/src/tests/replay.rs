@@ -1,4 +1,4 @@
-//! Request 11: traces held to the plain book, with the form of an entry as a table of what each call uses.
+//! Request 11: traces compared with the plain book. A table says which fields of an entry each call uses.
 
 use super::{fresh, lines, Frame};
 use crate::book::{self, Book};
@@ -8,7 +8,7 @@ use crate::random::{self, traces::recorded};
 use crate::replay::{replay, write_trace, Answer, Call, Replayed};
 use crate::script::{crc32, Calls};
 
-/// By call, which of desk, row, record number and key it uses; an enrolment's row only where it is accepted.
+/// For each call, which of desk, row, record number and key it uses. An enrolment uses the row only if it is accepted.
 const USES: [[bool; 4]; 7] = [
     [false, true, true, true],
     [true, true, false, false],
@@ -94,7 +94,7 @@ fn replays_are_the_books() {
     assert!(same > 500 && differ > 200 && refused > 500, "{same} {differ} {refused}");
 }
 
-/// A recorded night is the same, and leaves the sheet that the night left, whatever the lent one held.
+/// The replay of a recorded night answers "same" and leaves the sheet that the night left, whatever the lent one held.
 #[test]
 fn a_recorded_night_is_the_same() {
     let rng = Rng::new(11);

@@ -51,7 +51,7 @@ fn enrolments() {
     assert_eq!(ledger::enrol(&mut s, RSR_KEY, 65_536), Err(32));
     assert_eq!(ledger::enrol(&mut s, (1 << 42) + (1 << 32), 65_536), Err(22));
     assert_eq!(ledger::enrol(&mut s, RSR_KEY, 65_535), Ok(0));
-    // 32 stands before 23.
+    // 32 comes before 23.
     assert_eq!(ledger::enrol(&mut s, RSR_KEY, 65_536), Err(32));
     assert_eq!(ledger::enrol(&mut s, RSR_KEY, 65_535), Err(23));
     assert_eq!(ledger::enrol(&mut s, (1 << 42) - 1, u32::MAX), Ok(1));

@@ -1,5 +1,5 @@
-//! The stored samples held, field by field, to what source documents 000, 001 and 004 allow (`ranges`): each has exactly the wrong fields that it is
-//! kept for, and no other.
+//! The stored samples compared, field by field, with what source documents 000, 001 and 004 allow (`ranges`). Each
+//! has exactly the wrong fields that it is kept for.
 
 use crate::idr;
 use crate::keys::FIRST_RSR;
@@ -10,7 +10,8 @@ use crate::tapes::TAPES;
 use crate::{convert, ledger, wrong_sheets};
 use std::collections::BTreeMap;
 
-/// What is wrong in each sample of records, and at which place the record stands that has it. Where it says nothing, nothing is.
+/// What is wrong in each sample of records, and the place of the record that has it. A sample that is not listed has
+/// nothing wrong.
 const WRONG: [(&str, usize, &[&str]); 22] = [
     ("refusal-02", 2_564, &["control authority"]),
     ("refusal-03", 2_564, &["label version"]),
@@ -29,11 +30,11 @@ const WRONG: [(&str, usize, &[&str]); 22] = [
     ("tapes/refusal-52", 5_056, &["the day is 1 to 366"]),
     ("tapes/refusal-53", 5_056, &["playback rate"]),
     ("tapes/refusal-54", 5_056, &["block size", "the block size is the playback rate"]),
-    // The cut ones: what is there is the beginning of a right record.
+    // Records that are cut: what is there is the beginning of a right record.
     ("refusal-01", 2_564, &["cut"]),
     ("refusal-06", 2_564, &["cut"]),
     ("tapes/refusal-50", 5_056, &["cut"]),
-    // Right records: one over the listing's buffer, one of another kind than is asked for.
+    // Right records: one too long for the listing's buffer, one of another kind than is asked for.
     ("refusal-17", 2_564, &[]),
     ("rsr/refusal-15", 2_260, &[]),
 ];
@@ -42,7 +43,8 @@ fn wrong_in(name: &str, place: usize) -> &'static [&'static str] {
     WRONG.iter().find(|(sample, at, _)| (*sample, *at) == (name, place)).map_or(&[], |(_, _, wrong)| wrong)
 }
 
-/// The records of a sample: place, kind, bytes. In streams a wrong record is a telemetry one, as long as is told here.
+/// The records of a sample: place, kind, bytes. In streams a wrong record is a telemetry record, of the length given
+/// here.
 fn records(name: &str) -> Vec<(usize, Kind, Vec<u8>)> {
     let stream = sample::sample(name).unwrap();
     let mut found = Vec::new();
@@ -85,12 +87,12 @@ fn a_cut_record_is_the_beginning_of_a_right_one() {
     for (cut, spoilt) in whole {
         let (cut, spoilt) = (sample::sample(cut).unwrap(), sample::sample(spoilt).unwrap());
         let differ: Vec<usize> = (0..cut.len()).filter(|at| cut[*at] != spoilt[*at]).collect();
-        // But for the other's wrong field: the data length, the length word.
+        // Except for the other's wrong field: the data length, the length word.
         assert!(differ.iter().all(|at| [2_564 + 119, 5_056 + 5].contains(at)), "{differ:?}");
     }
 }
 
-/// Every bit of every header is in exactly one field, and no field's name stands twice.
+/// Every bit of every header is in exactly one field, and no two fields have the same name.
 #[test]
 fn the_ranges_leave_no_bit_out() {
     for (kind, header) in [(Kind::Telemetry, 120), (Kind::Rsr, 260), (Kind::Tape, idr::HEADER)] {
@@ -129,7 +131,7 @@ fn put_bits(s: &mut [u8], bit: usize, width: usize, number: u128) {
     }
 }
 
-/// The checker can fail: a field that not every number is allowed in is told of by its name, when a number that is not stands there.
+/// The checker can fail: it names a field whose value is not allowed, for every field that does not allow all numbers.
 #[test]
 fn a_number_out_of_range_is_told_of() {
     let (mut fields, mut bounded) = (0, 0);
@@ -150,11 +152,11 @@ fn a_number_out_of_range_is_told_of() {
             }
         }
     }
-    // As samples/README.md says.
+    // samples/README.md has these numbers.
     assert_eq!((fields, bounded), (225, 161));
 }
 
-/// Fields put into a right record that then do not agree, and what is told of them.
+/// Fields written into a right record so that they no longer agree, and what the checker says.
 const DISAGREE: [(Kind, &[(&str, u64)], &str); 24] = [
     (Kind::Telemetry, &[("label length", 102)], "the label's length is N - 20"),
     (Kind::Telemetry, &[("data length", 2)], "the data's length is N - 120"),
@@ -182,7 +184,7 @@ const DISAGREE: [(Kind, &[(&str, u64)], &str); 24] = [
     (Kind::Tape, &[("sample count", 2)], "a record with a valid time has sample count 1"),
 ];
 const RESOLUTION: &str = "extended resolution only where it is valid, in its unit";
-/// Met by cutting a record.
+/// Cutting a record breaks this rule.
 const TAPE_WORDS: &str = "the record has 2,528 words";
 
 /// Each rule over several fields can fail.
@@ -204,7 +206,8 @@ fn fields_that_do_not_agree_are_told_of() {
     }
 }
 
-/// Record after record of one stream: numbers one apart; a receiver's seconds one apart in both time tags; received times that rise; one night.
+/// The records of one stream: numbers one apart; a receiver's seconds one apart in both time tags; received times
+/// that rise; one night.
 #[test]
 fn a_streams_records_follow_each_other() {
     let mut pairs = 0;
@@ -265,7 +268,7 @@ fn a_tapes_seconds_follow_each_other() {
     assert_eq!(number(2) - number(0), 300_000 / 5_000);
 }
 
-/// The keys of a sheet are made of numbers that the documents allow.
+/// The keys of a sheet are made from numbers that the documents allow.
 #[test]
 fn sheets_have_streams_of_the_documents() {
     for sample in &SHEETS {
@@ -289,7 +292,7 @@ fn sheets_have_streams_of_the_documents() {
     }
 }
 
-/// A sheet that is none differs from a right one in the bytes that its text names, and nowhere else.
+/// A sheet that is not right differs from a right one in exactly the bytes that its text names.
 #[test]
 fn wrong_sheets_are_wrong_where_they_say() {
     let right = wrong_sheets::right();
@@ -310,7 +313,7 @@ fn wrong_sheets_are_wrong_where_they_say() {
     }
 }
 
-/// A reader of the top bits of byte 38 files the lesson's record under the other row.
+/// A reader that takes the top bits of byte 38 puts the lesson's record into the other row.
 #[test]
 fn the_lessons_record_goes_astray_by_the_top_bits() {
     let record = sample::sample("lessons/bit-8").unwrap();

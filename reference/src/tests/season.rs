@@ -1,4 +1,4 @@
-//! Request 13: the season report against the sheets' own reports, and its identity on whole nights.
+//! Request 13: the season report compared with the sheets' own reports, and its identity on whole nights.
 
 use super::{fresh, lines, Frame};
 use crate::book::Book;
@@ -44,7 +44,7 @@ fn a_season_is_its_books_reports() {
             expected.total += Counts { ticked, missing };
         }
         assert_eq!(season(s).as_ref(), Ok(&expected));
-        // A gap is reported exactly when something is missing.
+        // A gap is reported exactly if something is missing.
         assert_eq!(expected.first_gap.is_some(), expected.total.missing > 0);
         accepted += 1;
         gaps += expected.first_gap.is_some() as usize;
@@ -69,16 +69,17 @@ fn none_given() {
     assert_eq!(lines(&[Frame { op: ops::SEASON, ..Frame::default() }]), ["0 0 0 0 0 none"]);
 }
 
-/// Of each row what was saved, and of each desk its row and what it has marked since it opened.
+/// For each row what was saved; for each desk its row and what it has marked since it opened it.
 type Log = ([i64; 32], [(usize, i64); 8]);
 
-/// Ticked in all is the accepted ticks less the accepted unticks of visits that were saved, over rows not struck since.
+/// Ticked in all is the accepted ticks less the accepted unticks of visits that were saved, on rows that were not
+/// struck later.
 #[test]
 fn ticked_is_what_was_saved() {
     let (mut nights, mut most) = (0, 0);
     for seed in 0..8 {
         let mut calls = Calls::default();
-        // None before a fresh sheet.
+        // None until a fresh sheet.
         let mut log: Option<Log> = None;
         for f in random::script_of(seed, 3_000, Some("ledger")) {
             let accepted = calls.line(&f).unwrap().starts_with("0 ");

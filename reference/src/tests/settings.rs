@@ -1,4 +1,4 @@
-//! Request 14: settings sheets held to a list of settings.
+//! Request 14: settings sheets compared with a list of settings.
 
 use super::{lines, Frame};
 use crate::make::Rng;
@@ -25,7 +25,7 @@ impl Model {
         }
     }
 
-    /// Day by day backwards would be plainest; from the latest first day backwards is the same.
+    /// Going backwards from the latest first day gives the same as going back day by day.
     fn ask(&self, mission: u8, day: u32) -> Result<Setting, u32> {
         let mut of_mission: Vec<Setting> = self.0.iter().filter(|(of, _)| *of == mission).map(|(_, s)| *s).collect();
         of_mission.sort_by_key(|setting| std::cmp::Reverse(setting.first_day));
@@ -108,7 +108,8 @@ fn every_bit_of_a_settings_sheet_counts() {
     }
 }
 
-/// Adding changes no answer for an earlier day, nor for another mission, and is given on its first day.
+/// Adding a setting changes no answer for an earlier day or for another mission, and `ask` gives the setting on its
+/// first day.
 #[test]
 fn what_adding_changes() {
     let rng = Rng::new(8);

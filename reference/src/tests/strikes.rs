@@ -1,4 +1,4 @@
-//! Request 10: rows given back, and the old sheet converted.
+//! Request 10: rows that are struck, and old sheets that are converted.
 
 use super::{fresh, lines, ticked, Frame};
 use crate::book::{Book, OLD};
@@ -35,7 +35,7 @@ fn struck_rows_are_used_again() {
     for row in [32, 255, 256 + 6, u32::MAX] {
         assert_eq!(ledger::strike(&mut s, row), Err(25));
     }
-    // The lowest free one, with no ticks; the key may come back, and then the next.
+    // Enrol uses the lowest free row, with no ticks. The key may come back, and then the next free row is used.
     assert_eq!(ledger::enrol(&mut s, 5, 1), Ok(5));
     assert_eq!(ledger::report(&s, 5), Ok(Report { ticked: 0, missing: 0, lowest: None }));
     assert_eq!(ledger::enrol(&mut s, 5, 1), Err(23));
@@ -43,7 +43,7 @@ fn struck_rows_are_used_again() {
     assert_eq!(ledger::enrol(&mut s, 100, 1), Err(24));
 }
 
-/// Strike gives 20, then 25, then 36, and a refused one changes nothing.
+/// Strike gives 20, then 25, then 36. A refused strike changes nothing.
 #[test]
 fn strike_refusals() {
     let mut s = vec![0; 6_968];
@@ -68,7 +68,7 @@ fn sizes() {
     assert_eq!(fresh()[..24], header);
 }
 
-/// Rows stay where they are, open desks stay open, and the calls go on.
+/// Rows keep their places, open desks stay open, and calls go on.
 #[test]
 fn an_old_night_goes_on() {
     let mut s = fresh();
@@ -86,7 +86,7 @@ fn an_old_night_goes_on() {
     assert_eq!(ledger::save(&mut new, 6), Ok(()));
     assert_eq!(ledger::report(&new, 1), Ok(Report { ticked: 1, missing: 2, lowest: Some(1) }));
     assert!(ticked(&new).is_empty());
-    // A new sheet is not an old one, nor is one that is damaged; then nothing is written.
+    // A new sheet is no old one, nor is a damaged one; then nothing is written.
     let mut slice = vec![165; 6_968];
     for (a, length) in [(&new[..], 6_968), (&old[..6_775], 6_968), (&old, 6_967), (&old, 6_969), (&old, 6_776)] {
         slice.resize(length, 165);
@@ -97,7 +97,8 @@ fn an_old_night_goes_on() {
     assert_eq!(new, fresh());
 }
 
-/// Every bit of old sheets changed: converted exactly where that is a book laid out the old way, and to that book.
+/// Changes every bit of old sheets: they are converted exactly if they are then the old layout of a book, and to that
+/// book.
 #[test]
 fn every_bit_of_an_old_sheet_counts() {
     let mut s = fresh();

@@ -1,5 +1,5 @@
 -- `answers::key` meets its contract. Assumes nothing.
-use Rattle.answers.proofs.Told.{told-few}
+use Rattle.answers.proofs.Along.{few-along}
 use Rattle.answers.specs.Numbers.{plain}
 use Rattle.keys.specs.Words.{wordsOf}
 use borrow.Author.Needs.{needs}
@@ -19,10 +19,10 @@ refused-requires : tie.Need-refused-requires
 refused-requires c κs = search needs
 
 returns : tie.Need-returns
-returns c = told-few (λ a. plain (wordsOf a)) (c .before .answer .given .1) (search needs)
+returns c = few-along (λ a. plain (wordsOf a)) (c .before .answer .given .1) (search needs)
 
 returns-2 : tie.Need-returns-2
-returns-2 c = told-few (λ a. plain (wordsOf a)) (c .before .before .answer2 .given .1) (c .refused .ensures)
+returns-2 c = few-along (λ a. plain (wordsOf a)) (c .before .before .answer2 .given .1) (c .refused .ensures)
 
 pub key-spec : {M : Type 1} → statement M
 key-spec =

@@ -1,5 +1,5 @@
 -- `answers::parts` meets its contract. Assumes nothing.
-use Rattle.answers.proofs.Told.{told}
+use Rattle.answers.proofs.Along.{numbers-along}
 use Rattle.answers.specs.Numbers.{plain}
 use Rattle.keys.specs.Words.{partsWords}
 use borrow.Author.Needs.{needs}
@@ -72,15 +72,15 @@ refused-alone-requires c κs = search needs
 
 -- src/lib.rt:97:1
 returns : tie.Need-returns
-returns c = told (λ a. plain (partsWords a)) (c .before .before .answer .given .1) (c .five .ensures)
+returns c = numbers-along (λ a. plain (partsWords a)) (c .before .before .answer .given .1) (c .five .ensures)
 
 -- src/lib.rt:97:1
 returns-2 : tie.Need-returns-2
-returns-2 c = told (λ a. plain (partsWords a)) (c .before .before .answer2 .given .1) (c .five2 .ensures)
+returns-2 c = numbers-along (λ a. plain (partsWords a)) (c .before .before .answer2 .given .1) (c .five2 .ensures)
 
 -- src/lib.rt:97:1
 returns-3 : tie.Need-returns-3
-returns-3 c = told (λ a. plain (partsWords a)) (c .before .before .answer3 .given .1) (c .refused-alone .ensures)
+returns-3 c = numbers-along (λ a. plain (partsWords a)) (c .before .before .answer3 .given .1) (c .refused-alone .ensures)
 
 pub parts-spec : {M : Type 1} → statement M
 parts-spec =

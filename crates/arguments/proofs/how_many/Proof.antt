@@ -7,10 +7,10 @@ use Rattle.arguments.proofs.how_many.Statement.{statement}
 use Rattle.arguments.proofs.how_many.Tie as tie
 
 abbrev Inv-loop : tie.InvT-loop
-Inv-loop count word found₀ i₀ found i = (count < 2 ^ 64) × (found < i)
+Inv-loop count argument found₀ i₀ found i = (count < 2 ^ 64) × (found < i)
 
 abbrev μ-loop : tie.MeasureT-loop
-μ-loop count word found₀ i₀ found i = count - i
+μ-loop count argument found₀ i₀ found i = count - i
 
 loop-holds : tie.Need-loop-holds Inv-loop μ-loop
 loop-holds c = search needs

@@ -1,17 +1,17 @@
--- What the functions on desks read of the book that a sheet holds, and what they make of it: parts of the model's open and save. Assumes nothing.
+-- What the functions on desks do to the book in a sheet: parts of the model's open and save. Assumes nothing.
 use Prim.Native.Nat.{ℕ}
 use mathlib.Core.Bool.{Bool}
 use Rattle.ledger_model.specs.Positions.{same}
 use Rattle.ledger_model.specs.Book.{working, Book, place, desk, putPlace, putDesk, ticksOf, withTicks, placeOf, openedOf, workedOf, openPlace}
 
--- Both of desk d's copies are row r.
+-- The book after desk d opened row r: both copies are the row.
 abbrev pub opened : (d r : ℕ) → Book → Book
 opened d r b = putDesk d (working r (ticksOf (place b r)) (ticksOf (place b r))) b
 
--- Desk d's row is still as it was opened.
+-- Whether desk d's row is still as the desk opened it.
 abbrev pub isCurrent : (d : ℕ) → Book → Bool
 isCurrent d b = same (ticksOf (openPlace b d)) (openedOf (desk b d))
 
--- Desk d's row has the worked set.
+-- The book after desk d's worked set became the ticks of its row.
 abbrev pub stored : (d : ℕ) → Book → Book
 stored d b = putPlace (placeOf (desk b d)) (withTicks (workedOf (desk b d)) (openPlace b d)) b

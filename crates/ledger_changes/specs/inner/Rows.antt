@@ -1,4 +1,4 @@
--- Ticks set and cleared in a row of the sheet or a desk's copy of one, and a row's value. Assumes nothing.
+-- Setting and clearing ticks in a row or a desk's copy of one, and rows as values. Assumes nothing.
 use Prim.Native.Nat.{ℕ, _+_, _-_}
 use mathlib.Core.List.{List}
 use lib.ListN.{getD, set, replicate}
@@ -7,14 +7,14 @@ use Rattle.ledger_sheet.specs.Sheet.{ticksAt, ticksSize, keyAt, firstNumberAt}
 use Rattle.ledger_layout.specs.Ticks.{tickByteAt, tickBit}
 use Rattle.ledger_sheet.specs.declared.Row.{Row}
 
--- Position i's bit set, or cleared.
+-- Sets or clears the bit of position i in the row or copy at offset a.
 unfoldable pub setTick : List ℕ → ℕ → ℕ → List ℕ
 setTick s a i = set s (tickByteAt a i) (getD s (tickByteAt a i) 0 + tickBit i)
 
 unfoldable pub clearTick : List ℕ → ℕ → ℕ → List ℕ
 clearTick s a i = set s (tickByteAt a i) (getD s (tickByteAt a i) 0 - tickBit i)
 
--- The ticks of a row at first: 128 zeros.
+-- The ticks of a new row: 128 zeros.
 unfoldable pub blankTicks : List ℕ
 blankTicks = replicate ticksSize 0
 

@@ -31,17 +31,20 @@ add-write-row c = search needs
 
 write-row-requires : tie.Need-write-row-requires
 write-row-requires c κs =
+    let entry = c .before .before .before .before .before .before .before in
     let kept = simp length-set at (c .before .before .before .clear .kept .0) in
-    (omega arith, c .before .before .before .before .before .before .before .pre .1 .0)
+    (omega arith, entry .pre .1 .0)
 
 add-write-row-2 : tie.Need-add-write-row-2
 add-write-row-2 c = search needs
 
 write-row-requires-2 : tie.Need-write-row-requires-2
 write-row-requires-2 c κs =
-    let kept = simp length-set at (c .before .before .before .before .before .before .before .clear .kept .0) in
+    let at-clear = c .before .before .before .before .before .before .before in
+    let entry = c .before .before .before .before .before .before .before .before .before .before .before in
+    let kept = simp length-set at (at-clear .clear .kept .0) in
     let kept-2 = c .before .before .before .write-row .kept .0 in
-    (omega arith, c .before .before .before .before .before .before .before .before .before .before .before .pre .1 .1)
+    (omega arith, entry .pre .1 .1)
 
 same-length : tie.Need-same-length
 same-length c =

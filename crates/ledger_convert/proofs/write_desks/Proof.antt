@@ -56,9 +56,10 @@ shared-slice-read-write-desk c =
 
 write-desk-requires : tie.Need-write-desk-requires Inv-loop μ-loop
 write-desk-requires c κs =
+    let turn-2 = c .before .before .before .before .before .before .before .before in
     let start = c .before .before .before .before .before .before .before .before .before .before .before in
     let old = start .args .old .now in
-    let turn = c .before .before .before .before .before .before .before .before .loop in (
+    let turn = turn-2 .loop in (
       (turn .inv .1 .long, omega arith),
       (
         value-ticks old _ _ (omega (arith, long old (start .pre .0))) (c .before .before .before .read-row .ensures),

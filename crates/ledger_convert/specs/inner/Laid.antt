@@ -1,4 +1,4 @@
--- What the functions that lay out a converted sheet settle between them; no public statement cites it. Assumes nothing.
+-- Definitions that only the contracts of the converter's inner functions cite. Assumes nothing.
 use Prim.Native.Nat.{ℕ, _<_}
 use mathlib.Core.Bool.{cond}
 use mathlib.Core.List.{List}
@@ -12,7 +12,7 @@ use Rattle.ledger_layout.specs.Layout.{placeBytes, deskBytes}
 use Rattle.ledger_sheet.specs.Sheet.{used}
 use Rattle.ledger_convert.specs.Convert.{oldPlaceIn, oldDeskIn, oldBookOf}
 
--- Of the new sheet the header, the first k rows and the first d desks are laid out, and the rest is zero.
+-- The header, the first k rows and the first d desks of the new sheet are written; the rest is zero.
 pub record Laid (old new : List ℕ) (k d : ℕ) : Type 0 where
   pub long : length new ≡ sheetSize
   pub header : part new 0 rowsStart ≡ headerBytes (used old)

@@ -87,13 +87,14 @@ returns c =
 
 returns-2 : tie.Need-returns-2 Inv-loop μ-loop Inv-rows μ-rows
 returns-2 c =
+    let at-row-end = c .before .before .before .before .before in
     let at = c .before .before .before .before .loop in
     let place = c .before .before .before .before .before .before in
     let rows = place .before .before in
     let s = rows .before .before .args .s .now in
     let a = place .row-at .ensures in
     let unticked = failed (rw a at (c .before .before .is-ticked .ensures)) (c .before .if1 .taken) in
-    let below : at .i < rowEnd s (rows .rows .row) = omega (arith, c .before .before .before .before .before .row-end .ensures) in
+    let below : at .i < rowEnd s (rows .rows .row) = omega (arith, at-row-end .row-end .ensures) in
     rw (c .number-in .ensures, a)
     (sym (rows .rows .inv .2 ∙ gap-here s (rows .rows .row) rowCount (omega arith) (at .i) below (rw a at (at .inv .2)) unticked) ∙ gap-on s)
 

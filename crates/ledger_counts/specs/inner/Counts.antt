@@ -1,4 +1,4 @@
--- What is counted of a row in its bytes. Assumes nothing.
+-- Counts of a row's ticks, from its bytes. Assumes nothing.
 use Prim.Native.Nat.{ℕ, zero, suc}
 use mathlib.Core.Bool.{Bool, cond}
 use mathlib.Core.List.{List, _∷_}
@@ -8,7 +8,7 @@ use Rattle.ledger_model.specs.Counts.{placeReport}
 use Rattle.ledger_sheet.specs.Sheet.{keyAt, firstNumberAt}
 use Rattle.ledger_layout.specs.Ticks.{ticksIn}
 
--- One past the highest number below n of which p holds, or 0 where there is none.
+-- One more than the highest number below n that satisfies p; 0 if there is none.
 unfoldable pub pastHighest : ℕ → (ℕ → Bool) → ℕ
 pastHighest zero p = 0
 pastHighest (suc n) p = cond (p n) (suc n) (pastHighest n p)
@@ -17,6 +17,6 @@ pastHighest (suc n) p = cond (p n) (suc n) (pastHighest n p)
 abbrev pub numberAtPosition : List ℕ → ℕ → ℕ → ℕ
 numberAtPosition s a i = positionNumber (keyAt s a) (firstNumberAt s a) i
 
--- Row report of the row at offset a.
+-- The words of the row report for the row at offset a.
 unfoldable pub reportWords : List ℕ → ℕ → List ℕ
 reportWords s a = 0 ∷ placeReport (row (keyAt s a) (firstNumberAt s a) (ticksIn s a))

@@ -1,4 +1,4 @@
--- The rules that calls begin with, of which more than one call has them, and the number of a verdict. Assumes nothing.
+-- The rules that several calls begin with, and the number of a verdict. Assumes nothing.
 use Prim.Native.Nat.{ℕ}
 use mathlib.Core.Bool.{Bool, not}
 use mathlib.Core.List.{List, [], _∷_}
@@ -15,7 +15,7 @@ keyRules fine key = (20 when not fine) ∷ (22 when not (validKey key)) ∷ []
 abbrev pub deskNumberRules : (fine : Bool) (desk : ℕ) → List (Rule ℕ)
 deskNumberRules fine desk = (20 when not fine) ∷ (21 when not (isDesk desk)) ∷ []
 
--- The number of a verdict: the refusal's, or 0 where the call may be made.
+-- The number of a verdict: the refusal's; 0 if the call is accepted.
 abbrev pub verdictNumber : Verdict → ℕ
 verdictNumber Case.Fine = 0
 verdictNumber (Case.Refused r) = numberOf r

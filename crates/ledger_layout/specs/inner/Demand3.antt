@@ -1,4 +1,4 @@
--- Demand 3 of calls that meet the model on a sheet, whatever their contracts are: demand 3 of the public calls is proved by it. Assumes nothing.
+-- Demand 3 for calls that do what the model does, whatever their contracts are. The proof of demand 3 for the public calls uses it. Assumes nothing.
 use Prim.Native.Nat.{ℕ}
 use mathlib.Core.Path.{_≡_}
 use mathlib.Core.Logic.{_≢_}
@@ -11,16 +11,17 @@ use Rattle.ledger_model.specs.Claim.{Claim}
 use Rattle.ledger_layout.specs.Layout.{layout, call, onSheet}
 use Rattle.ledger_layout.specs.Demand3.{headerAndRows}
 
--- What a contract promises of call c on the sheet s that answered a and left t: the answer's words and t are the model's call on
--- the book that s holds, laid out again. (No refusal has the number 0, which is the word of an accepted call.)
+-- What the contract of call c promises, if it answers a on the sheet s and leaves t: a and t are those of the model's call on s. No refusal has the
+-- number 0, which stands for an accepted call.
 abbrev pub Meets : Call → List ℕ → Answer → List ℕ → Type 0
 Meets c s a t = (a ≢ refused 0) × ((answerWords a, t) ≡ onSheet (call c) s)
 
--- `log` is the calls with what they answered, from a fresh sheet to the sheet `last`.
+-- `log` is the calls with their answers, from a fresh sheet to the sheet `last`.
 pub record MetCalls (log : List Entry) (last : List ℕ) : Type 0 where
-  -- All answers are the model's, and the sheet left is its book laid out, byte for byte; the serial history, run from a fresh sheet, has
-  -- the answers of the log and the log's places, with no desk open; a save is stale exactly when it must be, and never without a cause.
+  -- The claim of demand 3: the answers are the model's, and the last sheet is the layout of its book, byte for byte. The serial history, run from a
+  -- fresh sheet, gets the log's answers and leaves the log's places, with every desk closed. A save is refused as stale exactly if the row's set is
+  -- not the opened one, and then another desk has saved the row.
   pub claim : Claim Meets layout log last
-  -- The rows are those of the serial history run from a fresh sheet, byte for byte.
+  -- The rows are those that the serial history leaves on a fresh sheet, byte for byte.
   pub serial-rows : (again : List Entry) (end : List ℕ) → Chain Meets (layout fresh) again end → map callOf again ≡ map callOf (serial log)
       → headerAndRows end ≡ headerAndRows last

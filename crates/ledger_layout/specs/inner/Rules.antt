@@ -1,4 +1,4 @@
--- What a call on a sheet is refused for: 20, and then what the model refuses on the book that the sheet holds. Assumes nothing.
+-- The refusals of a call on a sheet: 20, then those of the model for the book that the sheet holds. Assumes nothing.
 use Prim.Native.Nat.{ℕ}
 use mathlib.Core.Path.{_≡_}
 use mathlib.Core.Bool.{true, not}
@@ -12,6 +12,6 @@ use Rattle.ledger_layout.specs.Layout.{bookOf}
 abbrev pub rulesOn : Call → List ℕ → List (Rule ℕ)
 rulesOn c s = (20 when not (right s)) ∷ refusals c (bookOf s)
 
--- What the functions on a book are handed: a right sheet, whose length the code needs.
+-- What functions on a book require: a right sheet, and its length, which the code needs.
 abbrev pub IsSheet : List ℕ → Type 0
 IsSheet s = (right s ≡ true) × (length s ≡ sheetSize)

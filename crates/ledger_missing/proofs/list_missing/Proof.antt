@@ -60,10 +60,11 @@ returns : tie.Need-returns
 unfolding listed
 returns c =
     let counted = c .before in
+    let entry = counted .before .before .before .before .before in
     let g = counted .before .before .before .before .before .args in
     let short : length (g .list .now) < length (missingAt (g .s .now) (counted .before .before .row-at .result)) =
     omega (arith, many counted, c .if1 .taken) in
-    rw (missing-is (g .s .now) (g .row) (counted .before .before .before .before .before .pre .1), ← counted .before .before .row-at .ensures, lt-ltb _ _ short)
+    rw (missing-is (g .s .now) (g .row) (entry .pre .1), ← counted .before .before .row-at .ensures, lt-ltb _ _ short)
 
 -- The lent list is long enough.
 fits : (c : tie.Else1)
@@ -75,9 +76,10 @@ fits c = omega (arith, many (c .before), c .if1 .left)
 put-gaps-requires : tie.Need-put-gaps-requires
 put-gaps-requires c κs =
     let counted = c .before .before in
+    let earlier = counted .before .before .before .before .before in
     let g = counted .before .before .before .before .before .args in
     let a = counted .before .before .row-at .result in
-    (omega (arith, there (counted .before .before .before .before .before)), rw (counted .before .ticks-end .ensures) (end-within (g .s .now) a), rw (stored counted) (fits (c .before)))
+    (omega (arith, there (earlier)), rw (counted .before .ticks-end .ensures) (end-within (g .s .now) a), rw (stored counted) (fits (c .before)))
 
 cast-t7 : tie.Need-cast-t7
 cast-t7 c =
@@ -94,12 +96,13 @@ unfolding listed
 returns-2 c =
     let enough = c .before .before .before .before in
     let counted = enough .before in
+    let entry = counted .before .before .before .before .before in
     let g = counted .before .before .before .before .before .args in
     let a = counted .before .before .row-at .result in
     let xs = missingAt (g .s .now) a in
     let old = g .list .now in
     let filled = c .before .before .put-gaps .ensures ∙ ap (λ (l : List ℕ). sets old 0 l) (stored counted) ∙ sets-fill xs old (fits enough) in
-    let own = missing-is (g .s .now) (g .row) (counted .before .before .before .before .before .pre .1) in
+    let own = missing-is (g .s .now) (g .row) (entry .pre .1) in
     rw (own, ← counted .before .before .row-at .ensures, le-ltb (length old) (length xs) (fits enough), ← many counted)
     (ap (λ (l : List ℕ). (0 ∷ length xs ∷ [], l)) filled)
 

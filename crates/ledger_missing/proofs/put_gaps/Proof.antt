@@ -1,4 +1,4 @@
--- `ledger_missing::put_gaps` meets its contract. The invariant: the numbers from word k on, stored from `at` on, give the result. Assumes nothing.
+-- `ledger_missing::put_gaps` meets its contract. The invariant: the numbers from block k on, stored from `at` on, give the result. Assumes nothing.
 use Prim.Native.Nat.{ℕ, _+_, _-_, _*_, _≤_, min}
 use native.Mathlib.Omega.{arith}
 use mathlib.Core.List.{List, _++_}
@@ -9,26 +9,26 @@ use lib.Seq.{sets, length-sets}
 use Rattle.ledger_model.specs.Positions.{positionNumber}
 use Rattle.ledger_layout.specs.Ticks.{tickedAt}
 use Rattle.ledger_counts.specs.inner.Counts.{numberAtPosition}
-use Rattle.ledger_counts.specs.inner.Words.{wordBits, wordCount}
+use Rattle.ledger_counts.specs.inner.Blocks.{blockBits, blockCount}
 use Rattle.ledger_missing.specs.inner.Gaps.{gapsIn, numbersAt}
-use Rattle.ledger_missing.proofs.Gaps.{except-none, gaps-word, sets-append}
+use Rattle.ledger_missing.proofs.Gaps.{except-none, gaps-block, sets-append}
 use Rattle.ledger_missing.proofs.put_gaps.Statement.{statement}
 use Rattle.ledger_missing.proofs.put_gaps.Tie as tie
 
--- The numbers from word k on, and those of word k.
+-- The numbers from block k on, and those of block k.
 abbrev onward : (s : List ℕ) (a end k : ℕ) → List ℕ
-onward s a end k = gapsIn s a (wordBits * k) (end - wordBits * k)
+onward s a end k = gapsIn s a (blockBits * k) (end - blockBits * k)
 
 abbrev here : (s : List ℕ) (a end k : ℕ) → List ℕ
-here s a end k = gapsIn s a (wordBits * k) (min wordBits (end - wordBits * k))
+here s a end k = gapsIn s a (blockBits * k) (min blockBits (end - blockBits * k))
 
 abbrev Inv-loop : tie.InvT-loop
 Inv-loop s a end list₀ key first at₀ k₀ list at k =
-    (k ≤ wordCount) × (length list ≡ length list₀) × (at + length (onward s a end k) ≤ length list)
+    (k ≤ blockCount) × (length list ≡ length list₀) × (at + length (onward s a end k) ≤ length list)
     × (sets list at (onward s a end k) ≡ sets list₀ 0 (gapsIn s a 0 end))
 
 abbrev μ-loop : tie.MeasureT-loop
-μ-loop s a end list₀ key first at₀ k₀ list at k = wordCount - k
+μ-loop s a end list₀ key first at₀ k₀ list at k = blockCount - k
 
 key-at-requires : tie.Need-key-at-requires Inv-loop μ-loop
 key-at-requires c κs = search needs
@@ -47,34 +47,34 @@ loop-holds c =
 mul-loop : tie.Need-mul-loop Inv-loop μ-loop
 mul-loop c = omega arith
 
-unticked-word-requires : tie.Need-unticked-word-requires Inv-loop μ-loop
-unticked-word-requires c κs = omega arith
+unticked-block-requires : tie.Need-unticked-block-requires Inv-loop μ-loop
+unticked-block-requires c κs = omega arith
 
-mul-put-word : tie.Need-mul-put-word Inv-loop μ-loop
-mul-put-word c = omega arith
+mul-put-block : tie.Need-mul-put-block Inv-loop μ-loop
+mul-put-block c = omega arith
 
--- What is stored of a word are its numbers, and those behind it come after them.
-own : (c : tie.After-unticked-word Inv-loop μ-loop)
+-- What is stored of a block are its numbers, and those behind it come after them.
+own : (c : tie.After-unticked-block Inv-loop μ-loop)
     → let l = c .before .before in
     let g = l .before .before .before .before .before .args in
-    numbersAt (λ i. positionNumber (l .before .before .key-at .result) (l .before .first-at .result) (wordBits * l .loop .k + i)) wordBits
-    (c .unticked-word .result)
+    numbersAt (λ i. positionNumber (l .before .before .key-at .result) (l .before .first-at .result) (blockBits * l .loop .k + i)) blockBits
+    (c .unticked-block .result)
     ≡ here (g .s .now) (g .a) (g .end) (l .loop .k)
 own c =
     let l = c .before .before in
-    rw (l .before .before .key-at .ensures, l .before .first-at .ensures) (c .unticked-word .ensures)
+    rw (l .before .before .key-at .ensures, l .before .first-at .ensures) (c .unticked-block .ensures)
 
-split : (c : tie.After-unticked-word Inv-loop μ-loop)
+split : (c : tie.After-unticked-block Inv-loop μ-loop)
     → let l = c .before .before in
     let g = l .before .before .before .before .before .args in
     onward (g .s .now) (g .a) (g .end) (l .loop .k) ≡ here (g .s .now) (g .a) (g .end) (l .loop .k) ++ onward (g .s .now) (g .a) (g .end) (l .loop .k + 1)
 split c =
     let l = c .before .before in
     let g = l .before .before .before .before .before .args in
-    gaps-word (g .s .now) (g .a) (g .end) (l .loop .k) (c .before .loop-test .taken)
+    gaps-block (g .s .now) (g .a) (g .end) (l .loop .k) (c .before .loop-test .taken)
 
 -- and so many there are
-many : (c : tie.After-unticked-word Inv-loop μ-loop)
+many : (c : tie.After-unticked-block Inv-loop μ-loop)
     → let l = c .before .before in
     let g = l .before .before .before .before .before .args in
     length (onward (g .s .now) (g .a) (g .end) (l .loop .k))
@@ -84,8 +84,8 @@ many c =
     let g = l .before .before .before .before .before .args in
     ap (λ (xs : List ℕ). length xs) (split c) ∙ length-append (here (g .s .now) (g .a) (g .end) (l .loop .k)) (onward (g .s .now) (g .a) (g .end) (l .loop .k + 1))
 
-put-word-requires : tie.Need-put-word-requires Inv-loop μ-loop
-put-word-requires c κs =
+put-block-requires : tie.Need-put-block-requires Inv-loop μ-loop
+put-block-requires c κs =
     let u = c .before in
     (omega arith, omega (arith, u .before .before .loop .inv .2, many u, ap (λ (xs : List ℕ). length xs) (own u)))
 
@@ -97,7 +97,7 @@ loop-less c = omega arith
 
 loop-again : tie.Need-loop-again Inv-loop μ-loop
 loop-again c =
-    let put = c .before .before .put-word .ensures in
+    let put = c .before .before .put-block .ensures in
     let u = c .before .before .before .before in
     let l = u .before .before in
     let at = l .loop in
@@ -120,8 +120,8 @@ returns : tie.Need-returns Inv-loop μ-loop
 returns c =
     let at = c .before .loop in
     let g = c .before .before .before .before .before .before .args in
-    let none : g .end - wordBits * at .k ≡ 0 = omega arith in
-    rw (none, except-none (tickedAt (g .s .now) (g .a)) (numberAtPosition (g .s .now) (g .a)) (wordBits * at .k)) at (at .inv .3)
+    let none : g .end - blockBits * at .k ≡ 0 = omega arith in
+    rw (none, except-none (tickedAt (g .s .now) (g .a)) (numberAtPosition (g .s .now) (g .a)) (blockBits * at .k)) at (at .inv .3)
 
 pub put-gaps-spec : {M : Type 1} → statement M
 put-gaps-spec =
@@ -133,9 +133,9 @@ put-gaps-spec =
     first-at-requires
     loop-holds
     mul-loop
-    unticked-word-requires
-    mul-put-word
-    put-word-requires
+    unticked-block-requires
+    mul-put-block
+    put-block-requires
     add-k
     loop-less
     loop-again

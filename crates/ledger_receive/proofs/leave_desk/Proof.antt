@@ -30,7 +30,9 @@ enum-known-ticked : tie.Need-enum-known-ticked
 enum-known-ticked c = search needs
 
 drop-requires : tie.Need-drop-requires
-drop-requires c κs = sym (c .before .before .before .before .before .pre)
+drop-requires c κs =
+    let entry = c .before .before .before .before .before in
+    sym (entry .pre)
 
 number-requires : tie.Need-number-requires
 number-requires c κs = search needs

@@ -75,7 +75,8 @@ visit-record-requires c κs =
 mul-list : tie.Need-mul-list Inv-loop μ-loop
 mul-list c =
     let listed = c .before .before .before .before .before .before in
-    scaled-fits _ _ 4 (within listed) (listed .before .before .before .before .before .before .good .1 .1 .1 .0 .1)
+    let entry = listed .before .before .before .before .before .before in
+    scaled-fits _ _ 4 (within listed) (entry .good .1 .1 .1 .0 .1)
 
 slice-write-list : tie.Need-slice-write-list Inv-loop μ-loop
 slice-write-list c =
@@ -88,10 +89,14 @@ tally-requires c κs =
     omega (arith, within listed, few (listed .before .before), mul-list c)
 
 add-i : tie.Need-add-i Inv-loop μ-loop
-add-i c = omega (arith, within (c .before .before .before .before .before .before .before), mul-list (c .before))
+add-i c =
+    let earlier = c .before .before .before .before .before .before .before in
+    omega (arith, within (earlier), mul-list (c .before))
 
 loop-less : tie.Need-loop-less Inv-loop μ-loop
-loop-less c = omega (arith, within (c .before .before .before .before .before .before .before))
+loop-less c =
+    let earlier = c .before .before .before .before .before .before .before in
+    omega (arith, within (earlier))
 
 loop-again : tie.Need-loop-again Inv-loop μ-loop
 loop-again c =

@@ -1,5 +1,5 @@
--- `play` meets its contract. The invariant: the entries from i on, played over the sheet as it is, come to what all come to over the sheet as
--- it was, and the sheet is a book laid out. Assumes nothing.
+-- `play` meets its contract. The invariant: playing the entries from i on over the current sheet gives what playing all of them over the first sheet
+-- gives; and the sheet is the layout of a book. Assumes nothing.
 use borrow.Author.Needs.{needs}
 use Prim.Native.Nat.{suc, _+_, _-_, _≤_}
 use native.Mathlib.Omega.{arith}

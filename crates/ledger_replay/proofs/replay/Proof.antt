@@ -4,7 +4,7 @@ use native.Mathlib.Omega.{arith}
 use borrow.Author.Tests.{eq-eqb, ne-eqb}
 use Rattle.laws.proofs.Bools.{failed, passed}
 use Rattle.refusals.specs.Judge.{judge}
-use Rattle.ledger_sheet.specs.Outcome.{judged}
+use Rattle.ledger_sheet.specs.Outcome.{refusedOr}
 use Rattle.ledger_replay.specs.Trace.{entriesOf}
 use Rattle.ledger_replay.specs.Replay.{replayFrom, replayOn}
 use Rattle.ledger_replay.proofs.Clauses.{trace-parts}
@@ -14,14 +14,14 @@ use Rattle.ledger_replay.proofs.replay.Statement.{statement}
 use Rattle.ledger_replay.proofs.replay.Tie as tie
 
 returns : tie.Need-returns
-unfolding replayOn judged judge
+unfolding replayOn refusedOr judge
 returns c = rw (ne-eqb _ _ (c .if1 .taken))
 
 is-trace-requires : tie.Need-is-trace-requires
 is-trace-requires c κs = search needs
 
 returns-2 : tie.Need-returns-2
-unfolding replayOn judged judge
+unfolding replayOn refusedOr judge
 returns-2 c = rw (eq-eqb _ _ (c .before .before .if1 .left), failed (c .before .is-trace .ensures) (c .if2 .taken))
 
 fresh-requires : tie.Need-fresh-requires
@@ -39,7 +39,7 @@ same-length : tie.Need-same-length
 same-length c = search needs
 
 returns-3 : tie.Need-returns-3
-unfolding replayOn judged judge
+unfolding replayOn refusedOr judge
 returns-3 c =
     let made = c .before .before .before .before .before .before in
     let tested = made .before .before in

@@ -2,7 +2,7 @@
 use native.Mathlib.Omega.{arith}
 use Rattle.refusals.specs.Judge.{judge}
 use Rattle.laws.proofs.Bools.{failed, passed}
-use Rattle.ledger_sheet.specs.Outcome.{judged}
+use Rattle.ledger_sheet.specs.Outcome.{refusedOr}
 use Rattle.ledger_replay.specs.Replay.{replayOnSheet}
 use Rattle.ledger_replay.proofs.Clauses.{trace-parts}
 use Rattle.ledger_replay.proofs.Turns.{right-laid}
@@ -17,7 +17,7 @@ same-length : tie.Need-same-length
 same-length c = search needs
 
 returns : tie.Need-returns
-unfolding replayOnSheet judged judge
+unfolding replayOnSheet refusedOr judge
 returns c = rw (failed (c .before .is-sheet .ensures) (c .if1 .taken))
 
 is-trace-requires : tie.Need-is-trace-requires
@@ -27,7 +27,7 @@ same-length-2 : tie.Need-same-length-2
 same-length-2 c = search needs
 
 returns-2 : tie.Need-returns-2
-unfolding replayOnSheet judged judge
+unfolding replayOnSheet refusedOr judge
 returns-2 c =
     let other = c .before .before in
     rw (passed (other .before .is-sheet .ensures) (other .if1 .left), failed (c .before .is-trace .ensures) (c .if2 .taken))
@@ -45,7 +45,7 @@ same-length-3 : tie.Need-same-length-3
 same-length-3 c = search needs
 
 returns-3 : tie.Need-returns-3
-unfolding replayOnSheet judged judge
+unfolding replayOnSheet refusedOr judge
 returns-3 c =
     let played = c .before .before in
     let tested = played .before .before in

@@ -31,10 +31,14 @@ mul-keys : tie.Need-mul-keys Inv-loop μ-loop
 mul-keys c = omega arith
 
 element-write-keys : tie.Need-element-write-keys Inv-loop μ-loop
-element-write-keys c = omega (arith, c .before .before .before .before .before .loop .inv .1 .few)
+element-write-keys c =
+    let turn = c .before .before .before .before .before in
+    omega (arith, turn .loop .inv .1 .few)
 
 add-count : tie.Need-add-count Inv-loop μ-loop
-add-count c = omega (arith, c .before .before .before .before .before .loop .inv .1 .few)
+add-count c =
+    let turn = c .before .before .before .before .before in
+    omega (arith, turn .loop .inv .1 .few)
 
 add-i : tie.Need-add-i Inv-loop μ-loop
 add-i c = omega arith

@@ -1,4 +1,4 @@
--- The words of a call that is done. Assumes nothing.
+-- The words of an accepted call that gives no values. Assumes nothing.
 use Prim.Native.Nat.{ℕ}
 use mathlib.Core.List.{List, [], _∷_}
 

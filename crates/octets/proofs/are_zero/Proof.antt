@@ -1,4 +1,4 @@
--- `octets::are_zero` meets its contract. The invariant: what is gathered is zero exactly when the first i bytes of each range are.
+-- `octets::are_zero` meets its contract. The invariant: `any` is zero exactly if the first i bytes of each range are.
 -- Assumes nothing.
 use Prim.Native.Nat.{_≤_, _-_}
 use mathlib.Core.Path.{_≡_, sym, _∙_}

@@ -1,4 +1,4 @@
--- `octets::is_same` meets its contract. The invariant: what is gathered is zero exactly when the definition holds of the first i bytes.
+-- `octets::is_same` meets its contract. The invariant: `any` is zero exactly if the first i bytes are the same.
 -- Assumes nothing.
 use Prim.Native.Nat.{_≤_, _+_, _-_}
 use lib.Bits.{bitXor}

@@ -1,4 +1,4 @@
--- `octets::is_zero` meets its contract. The invariant: what is gathered is zero exactly when the definition holds of the first i bytes.
+-- `octets::is_zero` meets its contract. The invariant: `any` is zero exactly if the first i bytes are.
 -- Assumes nothing.
 use Prim.Native.Nat.{_≤_, _+_, _-_}
 use lib.ListN.{getD}

@@ -157,6 +157,9 @@ enum-told-50 c = search needs
 enum-told-51 : tie.Need-enum-told-51
 enum-told-51 c = search needs
 
+enum-told-52 : tie.Need-enum-told-52
+enum-told-52 c = search needs
+
 returns : tie.Need-returns
 returns c = sym (ap numberOf (c .enum-told .given .1))
 
@@ -310,6 +313,9 @@ returns-50 c = sym (ap numberOf (c .enum-told50 .given .1))
 returns-51 : tie.Need-returns-51
 returns-51 c = sym (ap numberOf (c .enum-told51 .given .1))
 
+returns-52 : tie.Need-returns-52
+returns-52 c = sym (ap numberOf (c .enum-told52 .given .1))
+
 pub number-spec : {M : Type 1} → statement M
 number-spec =
     tie.close
@@ -365,6 +371,7 @@ number-spec =
     enum-told-49
     enum-told-50
     enum-told-51
+    enum-told-52
     returns
     returns-2
     returns-3
@@ -415,4 +422,5 @@ number-spec =
     returns-48
     returns-49
     returns-50
-    returns-51)
+    returns-51
+    returns-52)

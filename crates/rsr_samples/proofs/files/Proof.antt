@@ -5,10 +5,10 @@ use Rattle.rsr_samples.proofs.files.Statement.{statement}
 use Rattle.rsr_samples.proofs.files.Tie as tie
 
 abbrev Inv-loop : tie.InvT-loop
-Inv-loop count raw i₀ word i = count < 2 ^ 64
+Inv-loop count raw i₀ numeral i = count < 2 ^ 64
 
 abbrev μ-loop : tie.MeasureT-loop
-μ-loop count raw i₀ word i = count - i
+μ-loop count raw i₀ numeral i = count - i
 
 loop-holds : tie.Need-loop-holds Inv-loop μ-loop
 loop-holds c = search needs

@@ -3,7 +3,7 @@ use Prim.Native.Nat.{_+_, _*_, _≤_, _^_}
 use native.Mathlib.Omega.{arith}
 use mathlib.Core.Path.{_≡_}
 use lib.ListN.{length}
-use Rattle.rsr_samples.specs.Judging.{windowSize}
+use Rattle.streaming.specs.Window.{windowSize}
 use Rattle.rsr_samples.proofs.Taken.{all-read}
 use borrow.Author.Needs.{needs}
 use Rattle.rsr_samples.proofs.write_stream.Statement.{statement}

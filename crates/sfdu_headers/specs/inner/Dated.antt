@@ -1,4 +1,4 @@
--- What `read_date` settles. Assumes nothing.
+-- What `read_date` gives. Assumes nothing.
 use Prim.Native.Nat.{ℕ}
 use mathlib.Core.List.{List}
 use mathlib.Core.Path.{_≡_}

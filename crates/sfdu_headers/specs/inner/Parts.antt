@@ -1,4 +1,4 @@
--- How many values the lower two parts of a telemetry record's received time have: two bytes, and four; no public statement cites it.
+-- How many values the lower two parts of a telemetry record's received time have: two bytes, and four. Only contracts of inner functions cite this.
 -- Assumes nothing.
 use Prim.Native.Nat.{ℕ}
 

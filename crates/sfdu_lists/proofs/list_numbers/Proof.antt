@@ -32,7 +32,9 @@ turn-at-requires : tie.Need-turn-at-requires Inv-loop μ-loop
 turn-at-requires c κs = search needs
 
 abbrev start : tie.Then1 Inv-loop μ-loop → tie.Start Inv-loop μ-loop
-start c = c .before .before .before .before .before .before .before .before .before .before .before
+start c =
+    let earlier = c .before .before .before .before .before .before .before .before .before .before .before in
+    earlier
 
 -- Where the turn lists a record: there is room for it in each list, and with its numbers stored the next round holds.
 listed : (c : tie.Then1 Inv-loop μ-loop) → let l = c .before .before in

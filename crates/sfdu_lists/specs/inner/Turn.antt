@@ -1,4 +1,4 @@
--- What the inner functions of the lists settle. Assumes nothing.
+-- What the inner functions of the lists give. Assumes nothing.
 use Prim.Native.Nat.{ℕ}
 use mathlib.Core.Bool.{true, false, cond, _&&_}
 use mathlib.Core.List.{List, _∷_}
@@ -10,12 +10,12 @@ use Rattle.sfdu_stream.specs.inner.Refusal.{refusal}
 use Rattle.sfdu_stream.specs.Listing.{entryAt}
 use Rattle.sfdu_lists.specs.declared.Turn.{Turn}
 
--- The turn of a list that stops with an answer.
+-- The turn of a list that stops with this answer.
 abbrev pub noTurn : Walked → Turn
 noTurn w = record { listed = false; entry = record { place = 0; length = 0; kind = 0; number = 0 }; next = 0; answer = w }
 
--- The turn at a place of a list of `size` entries, `count` of them filled: the record there is listed where it is whole and an
--- entry is free; else the list's answer is known.
+-- The turn at a place of a list of `size` entries, of which `count` are filled. It lists the record at the place if that is whole and an entry is
+-- free; else it gives the list's answer.
 pub record TurnAt (s : List ℕ) (at count size : ℕ) (t : Turn) : Type 0 where
   pub listed : t .listed ≡ whole s at && ltb count size
   pub entry : t .listed ≡ true → t .entry ≡ entryAt s at

@@ -7,7 +7,7 @@ use borrow.Author.Needs.{needs}
 use lib.Dec.{lit<}
 use lib.ListN.{length}
 use Rattle.laws.proofs.Bools.{passed, failed}
-use Rattle.sfdu_samples.specs.Packing.{perWord, allCoded}
+use Rattle.sfdu_samples.specs.Packing.{perSampleWord, allCoded}
 use Rattle.sfdu_samples.specs.Rates.{isListed}
 use Rattle.sfdu_samples.specs.inner.Unpacking.{Width}
 use Rattle.sfdu_samples.proofs.Judged.{per-some, too-short, long-enough, pack-19, pack-34, pack-37, pack-35, pack-accepts}
@@ -23,16 +23,16 @@ width : (c : tie.Else1) → Width (c .before .before .before .args .size)
 width c = listed-width _ (c .before .before .before .args .rate) (listed c)
 
 whole : (c : tie.Else2)
-    → let d = c .before .before .before .before .before in length (d .args .samples .now) % perWord (d .args .size) ≡ 0
-whole c = rw (c .before .per-word .ensures) at (c .if2 .left)
+    → let d = c .before .before .before .before .before in length (d .args .samples .now) % perSampleWord (d .args .size) ≡ 0
+whole c = rw (c .before .per-sample-word .ensures) at (c .if2 .left)
 
 all-coded : (c : tie.Else3) → let d = c .before .before .before .before .before .before .before in allCoded (d .args .size) (d .args .samples .now) ≡ true
 all-coded c = passed (c .before .is-coded .ensures) (c .if3 .left)
 
 room : (c : tie.Else4)
     → let d = c .before .before .before .before .before .before .before .before in
-    length (d .args .samples .now) / perWord (d .args .size) * 4 ≤ length (d .args .out .now)
-room c = long-enough _ _ 4 (lit< tt) (rw (c .before .before .before .before .per-word .ensures) at (c .if4 .left))
+    length (d .args .samples .now) / perSampleWord (d .args .size) * 4 ≤ length (d .args .out .now)
+room c = long-enough _ _ 4 (lit< tt) (rw (c .before .before .before .before .per-sample-word .ensures) at (c .if4 .left))
 
 is-listed-requires : tie.Need-is-listed-requires
 is-listed-requires c κs = search needs
@@ -42,17 +42,17 @@ returns c =
     let d = c .before .before .before in
     pack-19 (d .args .size) (d .args .rate) (d .args .samples .now) (d .args .out .now) (failed (c .before .is-listed .ensures) (c .if1 .taken))
 
-per-word-requires : tie.Need-per-word-requires
-per-word-requires c κs = width c
+per-sample-word-requires : tie.Need-per-sample-word-requires
+per-sample-word-requires c κs = width c
 
 rem-if2 : tie.Need-rem-if2
-rem-if2 c = rw (c .per-word .ensures) (per-some _ (width (c .before)))
+rem-if2 c = rw (c .per-sample-word .ensures) (per-some _ (width (c .before)))
 
 returns-2 : tie.Need-returns-2
 returns-2 c =
     let d = c .before .before .before .before .before in
     pack-34 (d .args .size) (d .args .rate) (d .args .samples .now) (d .args .out .now) (listed (c .before .before))
-    (rw (c .before .per-word .ensures) at (c .if2 .taken))
+    (rw (c .before .per-sample-word .ensures) at (c .if2 .taken))
 
 is-coded-requires : tie.Need-is-coded-requires
 is-coded-requires c κs = width (c .before .before)
@@ -65,7 +65,7 @@ returns-3 c =
     (failed (c .before .is-coded .ensures) (c .if3 .taken))
 
 div-words : tie.Need-div-words
-div-words c = rw (c .before .before .before .per-word .ensures) (per-some _ (width (c .before .before .before .before)))
+div-words c = rw (c .before .before .before .per-sample-word .ensures) (per-some _ (width (c .before .before .before .before)))
 
 returns-4 : tie.Need-returns-4
 returns-4 c =
@@ -73,13 +73,13 @@ returns-4 c =
     let three = c .before in
     let two = three .before .before in
     pack-35 (d .args .size) (d .args .rate) (d .args .samples .now) (d .args .out .now) (listed (two .before .before)) (whole two) (all-coded three)
-    (too-short _ _ 4 (lit< tt) (rw (two .before .per-word .ensures) at (c .if4 .taken)))
+    (too-short _ _ 4 (lit< tt) (rw (two .before .per-sample-word .ensures) at (c .if4 .taken)))
 
 pack-sized-requires : tie.Need-pack-sized-requires
 pack-sized-requires c κs =
     let three = c .before .before in
     let one = three .before .before .before .before in
-    let per = c .before .before .before .before .before .per-word .ensures in
+    let per = c .before .before .before .before .before .per-sample-word .ensures in
     (width one, rw per (div-mul-le-self _ _), rw per (room (c .before)), all-coded three)
 
 mul-t11 : tie.Need-mul-t11
@@ -93,7 +93,7 @@ returns-5 c =
     let four = c .before .before .before .before in
     let three = four .before in
     let two = three .before .before in
-    let per = two .before .per-word .ensures in
+    let per = two .before .per-sample-word .ensures in
     let d = two .before .before .before .before .before in
     rw per
     (pack-accepts (d .args .size) (d .args .rate) (d .args .samples .now) (d .args .out .now)
@@ -105,7 +105,7 @@ pack-spec =
     (tie.spec
     is-listed-requires
     returns
-    per-word-requires
+    per-sample-word-requires
     rem-if2
     returns-2
     is-coded-requires

@@ -1,4 +1,4 @@
--- Why a walk stops at a place in a stream, by read one's rules. Assumes nothing.
+-- Why a walk stops at a place of a stream, by the rules of read one. Assumes nothing.
 use Prim.Native.Nat.{ℕ}
 use mathlib.Core.List.{List}
 use lib.ListN.{drop}

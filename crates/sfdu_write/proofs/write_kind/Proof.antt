@@ -25,7 +25,8 @@ data-value-at-requires c κs = search needs
 
 add-size : tie.Need-add-size
 add-size c =
-    let k = placed (c .before .before .before .before .before .before .args .kind) in
+    let entry = c .before .before .before .before .before .before in
+    let k = placed (entry .args .kind) in
     let l = lengths _ _ _ (passed (c .before .before .is-input .ensures) (c .before .if1 .left)) in
     omega (arith, c .data-value-at .ensures)
 

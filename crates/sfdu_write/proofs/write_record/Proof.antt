@@ -24,7 +24,9 @@ write-head-requires c κs =
     let k = placed (start .args .kind) in (omega (arith, c .before .data-value-at .ensures), omega arith)
 
 copy-in-requires : tie.Need-copy-in-requires
-copy-in-requires c κs = let k = placed (c .before .before .before .before .before .before .before .before .before .args .kind) in omega arith
+copy-in-requires c κs =
+    let entry = c .before .before .before .before .before .before .before .before .before in
+    let k = placed (entry .args .kind) in omega arith
 
 data-at-requires : tie.Need-data-at-requires
 data-at-requires c κs = search needs

@@ -1,6 +1,6 @@
--- The most bytes of a word. Assumes nothing.
+-- How many bytes a number with the byte behind it has at most. Assumes nothing.
 use Prim.Native.Nat.{ℕ}
 
--- The most bytes of a word of a number of 64 bits: 20 digits, and the byte behind them.
-abbrev pub mostWord : ℕ
-mostWord = 21
+-- A number of 64 bits has at most 20 digits; one byte stands behind them.
+abbrev pub mostNumeral : ℕ
+mostNumeral = 21

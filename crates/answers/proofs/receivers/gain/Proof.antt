@@ -1,5 +1,5 @@
 -- `answers::receivers::gain` meets its contract. Assumes nothing.
-use Rattle.answers.proofs.Told.{told-few}
+use Rattle.answers.proofs.Along.{few-along}
 use Rattle.sfdu_gain.specs.Gain.{wordsOf}
 use borrow.Author.Needs.{needs}
 use Rattle.answers.proofs.receivers.gain.Statement.{statement}
@@ -33,16 +33,16 @@ refused-requires : tie.Need-refused-requires
 refused-requires c κs = search needs
 
 returns : tie.Need-returns
-returns c = told-few wordsOf (c .before .answer .given .1) (search needs)
+returns c = few-along wordsOf (c .before .answer .given .1) (search needs)
 
 returns-2 : tie.Need-returns-2
-returns-2 c = told-few wordsOf (c .enum-told .given .1) (search needs)
+returns-2 c = few-along wordsOf (c .enum-told .given .1) (search needs)
 
 returns-3 : tie.Need-returns-3
-returns-3 c = told-few wordsOf (c .before .before .answer2 .given .1) (c .wrong .ensures)
+returns-3 c = few-along wordsOf (c .before .before .answer2 .given .1) (c .wrong .ensures)
 
 returns-4 : tie.Need-returns-4
-returns-4 c = told-few wordsOf (c .before .before .answer3 .given .1) (c .refused .ensures)
+returns-4 c = few-along wordsOf (c .before .before .answer3 .given .1) (c .refused .ensures)
 
 pub gain-spec : {M : Type 1} → statement M
 gain-spec =

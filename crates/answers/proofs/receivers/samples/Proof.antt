@@ -1,5 +1,5 @@
 -- `answers::receivers::samples` meets its contract. Assumes nothing.
-use Rattle.answers.proofs.Told.{told-few}
+use Rattle.answers.proofs.Along.{few-along}
 use Rattle.answers.specs.Numbers.{plain}
 use Rattle.sfdu_samples.specs.Calls.{wordsOf}
 use borrow.Author.Needs.{needs}
@@ -25,13 +25,13 @@ refused-requires : tie.Need-refused-requires
 refused-requires c κs = search needs
 
 returns : tie.Need-returns
-returns c = told-few (λ a. plain (wordsOf a)) (c .before .answer .given .1) (search needs)
+returns c = few-along (λ a. plain (wordsOf a)) (c .before .answer .given .1) (search needs)
 
 returns-2 : tie.Need-returns-2
-returns-2 c = told-few (λ a. plain (wordsOf a)) (c .before .before .answer2 .given .1) (c .wrong .ensures)
+returns-2 c = few-along (λ a. plain (wordsOf a)) (c .before .before .answer2 .given .1) (c .wrong .ensures)
 
 returns-3 : tie.Need-returns-3
-returns-3 c = told-few (λ a. plain (wordsOf a)) (c .before .before .answer3 .given .1) (c .refused .ensures)
+returns-3 c = few-along (λ a. plain (wordsOf a)) (c .before .before .answer3 .given .1) (c .refused .ensures)
 
 pub samples-spec : {M : Type 1} → statement M
 samples-spec =

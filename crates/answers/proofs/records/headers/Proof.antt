@@ -1,5 +1,5 @@
 -- `answers::records::headers` meets its contract. Assumes nothing.
-use Rattle.answers.proofs.Told.{told}
+use Rattle.answers.proofs.Along.{numbers-along}
 use Rattle.sfdu_headers.specs.Headers.{wordsOf}
 use borrow.Author.Needs.{needs}
 use Rattle.answers.proofs.records.headers.Statement.{statement}
@@ -30,16 +30,16 @@ wrong-requires-2 : tie.Need-wrong-requires-2
 wrong-requires-2 c κs = search needs
 
 returns : tie.Need-returns
-returns c = told wordsOf (c .before .before .found .given .1) (c .telemetry .ensures)
+returns c = numbers-along wordsOf (c .before .before .found .given .1) (c .telemetry .ensures)
 
 returns-2 : tie.Need-returns-2
-returns-2 c = told wordsOf (c .before .before .found2 .given .1) (c .rsr .ensures)
+returns-2 c = numbers-along wordsOf (c .before .before .found2 .given .1) (c .rsr .ensures)
 
 returns-3 : tie.Need-returns-3
-returns-3 c = told wordsOf (c .before .before .found3 .given .1) (c .wrong .ensures)
+returns-3 c = numbers-along wordsOf (c .before .before .found3 .given .1) (c .wrong .ensures)
 
 returns-4 : tie.Need-returns-4
-returns-4 c = told wordsOf (c .before .enum-told .given .1) (c .wrong2 .ensures)
+returns-4 c = numbers-along wordsOf (c .before .enum-told .given .1) (c .wrong2 .ensures)
 
 pub headers-spec : {M : Type 1} → statement M
 headers-spec =

@@ -65,7 +65,9 @@ array-write-numbers-10 : tie.Need-array-write-numbers-10
 array-write-numbers-10 c = search needs
 
 returns : tie.Need-returns
-returns c = rw (c .before .before .before .before .before .expected .ensures)
+returns c =
+    let at-expected = c .before .before .before .before .before in
+    rw (at-expected .expected .ensures)
 
 pub with-signal-spec : {M : Type 1} → statement M
 with-signal-spec =

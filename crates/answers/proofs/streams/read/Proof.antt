@@ -1,5 +1,5 @@
 -- `answers::streams::read` meets its contract. Assumes nothing.
-use Rattle.answers.proofs.Told.{told}
+use Rattle.answers.proofs.Along.{numbers-along}
 use Rattle.answers.specs.Numbers.{plain}
 use Rattle.sfdu.specs.Read.{wordsOf}
 use lib.Dec.{lit<}
@@ -25,11 +25,11 @@ wrong-requires c κs = search needs
 
 -- src/streams.rt:15:1
 returns : tie.Need-returns
-returns c = told (λ a. plain (wordsOf a)) (c .before .before .found .given .1) (c .«record» .ensures, rw (c .«record» .ensures) (lit< tt))
+returns c = numbers-along (λ a. plain (wordsOf a)) (c .before .before .found .given .1) (c .«record» .ensures, rw (c .«record» .ensures) (lit< tt))
 
 -- src/streams.rt:15:1
 returns-2 : tie.Need-returns-2
-returns-2 c = told (λ a. plain (wordsOf a)) (c .before .before .found2 .given .1) (c .wrong .ensures)
+returns-2 c = numbers-along (λ a. plain (wordsOf a)) (c .before .before .found2 .given .1) (c .wrong .ensures)
 
 pub read-spec : {M : Type 1} → statement M
 read-spec =

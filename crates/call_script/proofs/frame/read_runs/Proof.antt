@@ -27,6 +27,9 @@ slice-aggregate-read-full c = sym (length-take-le _ _ (omega arith))
 read-full-requires : tie.Need-read-full-requires
 read-full-requires c κs = search needs
 
+has-failed-requires : tie.Need-has-failed-requires
+has-failed-requires c κs = search needs
+
 same-length : tie.Need-same-length
 same-length c = search needs
 
@@ -56,6 +59,7 @@ read-runs-spec =
     slice-relend-prefix-read-full
     slice-aggregate-read-full
     read-full-requires
+    has-failed-requires
     same-length
     returns-4
     same-length-2

@@ -25,10 +25,10 @@ same-length c = search needs
 returns-2 : tie.Need-returns-2
 returns-2 c =
     let wrote = c .before .before in
-    let counted = wrote .before in
-    let called = counted .before .before in
+    let told = wrote .before in
+    let called = told .before .before in
     let length = called .before .if1 .left in
-    written _ _ length (called .gain .ensures) (counted .gain2 .ensures .same) (wrote .write-few .ensures)
+    written _ _ length (called .gain .ensures) (told .gain2 .ensures .same) (wrote .write-few .ensures)
 
 pub hernganow-gain-spec : {M : Type 1} → statement M
 hernganow-gain-spec =

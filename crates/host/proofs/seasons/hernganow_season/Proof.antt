@@ -3,7 +3,7 @@ use Prim.Native.Nat.{ℕ}
 use mathlib.Core.List.{List}
 use mathlib.Core.Path.{ap}
 use Rattle.answers.specs.Numbers.{withNone}
-use Rattle.answers.specs.Seasons.{inAllCount}
+use Rattle.ledger_answers.specs.Seasons.{inAllCount}
 use Rattle.host.proofs.Exports.{unwritten, written}
 use Rattle.host.proofs.InAll.{in-all}
 use borrow.Author.Needs.{needs}

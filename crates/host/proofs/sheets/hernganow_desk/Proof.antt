@@ -26,10 +26,10 @@ same-length c = search needs
 returns-2 : tie.Need-returns-2
 returns-2 c =
     let wrote = c .before .before in
-    let counted = wrote .before in
-    let called = counted .before .before in
+    let told = wrote .before in
+    let called = told .before .before in
     let length = called .before .if1 .left in
-    written-asked (withNone 3) _ _ length (called .desk .ensures) (counted .desk2 .ensures .same) (wrote .write-few .ensures)
+    written-asked (withNone 3) _ _ length (called .desk .ensures) (told .desk2 .ensures .same) (wrote .write-few .ensures)
 
 pub hernganow-desk-spec : {M : Type 1} → statement M
 hernganow-desk-spec =

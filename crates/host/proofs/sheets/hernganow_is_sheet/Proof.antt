@@ -1,10 +1,7 @@
--- `host::sheets::hernganow_is_sheet` meets its contract. Its answer is a test's, of which the words are made. Assumes nothing.
-use mathlib.Core.Bool.{Bool, cond}
-use mathlib.Core.List.{[], _∷_}
-use mathlib.Core.Path.{ap}
+-- `host::sheets::hernganow_is_sheet` meets its contract. Written by crates/host/exports. Assumes nothing.
 use borrow.Author.Needs.{needs}
-use Rattle.answers.specs.Numbers.{plain}
-use Rattle.host.proofs.Exports.{unwritten, written}
+use Rattle.answers.specs.Numbers.{flagged}
+use Rattle.host.proofs.Exports.{unwritten, written-as}
 use Rattle.host.proofs.sheets.hernganow_is_sheet.Statement.{statement}
 use Rattle.host.proofs.sheets.hernganow_is_sheet.Tie as tie
 
@@ -29,11 +26,10 @@ same-length c = search needs
 returns-2 : tie.Need-returns-2
 returns-2 c =
     let wrote = c .before .before in
-    let counted = wrote .before in
-    let called = counted .before .before in
+    let told = wrote .before in
+    let called = told .before .before in
     let length = called .before .if1 .left in
-    let words = ap (λ (b : Bool). plain (0 ∷ cond b 1 0 ∷ [])) (called .is-sheet .ensures) in
-    written _ _ length words (counted .is-sheet2 .ensures .same) (wrote .write-few .ensures)
+    written-as flagged _ _ length (called .is-sheet .ensures) (told .is-sheet2 .ensures .same) (wrote .write-few .ensures)
 
 pub hernganow-is-sheet-spec : {M : Type 1} → statement M
 hernganow-is-sheet-spec =

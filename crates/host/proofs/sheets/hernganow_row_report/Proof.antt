@@ -26,10 +26,10 @@ same-length c = search needs
 returns-2 : tie.Need-returns-2
 returns-2 c =
     let wrote = c .before .before in
-    let counted = wrote .before in
-    let called = counted .before .before in
+    let told = wrote .before in
+    let called = told .before .before in
     let length = called .before .if1 .left in
-    written-asked (withNone 4) _ _ length (called .row-report .ensures) (counted .report .ensures .same) (wrote .write-few .ensures)
+    written-asked (withNone 4) _ _ length (called .row-report .ensures) (told .report .ensures .same) (wrote .write-few .ensures)
 
 pub hernganow-row-report-spec : {M : Type 1} → statement M
 hernganow-row-report-spec =

@@ -23,13 +23,14 @@ field-requires-6 c κs = search needs
 
 returns : tie.Need-returns
 returns c =
+    let at-field = c .before .before .before .before .before in
     rw (
       c .field6 .ensures .0,
       c .before .field5 .ensures .0,
       c .before .before .field4 .ensures .0,
       c .before .before .before .field3 .ensures .0,
       c .before .before .before .before .field2 .ensures .0,
-      c .before .before .before .before .before .field .ensures .0,
+      at-field .field .ensures .0,
     )
 
 pub recorder-of-spec : {M : Type 1} → statement M

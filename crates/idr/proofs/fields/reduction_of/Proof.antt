@@ -44,18 +44,24 @@ sub-t14 c = search needs
 
 returns : tie.Need-returns
 returns c =
+    let at-field = c .before .before .before .before .before in
+    let at-field-2 = c .before .before .before .before .before .before in
+    let at-sampling-rate = c .before .before .before .before .before .before .before in
+    let at-field-3 = c .before .before .before .before .before .before .before .before in
+    let at-playback-rate = c .before .before .before .before .before .before .before .before .before in
+    let at-field-4 = c .before .before .before .before .before .before .before .before .before .before in
     rw (
       c .block-stored .ensures .0,
       c .before .field7 .ensures .0,
       c .before .before .field6 .ensures .0,
       c .before .before .before .field5 .ensures .0,
       c .before .before .before .before .decimation .ensures,
-      c .before .before .before .before .before .field4 .ensures .0,
-      c .before .before .before .before .before .before .field3 .ensures .0,
-      c .before .before .before .before .before .before .before .sampling-rate .ensures,
-      c .before .before .before .before .before .before .before .before .field2 .ensures .0,
-      c .before .before .before .before .before .before .before .before .before .playback-rate .ensures,
-      c .before .before .before .before .before .before .before .before .before .before .field .ensures .0,
+      at-field .field4 .ensures .0,
+      at-field-2 .field3 .ensures .0,
+      at-sampling-rate .sampling-rate .ensures,
+      at-field-3 .field2 .ensures .0,
+      at-playback-rate .playback-rate .ensures,
+      at-field-4 .field .ensures .0,
     )
 
 pub reduction-of-spec : {M : Type 1} → statement M

@@ -32,15 +32,18 @@ decimation-requires c κs = search needs
 
 returns : tie.Need-returns
 returns c =
+    let at-long = c .before .before .before .before .before in
+    let at-field = c .before .before .before .before .before .before .before in
+    let at-field-2 = c .before .before .before .before .before .before .before .before in
     rw (
       c .decimation .ensures,
       c .before .field6 .ensures .0,
       c .before .before .field5 .ensures .0,
       c .before .before .before .field4 .ensures .0,
       c .before .before .before .before .field3 .ensures .0,
-      c .before .before .before .before .before .long .ensures,
-      c .before .before .before .before .before .before .before .field2 .ensures .0,
-      c .before .before .before .before .before .before .before .before .field .ensures .0,
+      at-long .long .ensures,
+      at-field .field2 .ensures .0,
+      at-field-2 .field .ensures .0,
     )
 
 pub status-of-spec : {M : Type 1} → statement M

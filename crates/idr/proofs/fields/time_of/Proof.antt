@@ -44,14 +44,16 @@ add-t14 c = search needs
 
 returns : tie.Need-returns
 returns c =
+    let at-two-digits = c .before .before .before .before .before in
+    let at-digit-at = c .before .before .before .before .before .before in
     rw (
       c .field2 .ensures .0,
       c .before .field .ensures .0,
       c .before .before .two-digits4 .ensures .0,
       c .before .before .before .two-digits3 .ensures .0,
       c .before .before .before .before .two-digits2 .ensures .0,
-      c .before .before .before .before .before .two-digits .ensures .0,
-      c .before .before .before .before .before .before .digit-at .ensures .0,
+      at-two-digits .two-digits .ensures .0,
+      at-digit-at .digit-at .ensures .0,
     )
 
 pub time-of-spec : {M : Type 1} → statement M

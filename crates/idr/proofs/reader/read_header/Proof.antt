@@ -27,9 +27,10 @@ returns c =
 
 returns-2 : tie.Need-returns-2
 returns-2 c =
+    let entry = c .before .before .before .before .before in
     let g = c .before .judged .given in
     let e = sym (ap outcomeNumber (g .1)) ∙ c .before .before .before .judge-words .ensures in
-    sym (judge-refused (λ n. n ∷ []) (wordRules (c .before .before .before .before .before .args .w .now)) _ (g .0 .0) e)
+    sym (judge-refused (λ n. n ∷ []) (wordRules (entry .args .w .now)) _ (g .0 .0) e)
 
 pub read-header-spec : {M : Type 1} → statement M
 read-header-spec =

@@ -39,8 +39,8 @@ returns : tie.Need-returns
 returns c =
     let first = c .before .before .before .before .before .before .before in
     let key = first .before .before .before .before .before in
-    let word = key .before .before .before .before in
-    row-written _ _ _ _ _ (omega arith) (omega arith) (word .write-be .ensures) (key .write-be2 .ensures) (first .write-be3 .ensures)
+    let flag = key .before .before .before .before in
+    row-written _ _ _ _ _ (omega arith) (omega arith) (flag .write-be .ensures) (key .write-be2 .ensures) (first .write-be3 .ensures)
     (c .before .before .write-ticks .ensures)
 
 pub write-row-spec : {M : Type 1} → statement M

@@ -1,5 +1,4 @@
--- `old::are_rows` meets its contract. The invariant: the first i keys are in the array, and what is gathered says it of
--- them. Assumes nothing.
+-- `old::are_rows` meets its contract. The invariant: the first i keys are in the array, and the three flags are right for them. Assumes nothing.
 use Rattle.ledger_convert.proofs.Ranges.{read-more, read-test}
 use Prim.Native.Nat.{ℕ, _≤_, _<_, _-_}
 use mathlib.Core.Bool.{not}
@@ -63,10 +62,11 @@ loop-less c = omega arith
 
 loop-again : tie.Need-loop-again Inv-loop μ-loop
 loop-again c =
+    let at-key-at = c .before .before .before .before .before in
     let place = c .before .before .before .before .before .before in
     let s = place .before .before .before .before .before .args .s .now in
     let at = place .before .before .loop in
-    let key = rw (place .row-at .ensures) at (c .before .before .before .before .before .key-at .ensures) in
+    let key = rw (place .row-at .ensures) at (at-key-at .key-at .ensures) in
     let first = rw (place .row-at .ensures) at (c .before .before .before .first-at .ensures) in
     let keys : ℕ → ℕ = λ j. keyAt s (rowAt j) in (
       omega arith,

@@ -25,8 +25,9 @@ read-be-requires-6 c κs = search needs
 returns : tie.Need-returns
 unfolding headerRight
 returns c =
+    let at-read-be = c .before .before .before .before .before in
     rw (
-      c .before .before .before .before .before .read-be .ensures,
+      at-read-be .read-be .ensures,
       c .before .before .before .before .read-be2 .ensures,
       c .before .before .before .read-be3 .ensures,
       c .before .before .read-be4 .ensures,

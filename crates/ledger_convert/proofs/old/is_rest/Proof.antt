@@ -1,5 +1,5 @@
--- `old::is_rest` meets its contract. The invariant: the bytes from `zeros` up to desk d are to be zero, and the others before desk d have
--- been judged. Assumes nothing.
+-- `old::is_rest` meets its contract. The invariant: the bytes from `zeros` up to desk d are still to be tested for zero, and all before them are tested.
+-- Assumes nothing.
 use Prim.Native.Nat.{_≤_, _-_}
 use mathlib.Core.Path.{_≡_}
 use mathlib.Core.Logic.{⊎-elim}
@@ -41,7 +41,8 @@ is-long-zero-requires c κs = search needs
 is-open-desk-requires : tie.Need-is-open-desk-requires Inv-loop μ-loop
 is-open-desk-requires c κs =
     let place = c .before .before .before in
-    (place .before .before .before .before .before .before .pre, (omega arith, rw (← place .desk-at .ensures) (c .before .if1 .taken)))
+    let entry = place .before .before .before .before .before .before in
+    (entry .pre, (omega arith, rw (← place .desk-at .ensures) (c .before .if1 .taken)))
 
 add-zeros : tie.Need-add-zeros Inv-loop μ-loop
 add-zeros c = search needs

@@ -1,4 +1,4 @@
--- `is_idle` meets its contract. The invariant: none of the first d desks has the row open, where `idle`. Assumes nothing.
+-- `is_idle` meets its contract. The invariant: if `idle` is true, none of the first d desks has the row open. Assumes nothing.
 use Prim.Native.Nat.{_≤_, _-_}
 use mathlib.Core.Path.{_≡_, sym, _∙_}
 use native.Mathlib.Omega.{arith}

@@ -1,5 +1,5 @@
 -- `calls::is_written` meets its contract. Assumes nothing.
-use Rattle.ledger_replay.specs.Replay.{sameTold}
+use Rattle.ledger_replay.specs.Replay.{sameCallAnswer}
 use Rattle.ledger_replay.proofs.Turns.{written-number}
 use borrow.Author.Needs.{needs}
 use Rattle.ledger_replay.proofs.calls.is_written.Statement.{statement}
@@ -15,7 +15,7 @@ cast-same-row : tie.Need-cast-same-row
 cast-same-row c = search needs
 
 returns : tie.Need-returns
-unfolding sameTold
+unfolding sameCallAnswer
 returns c = rw (written-number, ← c .before .written-row .ensures)
 
 pub is-written-spec : {M : Type 1} → statement M

@@ -10,20 +10,26 @@ cast-save : tie.Need-cast-save
 cast-save c = search needs
 
 save-requires : tie.Need-save-requires
-save-requires c κs = sym (c .before .before .before .before .before .pre)
+save-requires c κs =
+    let entry = c .before .before .before .before .before in
+    sym (entry .pre)
 
 same-length : tie.Need-same-length
 same-length c = search needs
 
 returns : tie.Need-returns
 unfolding lastIn
-returns c = rw (eq-eqb _ _ (c .before .before .before .before .before .if1 .taken)) (c .before .before .save .ensures)
+returns c =
+    let at-if = c .before .before .before .before .before in
+    rw (eq-eqb _ _ (at-if .if1 .taken)) (c .before .before .save .ensures)
 
 cast-drop : tie.Need-cast-drop
 cast-drop c = search needs
 
 drop-requires : tie.Need-drop-requires
-drop-requires c κs = sym (c .before .before .before .before .before .before .before .pre)
+drop-requires c κs =
+    let entry = c .before .before .before .before .before .before .before in
+    sym (entry .pre)
 
 same-length-2 : tie.Need-same-length-2
 same-length-2 c = search needs
@@ -38,7 +44,9 @@ cast-strike : tie.Need-cast-strike
 cast-strike c = search needs
 
 strike-requires : tie.Need-strike-requires
-strike-requires c κs = sym (c .before .before .before .before .before .before .before .pre)
+strike-requires c κs =
+    let entry = c .before .before .before .before .before .before .before in
+    sym (entry .pre)
 
 same-length-3 : tie.Need-same-length-3
 same-length-3 c = search needs

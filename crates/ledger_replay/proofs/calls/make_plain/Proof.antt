@@ -13,20 +13,26 @@ cast-open-2 : tie.Need-cast-open-2
 cast-open-2 c = search needs
 
 open-requires : tie.Need-open-requires
-open-requires c κs = sym (c .before .before .before .before .before .before .pre)
+open-requires c κs =
+    let entry = c .before .before .before .before .before .before in
+    sym (entry .pre)
 
 same-length : tie.Need-same-length
 same-length c = search needs
 
 returns : tie.Need-returns
 unfolding plainIn
-returns c = rw (eq-eqb _ _ (c .before .before .before .before .before .before .if1 .taken)) (c .before .before .«open» .ensures)
+returns c =
+    let at-if = c .before .before .before .before .before .before in
+    rw (eq-eqb _ _ (at-if .if1 .taken)) (c .before .before .«open» .ensures)
 
 cast-mark : tie.Need-cast-mark
 cast-mark c = search needs
 
 mark-requires : tie.Need-mark-requires
-mark-requires c κs = sym (c .before .before .before .before .before .before .before .pre)
+mark-requires c κs =
+    let entry = c .before .before .before .before .before .before .before in
+    sym (entry .pre)
 
 same-length-2 : tie.Need-same-length-2
 same-length-2 c = search needs
@@ -41,7 +47,9 @@ cast-mark-2 : tie.Need-cast-mark-2
 cast-mark-2 c = search needs
 
 mark-requires-2 : tie.Need-mark-requires-2
-mark-requires-2 c κs = sym (c .before .before .before .before .before .before .before .before .before .pre)
+mark-requires-2 c κs =
+    let entry = c .before .before .before .before .before .before .before .before .before in
+    sym (entry .pre)
 
 same-length-3 : tie.Need-same-length-3
 same-length-3 c = search needs
@@ -54,7 +62,9 @@ returns-3 c =
     rw (ne-eqb _ _ (before .before .before .if1 .left), ne-eqb _ _ (before .if2 .left), eq-eqb _ _ (tested .if3 .taken)) (c .before .before .mark2 .ensures)
 
 make-last-requires : tie.Need-make-last-requires
-make-last-requires c κs = c .before .before .before .before .before .before .before .before .pre
+make-last-requires c κs =
+    let entry = c .before .before .before .before .before .before .before .before in
+    entry .pre
 
 same-length-4 : tie.Need-same-length-4
 same-length-4 c = search needs

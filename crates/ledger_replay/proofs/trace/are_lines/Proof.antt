@@ -1,4 +1,4 @@
--- `trace::are_lines` meets its contract. The invariant: what is gathered says it of the first i entries. Assumes nothing.
+-- `trace::are_lines` meets its contract. The invariant: `right` says whether the first i entries are right. Assumes nothing.
 use Prim.Native.Nat.{_≤_, _-_}
 use native.Mathlib.Omega.{arith}
 use mathlib.Core.Path.{_≡_, sym}

@@ -1,17 +1,17 @@
--- `right::are_desks` meets its contract. The invariant: the bytes from `zeros` up to desk d are to be zero, and the others before
--- desk d have been judged. Assumes nothing.
+-- `right::are_desks` meets its contract. The invariant: the bytes from `zeros` up to desk d are still to be tested for zero, and all before them are
+-- tested. Assumes nothing.
 use Prim.Native.Nat.{_≤_, _-_}
 use mathlib.Core.Path.{_≡_}
 use mathlib.Core.Logic.{⊎-elim}
 use native.Mathlib.Omega.{arith}
 use borrow.Author.Needs.{needs}
 use Rattle.ledger_sheet.specs.Sheet.{deskCount, deskAt}
-use Rattle.ledger_sheet.proofs.Clauses.{Judged, none-judged, closed-judged, open-judged}
+use Rattle.ledger_sheet.proofs.Clauses.{DesksUpTo, none-judged, closed-judged, open-judged}
 use Rattle.ledger_sheet.proofs.right.are_desks.Statement.{statement}
 use Rattle.ledger_sheet.proofs.right.are_desks.Tie as tie
 
 abbrev Inv-loop : tie.InvT-loop
-Inv-loop s right₀ zeros₀ d₀ right zeros d = (d ≤ deskCount) × (zeros ≤ deskAt d) × Judged s right zeros d
+Inv-loop s right₀ zeros₀ d₀ right zeros d = (d ≤ deskCount) × (zeros ≤ deskAt d) × DesksUpTo s right zeros d
 
 abbrev μ-loop : tie.MeasureT-loop
 μ-loop s right₀ zeros₀ d₀ right zeros d = deskCount - d

@@ -1,5 +1,5 @@
--- `right::are_rows` meets its contract. The invariant: the array has the keys of the used rows among the first i, and what is
--- gathered says it of them. Assumes nothing.
+-- `right::are_rows` meets its contract. The invariant: the array has the keys of the used rows among the first i, and `right` says whether these rows
+-- are right. Assumes nothing.
 use Prim.Native.Nat.{_≤_, _-_}
 use mathlib.Core.Path.{refl, sym, _∙_}
 use mathlib.Core.Logic.{⊎-elim}
@@ -69,18 +69,18 @@ loop-again : tie.Need-loop-again Inv-loop μ-loop
 loop-again c =
     let turn = c .before .before .before .before .before .loop in
     let place = c .before .before .row-at .ensures in
-    let word = c .before .is-used .ensures in
+    let flag = c .before .is-used .ensures in
     ⊎-elim
     (λ w.
     let key = rw place at (w .1 .ensures) in
     let first = rw place at (w .2 .ensures) in (
       omega arith,
       rw (w .7, w .8, w .9, w .10)
-          (used-read _ _ _ _ _ _ (turn .inv .1) _ _ _ _ (omega arith) (sym word ∙ w .0 .taken) key first (w .3 .ensures) (w .6 .ensures)),
+          (used-read _ _ _ _ _ _ (turn .inv .1) _ _ _ _ (omega arith) (sym flag ∙ w .0 .taken) key first (w .3 .ensures) (w .6 .ensures)),
     ))
     (λ w.
     let zero = rw place at (w .1 .ensures) in
-    (omega arith, rw (w .2, w .3, w .4, w .5) (free-read _ _ _ _ _ _ (turn .inv .1) _ (sym word ∙ w .0 .left) zero)))
+    (omega arith, rw (w .2, w .3, w .4, w .5) (free-read _ _ _ _ _ _ (turn .inv .1) _ (sym flag ∙ w .0 .left) zero)))
     (c .if2 .came)
 
 row-at-requires-2 : tie.Need-row-at-requires-2 Inv-loop μ-loop

@@ -4,25 +4,20 @@ use borrow.Author.Needs.{needs}
 use Rattle.ledger_sheet.proofs.right.is_new.Statement.{statement}
 use Rattle.ledger_sheet.proofs.right.is_new.Tie as tie
 
--- src/right.rt:173:15
 rem-if1 : tie.Need-rem-if1
 rem-if1 c = search needs
 
--- src/right.rt:173:8
 element-copy-out-if1 : tie.Need-element-copy-out-if1
 element-copy-out-if1 c = search needs
 
--- src/right.rt:174:9
 returns : tie.Need-returns
 returns c =
     let given = c .before .before .args in
     sym (unmarked-new (given .keys .now) (given .marks .now) (given .n) (given .key) (c .before .before .pre .1) (c .if1 .taken))
 
--- src/right.rt:176:5
 is-other-requires : tie.Need-is-other-requires
 is-other-requires c κs = search needs
 
--- src/right.rt:169:1
 returns-2 : tie.Need-returns-2
 returns-2 c = search needs
 

@@ -2,15 +2,12 @@ use borrow.Author.Needs.{needs}
 use Rattle.ledger_sheet.proofs.right.is_stream.Statement.{statement}
 use Rattle.ledger_sheet.proofs.right.is_stream.Tie as tie
 
--- src/right.rt:165:5
 valid-requires : tie.Need-valid-requires
 valid-requires c κs = search needs
 
--- src/right.rt:165:24
 is-number-requires : tie.Need-is-number-requires
 is-number-requires c κs = search needs
 
--- src/right.rt:162:1
 returns : tie.Need-returns
 returns c = rw (c .before .valid .ensures, c .is-number .ensures)
 

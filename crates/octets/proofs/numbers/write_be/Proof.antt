@@ -1,4 +1,4 @@
--- `octets::numbers::write_be` meets its contract. The invariant: the first i bytes of what is left, put in, give the result. Assumes nothing.
+-- `octets::numbers::write_be` meets its contract. The invariant: writing the first i bytes of `left` gives the result. Assumes nothing.
 use Prim.Native.Nat.{_≤_}
 use lib.ListN.{length, length-set}
 use Rattle.octets.specs.Octets.{put, bytesOf}

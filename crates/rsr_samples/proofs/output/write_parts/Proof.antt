@@ -7,7 +7,7 @@ use mathlib.Core.Path.{_≡_, sym}
 use lib.ListN.{length}
 use lib.Seq.{length-take-le}
 use borrow.Author.Needs.{needs}
-use Rattle.sfdu_sample_text.specs.Part.{begins, lays}
+use Rattle.rsr_samples_text.specs.Part.{begins, lays}
 use Rattle.rsr_samples.specs.Parts.{Came}
 use Rattle.rsr_samples.proofs.output.write_parts.Statement.{statement}
 use Rattle.rsr_samples.proofs.output.write_parts.Tie as tie

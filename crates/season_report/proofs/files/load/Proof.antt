@@ -7,14 +7,14 @@ use Rattle.season_report.proofs.files.load.Tie as tie
 open-at-requires : tie.Need-open-at-requires
 open-at-requires c κs = search needs
 
-no-sheet-requires : tie.Need-no-sheet-requires
-no-sheet-requires c κs = search needs
+none-taken-requires : tie.Need-none-taken-requires
+none-taken-requires c κs = search needs
 
 same-length : tie.Need-same-length
 same-length c = search needs
 
 returns : tie.Need-returns
-returns c = (search needs, λ e. absurd (none-found (c .no-sheet .ensures) e))
+returns c = (search needs, λ e. absurd (none-found (c .none-taken .ensures) e))
 
 slice-reshare-prefix-load-open : tie.Need-slice-reshare-prefix-load-open
 slice-reshare-prefix-load-open c = search needs
@@ -34,6 +34,9 @@ same-length-2 c = search needs
 same-length-3 : tie.Need-same-length-3
 same-length-3 c = search needs
 
+same-length-4 : tie.Need-same-length-4
+same-length-4 c = search needs
+
 returns-2 : tie.Need-returns-2
 returns-2 c = search needs
 
@@ -42,7 +45,7 @@ load-spec =
     tie.close
     (tie.spec
     open-at-requires
-    no-sheet-requires
+    none-taken-requires
     same-length
     returns
     slice-reshare-prefix-load-open
@@ -51,4 +54,5 @@ load-spec =
     close-requires
     same-length-2
     same-length-3
+    same-length-4
     returns-2)

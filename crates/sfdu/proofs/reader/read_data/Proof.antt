@@ -32,28 +32,35 @@ data-at-requires-2 : tie.Need-data-at-requires-2
 data-at-requires-2 c κs = search needs
 
 add-refused : tie.Need-add-refused
-add-refused c = let k = placed (c .before .before .before .before .before .before .args .kind) in omega (arith, c .data-at2 .ensures)
+add-refused c =
+    let entry = c .before .before .before .before .before .before in
+    let k = placed (entry .args .kind) in omega (arith, c .data-at2 .ensures)
 
 refused-requires-2 : tie.Need-refused-requires-2
 refused-requires-2 c κs = search needs
 
 returns-2 : tie.Need-returns-2
 unfolding judge
-returns-2 c = rw (
-  passed (c .before .before .before .before .before .has-data-type .ensures) (c .before .before .before .before .if1 .left),
-  failed (c .before .before .before .has-data-length .ensures) (c .before .before .if2 .taken),
-) (c .refused2 .ensures ∙ rw (c .before .data-at2 .ensures))
+returns-2 c =
+    let at-has-data-type = c .before .before .before .before .before in
+    rw (
+      passed (at-has-data-type .has-data-type .ensures) (c .before .before .before .before .if1 .left),
+      failed (c .before .before .before .has-data-length .ensures) (c .before .before .if2 .taken),
+    ) (c .refused2 .ensures ∙ rw (c .before .data-at2 .ensures))
 
 read-primary-requires : tie.Need-read-primary-requires
-read-primary-requires c κs = let k = placed (c .before .before .before .before .before .args .kind) in omega arith
+read-primary-requires c κs =
+    let entry = c .before .before .before .before .before in
+    let k = placed (entry .args .kind) in omega arith
 
 returns-3 : tie.Need-returns-3
 unfolding judge
 returns-3 c =
+    let entry = c .before .before .before .before .before .before in
     rw (
       passed (c .before .before .before .before .has-data-type .ensures) (c .before .before .before .if1 .left),
       passed (c .before .before .has-data-length .ensures) (c .before .if2 .left),
-      c .before .before .before .before .before .before .pre .0,
+      entry .pre .0,
     ) (cc (c .read-primary .ensures))
 
 pub read-data-spec : {M : Type 1} → statement M

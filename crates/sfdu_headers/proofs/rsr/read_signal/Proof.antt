@@ -40,10 +40,12 @@ shared-slice-read-t21 : tie.Need-shared-slice-read-t21
 shared-slice-read-t21 c = search needs
 
 returns : tie.Need-returns
-returns c = rw (
-  toZ-ofZ w8 _ (sfits-of (c .before .before .before .before .before .before .before .before .before .signed .ok)),
-  c .before .before .before .before .before .before .before .before .before .signed .ensures,
-)
+returns c =
+    let at-signed = c .before .before .before .before .before .before .before .before .before in
+    rw (
+      toZ-ofZ w8 _ (sfits-of (at-signed .signed .ok)),
+      at-signed .signed .ensures,
+    )
 
 pub read-signal-spec : {M : Type 1} → statement M
 read-signal-spec =

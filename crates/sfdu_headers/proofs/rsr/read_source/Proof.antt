@@ -28,11 +28,14 @@ read-u16-requires-2 : tie.Need-read-u16-requires-2
 read-u16-requires-2 c κs = search needs
 
 returns : tie.Need-returns
-returns c = rw (
-  c .before .before .before .before .before .before .before .read-u16 .ensures,
-  c .before .before .before .before .before .before .number .ensures,
-  c .read-u162 .ensures,
-)
+returns c =
+    let at-read-u = c .before .before .before .before .before .before .before in
+    let at-number = c .before .before .before .before .before .before in
+    rw (
+      at-read-u .read-u16 .ensures,
+      at-number .number .ensures,
+      c .read-u162 .ensures,
+    )
 
 pub read-source-spec : {M : Type 1} → statement M
 read-source-spec =

@@ -28,13 +28,16 @@ read-u16-requires : tie.Need-read-u16-requires
 read-u16-requires c κs = search needs
 
 returns : tie.Need-returns
-returns c = rw (
-  c .before .before .before .before .before .before .spacecraft .ensures,
-  c .before .before .before .before .read-u64 .ensures,
-  c .before .before .before .number .ensures,
-  c .before .before .before .before .before .before .before .band .ensures,
-  c .read-u16 .ensures,
-)
+returns c =
+    let at-spacecraft = c .before .before .before .before .before .before in
+    let at-band = c .before .before .before .before .before .before .before in
+    rw (
+      at-spacecraft .spacecraft .ensures,
+      c .before .before .before .before .read-u64 .ensures,
+      c .before .before .before .number .ensures,
+      at-band .band .ensures,
+      c .read-u16 .ensures,
+    )
 
 pub read-fields-spec : {M : Type 1} → statement M
 read-fields-spec =

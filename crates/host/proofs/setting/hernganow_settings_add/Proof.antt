@@ -1,0 +1,47 @@
+-- `host::setting::hernganow_settings_add` meets its contract. Written by crates/host/exports. Assumes nothing.
+use borrow.Author.Needs.{needs}
+use Rattle.host.proofs.Exports.{unwritten-on, written-on}
+use Rattle.host.proofs.setting.hernganow_settings_add.Statement.{statement}
+use Rattle.host.proofs.setting.hernganow_settings_add.Tie as tie
+
+unwritten-requires : tie.Need-unwritten-requires
+unwritten-requires c κs = search needs
+
+returns : tie.Need-returns
+returns c = unwritten-on _ _ _ _ (c .before .if1 .taken) (c .unwritten .ensures)
+
+add-requires : tie.Need-add-requires
+add-requires c κs = search needs
+
+answer-requires : tie.Need-answer-requires
+answer-requires c κs = search needs
+
+write-few-requires : tie.Need-write-few-requires
+write-few-requires c κs = search needs
+
+same-length : tie.Need-same-length
+same-length c = search needs
+
+same-length-2 : tie.Need-same-length-2
+same-length-2 c = search needs
+
+returns-2 : tie.Need-returns-2
+returns-2 c =
+    let wrote = c .before .before in
+    let told = wrote .before in
+    let called = told .before .before .before .before in
+    let length = called .before .before .if1 .left in
+    written-on _ _ _ _ length (called .add .ensures) (told .answer .ensures .same) (wrote .write-few .ensures)
+
+pub hernganow-settings-add-spec : {M : Type 1} → statement M
+hernganow-settings-add-spec =
+    tie.close
+    (tie.spec
+    unwritten-requires
+    returns
+    add-requires
+    answer-requires
+    write-few-requires
+    same-length
+    same-length-2
+    returns-2)

@@ -1,0 +1,4 @@
+pub mod Found
+pub mod Streams
+pub mod Pieces
+pub mod Promised

@@ -1,0 +1,3 @@
+-- The definitions that contracts of `season_report_text` cite.
+pub mod Page
+pub mod inner

@@ -1,0 +1,4 @@
+pub mod Promised
+pub mod Reading
+pub mod Turning
+pub mod Labels

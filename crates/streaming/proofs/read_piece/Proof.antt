@@ -1,0 +1,46 @@
+-- `streaming::read_piece` meets its contract: a read changes nothing before the part that it is lent. Assumes nothing.
+use Prim.Native.Nat.{_-_}
+use native.Mathlib.Omega.{arith}
+use borrow.Rule.Slice.PartMut.{take-put}
+use borrow.Author.Needs.{needs}
+use Rattle.streaming.proofs.read_piece.Statement.{statement}
+use Rattle.streaming.proofs.read_piece.Tie as tie
+
+sub-part : tie.Need-sub-part
+sub-part c = search needs
+
+part-part-start : tie.Need-part-part-start
+part-part-start c = search needs
+
+part-part-end : tie.Need-part-part-end
+part-part-end c = search needs
+
+read-requires : tie.Need-read-requires
+read-requires c κs = search needs
+
+count-requires : tie.Need-count-requires
+count-requires c κs = search needs
+
+same-length : tie.Need-same-length
+same-length c = search needs
+
+returns : tie.Need-returns
+returns c =
+    let read = c .before .before .before .before .before .before in
+    let given = read .before .before .before .before .args in
+    record {
+      held = take-put (given .have) (given .want - given .have) (given .w .now) (read .read .last .1 .0) (omega arith);
+      within = search needs;
+    }
+
+pub read-piece-spec : {M : Type 1} → statement M
+read-piece-spec =
+    tie.close
+    (tie.spec
+    sub-part
+    part-part-start
+    part-part-end
+    read-requires
+    count-requires
+    same-length
+    returns)
