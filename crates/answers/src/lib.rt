@@ -1,5 +1,8 @@
 // The numbers of an answer, for crates that export, print or time it (document 02, Req 06): the refusal's number, or 0 and the answer's numbers in
 // the order of the papers, then zeros. Most answers have a few numbers; these are given without the zeros.
+
+#![tactic(auto)]
+
 pub mod places;
 pub mod receivers;
 pub mod record_parts;

@@ -1,4 +1,7 @@
 // The calls that `reference bench` times. Its Rust program links them; it passes numbers, and slices as a pointer and a length.
+
+#![tactic(auto)]
+
 pub mod date;
 pub mod few;
 pub mod received;

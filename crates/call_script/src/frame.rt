@@ -1,6 +1,8 @@
 // Reads a frame of the script on standard input.
 use call_script_text::Frame;
 use octets::numbers;
+use std::io::Stdin;
+use streaming::Said;
 
 const HEADER: usize = 40;
 
@@ -32,21 +34,21 @@ const MOST_B: usize = 66000;
 pub const MOST_RUNS: usize = MOST_A + MOST_B;
 
 // What comes next in the script.
-#[derive(Drop)]
+#[derive(Clone, Copy)]
 pub enum Next {
     End,
-    Failed,
+    Failed(Said),
     Bad,
     Frame(Frame),
 }
 
 // Reads a frame, and its two runs to the start of `runs`, one after the other.
-pub(crate) fn read(runs: &mut [u8]) -> Next {
+pub(crate) fn read(from: &mut Stdin, runs: &mut [u8]) -> Next {
     let mut header = [0u8; HEADER];
-    let piece = streaming::read_full(libc::STDIN_FILENO, &mut header);
+    let piece = streaming::read_full(from, &mut header);
     let said = piece.said;
     if streaming::has_failed(said) {
-        return Next::Failed;
+        return Next::Failed(said);
     }
     if piece.got == 0 {
         return Next::End;
@@ -54,7 +56,7 @@ pub(crate) fn read(runs: &mut [u8]) -> Next {
     if piece.got < HEADER {
         return Next::Bad;
     }
-    read_runs(runs, read_header(&header))
+    read_runs(from, runs, read_header(&header))
 }
 
 fn read_header(header: &[u8; HEADER]) -> Frame {
@@ -72,7 +74,7 @@ fn read_header(header: &[u8; HEADER]) -> Frame {
 }
 
 // The frame, if its runs are not too long, have room, and can be read.
-fn read_runs(runs: &mut [u8], f: Frame) -> Next {
+fn read_runs(from: &mut Stdin, runs: &mut [u8], f: Frame) -> Next {
     let a = f.a;
     let b = f.b;
     if MOST_A < a {
@@ -85,10 +87,10 @@ fn read_runs(runs: &mut [u8], f: Frame) -> Next {
     if runs.len() < n {
         return Next::Bad;
     }
-    let piece = streaming::read_full(libc::STDIN_FILENO, &mut runs[..n]);
+    let piece = streaming::read_full(from, &mut runs[..n]);
     let said = piece.said;
     if streaming::has_failed(said) {
-        return Next::Failed;
+        return Next::Failed(said);
     }
     if piece.got < n {
         return Next::Bad;

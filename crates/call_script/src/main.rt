@@ -1,4 +1,7 @@
 // Makes the calls of a script on standard input and writes a line for each.
+
+#![tactic(auto)]
+
 ghost use Rattle.std.specs.Prelude.{◌<◌};
 
 mod calls;
@@ -25,50 +28,50 @@ const ENOUGH: usize = 32768;
 const LINE_END: u8 = b'\n';
 
 // The lengths of the sheet and of the settings. Each is the first bytes of its buffer.
-#[derive(Drop)]
+#[derive(Clone, Copy)]
 struct Lengths {
     sheet: usize,
     settings: usize,
 }
 
 // The state of a run: the lengths, how much text is not written yet, and whether the run goes on.
-#[derive(Drop)]
+#[derive(Clone, Copy)]
 struct State {
     kept: Lengths,
     text: usize,
     on: bool,
 }
 
-fn main() {
-    let count = os::arg_count();
+fn main(rt: HostRuntime) {
+    let rt = &rt;
+    let count = arguments::count(rt);
     if count < 2 {
-        make_calls();
+        make_calls(rt);
         return;
     }
-    let wanted = arguments::first_option(count);
+    let wanted = arguments::first_option(rt, count);
     match wanted {
-        Asked::Help => tell_usage(libc::STDOUT_FILENO),
-        _ => tell_usage(libc::STDERR_FILENO),
+        Asked::Help => tell_usage(&rt.stdout()),
+        _ => tell_usage(&rt.stderr()),
     }
 }
 
-fn tell_usage(fd: i32) {
-    io::write_all(fd, b"usage: call_script < SCRIPT\n");
-    io::write_all(
-        fd,
+fn tell_usage(to: &impl Print) {
+    let _ = to.write_all(b"usage: call_script < SCRIPT\n");
+    let _ = to.write_all(
         b"Makes the calls of a script, docs/call-script.md, and writes a line for each: 0 and the answer, or the refusal's number.\n",
     );
 }
 
-fn make_calls() {
+fn make_calls(rt: &HostRuntime) {
     let mut runs = [0u8; frame::MOST_RUNS];
     let mut sheet = [0u8; MOST_SHEET];
     let mut settings = [0u8; MOST_SETTINGS];
     let mut text = [0u8; MOST_TEXT];
-    run(&mut runs, &mut sheet, &mut settings, &mut text);
+    run(rt, &mut runs, &mut sheet, &mut settings, &mut text);
 }
 
-fn run(runs: &mut [u8], sheet: &mut [u8], settings: &mut [u8], out: &mut [u8]) {
+fn run(rt: &HostRuntime, runs: &mut [u8], sheet: &mut [u8], settings: &mut [u8], out: &mut [u8]) {
     let mut s = State {
         kept: Lengths {
             sheet: ledger_sheet::SHEET,
@@ -79,20 +82,27 @@ fn run(runs: &mut [u8], sheet: &mut [u8], settings: &mut [u8], out: &mut [u8]) {
     };
     let mut frames = streaming::TURNS;
     while 0 < frames {
-        s = turn(runs, sheet, settings, out, s);
+        s = turn(rt, runs, sheet, settings, out, s);
         frames = frames_left(s, frames);
     }
-    flush(out, s);
+    flush(rt, out, s);
 }
 
 // One frame: makes its line, and writes the text once there is enough of it.
-fn turn(runs: &mut [u8], sheet: &mut [u8], settings: &mut [u8], out: &mut [u8], s: State) -> State {
-    let next = take_frame(runs, sheet, settings, out, s);
+fn turn(
+    rt: &HostRuntime,
+    runs: &mut [u8],
+    sheet: &mut [u8],
+    settings: &mut [u8],
+    out: &mut [u8],
+    s: State,
+) -> State {
+    let next = take_frame(rt, runs, sheet, settings, out, s);
     end_line(out, s.text, next.text);
     if next.text <= ENOUGH {
         return next;
     }
-    flush(out, next)
+    flush(rt, out, next)
 }
 
 // Ends a line: replaces its last space, if it has words, by a line end.
@@ -119,17 +129,18 @@ fn frames_left(s: State, frames: u64) -> u64
 
 // Reads a frame and makes its call.
 fn take_frame(
+    rt: &HostRuntime,
     runs: &mut [u8],
     sheet: &mut [u8],
     settings: &mut [u8],
     out: &mut [u8],
     s: State,
 ) -> State {
-    let next = frame::read(runs);
+    let next = frame::read(&mut rt.stdin(), runs);
     match next {
         Next::End => ended(s),
-        Next::Failed => {
-            os::fail(b"standard input");
+        Next::Failed(said) => {
+            streaming::tell_failed(rt, b"standard input", said);
             return ended(s);
         }
         Next::Bad => bad_frame(out, s),
@@ -214,15 +225,12 @@ fn kept_after(f: Frame, kept: Lengths) -> Lengths {
 }
 
 // Writes the text in the buffer. If it cannot, the run ends.
-fn flush(out: &[u8], s: State) -> State {
-    let is_written = io::write_all(libc::STDOUT_FILENO, frame::first(out, s.text));
-    if !is_written {
-        os::fail(b"standard output");
-    }
+fn flush(rt: &HostRuntime, out: &[u8], s: State) -> State {
+    let said = streaming::write_out(rt, frame::first(out, s.text));
     let kept = s.kept;
     State {
         kept,
         text: 0,
-        on: s.on & is_written,
+        on: s.on & !streaming::has_failed(said),
     }
 }

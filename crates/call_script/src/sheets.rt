@@ -25,7 +25,7 @@ pub(crate) fn new_sheet(a: &[u8], room: &mut [u8], out: &mut [u8], at: usize) ->
     if room.len() < a.len() {
         return at;
     }
-    bytes::copy(a, room);
+    octets::copy_in(a, room, 0);
     let end = line::number(out, at, call_script_text::ACCEPTED);
     line::number(out, end, crc::crc(a) as u64)
 }

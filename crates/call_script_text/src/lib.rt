@@ -1,4 +1,7 @@
 // A script's calls on records, keys, streams and tapes. Each makes a line of text.
+
+#![tactic(auto)]
+
 pub mod crc;
 pub mod line;
 mod lists;
@@ -8,7 +11,7 @@ pub mod samples;
 mod tapes;
 
 // A frame: the op, its numbers, and the lengths of the two runs of bytes that follow it.
-#[derive(Drop)]
+#[derive(Clone, Copy)]
 pub struct Frame {
     pub op: u32,
     pub x: u32,

@@ -23,7 +23,7 @@ pub fn letters(out: &mut [u8], at: usize, text: &[u8]) -> usize {
     if room <= text.len() {
         return at;
     }
-    bytes::copy(text, &mut out[at..]);
+    octets::copy_in(text, out, at);
     let end = at + text.len();
     out[end] = SPACE;
     end + 1

@@ -40,7 +40,7 @@ is_day year day = leb 1 day && leb day (year_length year)
 unfoldable pub is_date : (year day : ℕ) → Bool
 is_date year day = is_year year && is_day year day
 
--- The day count of a date. Day 1 of a year has the count `newYear`.
+-- The day count of a date. Day 1 of a year has the count `new_year`.
 unfoldable pub day_count : (year day : ℕ) → ℕ
 day_count year day = new_year year + day - 1
 

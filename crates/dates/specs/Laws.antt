@@ -13,7 +13,7 @@ BackFromCount = (year day : ℕ) → is_date year day ≡ true → date_of (day_
 abbrev pub ForthFromBack : Type 0
 ForthFromBack = (count year day : ℕ) → date_of count ≡ 0 ∷ year ∷ day ∷ [] → (is_date year day ≡ true) × (day_count year day ≡ count)
 
--- A count has a date: `dateOf` gives it, it is a date of the calendar, and its day count is the count.
+-- A count has a date: `date_of` gives it, it is a date of the calendar, and its day count is the count.
 pub record Dated (count : ℕ) : Type 0 where
   pub year : ℕ
   pub day : ℕ
@@ -21,7 +21,7 @@ pub record Dated (count : ℕ) : Type 0 where
   pub date : is_date year day ≡ true
   pub forth : day_count year day ≡ count
 
--- Every count up to the last day of 3000 has a date; `dateOf` refuses every other.
+-- Every count up to the last day of 3000 has a date; `date_of` refuses every other.
 abbrev pub EveryCount : Type 0
 EveryCount = (count : ℕ) → count ≤ last_count → Dated count
 

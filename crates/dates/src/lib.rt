@@ -1,4 +1,7 @@
 // Day counts: from a year and a day of the year to the days since 1 January 1900, and back (document 02, Req 01).
+
+#![tactic(auto)]
+
 ghost use Rattle.std.specs.Prelude.{◌≡◌, ◌≤◌, ◌+◌};
 ghost use Rattle.dates.specs.Calendar.{first_year, last_year, last_count, is_leap, year_length, new_year, is_year, is_day, is_date, date_of};
 ghost use Rattle.dates.specs.Answers.{words_of};
@@ -33,19 +36,19 @@ const CYCLE_DAYS: u32 = 146097;
 const EARLY: u32 = 496;
 
 // A year, and its entry in the table: the day count of its 1 January.
-#[derive(Drop)]
+#[derive(Clone, Copy)]
 struct TableYear {
     year: u16,
     start: u32,
 }
 
-#[derive(Drop)]
+#[derive(Clone, Copy)]
 pub enum CountAnswer {
     Day(u32),
     NotADate,
 }
 
-#[derive(Drop)]
+#[derive(Clone, Copy)]
 pub enum DateAnswer {
     Date { year: u16, day: u16 },
     Refused(Refusal),

@@ -26,7 +26,8 @@ length-answer (n ∷ ns) =
     length-append (bytes_of number_size n) (answer_bytes ns) ∙ omega (arith, length-bytes_of number_size n, length-answer ns)
 
 -- the bytes of the first i numbers put in, and those of the next behind them
-pub put-more : {s t : List ℕ} (s₀ ns : List ℕ) (i : ℕ) → s ≡ put s₀ 0 (answer_bytes (take i ns)) → t ≡ put s (number_size * i) (bytes_of number_size (get_or ns i 0))
+pub put-more : {s t : List ℕ} (s₀ ns : List ℕ) (i : ℕ) → s ≡ put s₀ 0 (answer_bytes (take i ns)) →
+    t ≡ put s (number_size * i) (bytes_of number_size (get_or ns i 0))
     → i < length ns → number_size * (i + 1) ≤ length s₀ → t ≡ put s₀ 0 (answer_bytes (take (i + 1) ns))
 put-more s₀ ns i e f h room =
     let first : length (take i ns) ≡ i = length-take-le i ns (omega arith) in
@@ -53,13 +54,18 @@ answer-join [] ns = refl
 answer-join (m ∷ ms) ns = ap (λ (l : List ℕ). bytes_of number_size m ++ l) (answer-join ms ns) ∙ sym (append_assoc (bytes_of number_size m) _ _)
 
 pub put-few : {t u : List ℕ} (s ns : List ℕ) → length s ≡ answer_size → length ns ≡ few_count → t ≡ put s 0 (answer_bytes ns)
-    → u ≡ put t (number_size * few_count) (replicate (answer_size - number_size * few_count) 0) → u ≡ answer_bytes (ns ++ replicate (number_count - few_count) 0)
+    → u ≡ put t (number_size * few_count) (replicate (answer_size - number_size * few_count) 0) →
+    u ≡ answer_bytes (ns ++ replicate (number_count - few_count) 0)
 put-few s ns h k e f =
     let whole = ns ++ replicate (number_count - few_count) 0 in
     let count : length whole ≡ number_count = length-append ns (replicate (number_count - few_count) 0) ∙ omega (arith, k) in
     let joined : answer_bytes whole ≡ answer_bytes ns ++ replicate (answer_size - number_size * few_count) 0 =
     answer-join ns (replicate (number_count - few_count) 0) ∙ ap (λ (l : List ℕ). answer_bytes ns ++ l) zeros in
     let first = length-answer ns in
-    put_next s 0 (answer_bytes ns) (number_size * few_count) (replicate (answer_size - number_size * few_count) 0) e f (omega (arith, first, k)) (omega (arith, h))
+    put_next s 0 (answer_bytes ns) (number_size * few_count) (replicate (answer_size - number_size * few_count) 0) e f (omega (
+      arith,
+      first,
+      k,
+    )) (omega (arith, h))
     ∙ ap (λ (l : List ℕ). put s 0 l) (sym joined)
     ∙ put_whole s whole (omega (arith, h, count))

@@ -27,7 +27,10 @@ secondary-placed s (Record k n p) e =
     let f : Found s k n (primary_words p) = record-found s refl e in
     let long = length_part s secondary_value_at (secondary_length k) (omega (arith, (Placed.placed k).data-at, (secondary-room _ _ _ _ f).1)) in
     rw (secondary-start _ _ _ _ f, secondary-part _ _ _ _ f, long)
-secondary-placed s (Refused f) e = let nothing = no-parts s (refusal-found s {answer = Refused f} {f = f} refl e) in rw (nothing.secondary-at, nothing.no-secondary)
+secondary-placed s (Refused f) e = let nothing = no-parts s (refusal-found s {answer = Refused f} {f = f} refl e) in rw (
+  nothing.secondary-at,
+  nothing.no-secondary,
+)
 
 pub data-placed : (s : List ℕ) (found : Read) → words_of found ≡ read_one s → given (data_place found) ≡ placed (data_start s) (data_part s)
 data-placed s (Record k n p) e =
@@ -46,6 +49,7 @@ unfolding samples_part samples_start
 samples-placed s = by (accepts s) refl
   where
     by : (b : Bool) → accepts s ≡ b
-        → given (samples_place (length (cond b (part s samples_at samples_size) []))) ≡ placed (cond b samples_at 0) (cond b (part s samples_at samples_size) [])
+        → given (samples_place (length (cond b (part s samples_at samples_size) []))) ≡ placed (cond b samples_at 0) (cond b
+        (part s samples_at samples_size) [])
     by true a = rw (length_part s samples_at samples_size (omega (arith, record-long s a))) refl
     by false a = refl

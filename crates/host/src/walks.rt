@@ -50,10 +50,10 @@ pub extern "C" fn hernganow_list_numbers(
     ensures { (
       result,
       answer.new,
-      record { places = places.exit.now; lengths = lengths.new; kinds = kinds.new; numbers = numbers.new },
+      record { places = places.new; lengths = lengths.new; kinds = kinds.new; numbers = numbers.new },
     )
         ≡ exported_as given (list_numbers stream.now) answer.old
-        (record { places = places.entry.now; lengths = lengths.old; kinds = kinds.old; numbers = numbers.old }) }
+        (record { places = places.old; lengths = lengths.old; kinds = kinds.old; numbers = numbers.old }) }
 {
     if answer.len() != answers::ANSWER {
         return write::unwritten();

@@ -1,4 +1,7 @@
 // The tape listing on lent slices: the line of a record, and the last line.
+
+#![tactic(auto)]
+
 mod lines;
 mod records;
 
@@ -6,7 +9,7 @@ pub use lines::begin;
 pub use records::list_piece;
 
 // Where the text ends, and whether it is the last line. (Public because the prover needs it.)
-#[derive(Drop)]
+#[derive(Clone, Copy)]
 pub struct Listed {
     pub end: usize,
     pub done: bool,

@@ -2,7 +2,7 @@
 use Prim.Native.Nat.{ℕ, zero, suc, ◌+◌, ◌*◌, ◌<◌, ◌≤◌}
 use native.Mathlib.Omega.{arith}
 use mathlib.Core.List.{List, [], ◌∷◌, ◌++◌, append_assoc}
-use mathlib.Core.Path.{◌≡◌, refl, sym, ap, ◌∙◌}
+use mathlib.Core.Path.{◌≡◌, refl, sym, ap, subst, ◌∙◌}
 use borrow.Author.Tests.{eqb-true, not-false}
 use lib.Dec.{lit<}
 use lib.ListN.{length, get_or, length-append}
@@ -45,9 +45,12 @@ words_back [] t h = refl
 words_back (x ∷ w) t h =
     let b = bytes_of word_size x in
     let l : length b ≡ word_size = length-bytes_of word_size x in
+    let all : word_bytes (x ∷ w) ++ t ≡ b ++ (word_bytes w ++ t) = append_assoc b (word_bytes w) t in
     let first : number_at (b ++ (word_bytes w ++ t)) 0 word_size ≡ x =
     number-first b (word_bytes w ++ t) 0 word_size (omega arith) ∙ number-bytes word_size x (h 0) in
-    rw (append_assoc b (word_bytes w) t, first, words-past b (word_bytes w ++ t) word_size 0 (length w) (omega arith), words_back w t (λ i. h (suc i)))
+    let rest : words_at (b ++ (word_bytes w ++ t)) word_size (length w) ≡ w =
+    words-past b (word_bytes w ++ t) word_size 0 (length w) (omega arith) ∙ words_back w t (λ i. h (suc i)) in
+    subst (λ s. number_at s 0 word_size ∷ words_at s word_size (length w) ≡ x ∷ w) (sym all) (rw (first, rest))
 
 words-bytes : (s : List ℕ) (a n : ℕ) → Bytes s → a + n * word_size ≤ length s → word_bytes (words_at s a n) ≡ part s a (n * word_size)
 unfolding words_at word_bytes part

@@ -1,4 +1,7 @@
 // The writer: makes a record from its header words and its samples.
+
+#![tactic(auto)]
+
 ghost use Rattle.std.specs.Prelude.{[], ◌∷◌, ◌++◌, ◌≡◌, ◌≤◌, length};
 ghost use Rattle.octets.specs.Octets.{put};
 ghost use Rattle.idr.specs.Words.{header_count, samples_at, samples_size, record_size};

@@ -63,7 +63,7 @@ rsr_key_call spacecraft station receiver subchannel =
 abbrev pub telemetry_parts : (key : ℕ) → List ℕ
 telemetry_parts key = key / 2 ^ 32 ∷ key / 2 ^ 24 % 2 ^ 8 ∷ key / 2 ^ 8 % 2 ^ 16 ∷ key % 2 ^ 8 ∷ []
 
--- The four numbers of the RSR key rsrStart + above.
+-- The four numbers of the RSR key rsr_start + above.
 abbrev pub rsr_parts : (above : ℕ) → List ℕ
 rsr_parts above = above / 2 ^ 24 ∷ above / 2 ^ 16 % 2 ^ 8 ∷ above / 2 ^ 8 % 2 ^ 8 ∷ above % 2 ^ 8 ∷ []
 

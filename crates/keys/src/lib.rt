@@ -1,4 +1,7 @@
 // Stream keys: makes a key from a stream's four numbers, tests it, and gives its parts (document 01, "Stream key").
+
+#![tactic(auto)]
+
 ghost use Rattle.std.specs.Prelude.{◌≡◌, ◌&&◌, ◌∷◌, ◌<◌, ◌^◌, ltb};
 ghost use Rattle.keys.specs.Key.{valid_key, telemetry_key, rsr_key, telemetry_key_call, rsr_key_call, parts_call};
 ghost use Rattle.keys.specs.Key.{rsr_start, telemetry_kind, telemetry_parts, rsr_kind, rsr_parts};
@@ -31,14 +34,14 @@ const RSR_END: u64 = RSR_START + AT_32;
 // How many record numbers an RSR stream has. A telemetry stream has 2^32.
 pub const RSR_NUMBERS: u32 = LIMIT_16;
 
-#[derive(Drop)]
+#[derive(Clone, Copy)]
 pub enum KeyAnswer {
     Key(u64),
     Refused(Refusal),
 }
 
 // The parts of a key: its four numbers, in the order of the call that makes it.
-#[derive(Drop)]
+#[derive(Clone, Copy)]
 pub enum KeyParts {
     Telemetry {
         spacecraft: u32,

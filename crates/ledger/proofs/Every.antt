@@ -34,7 +34,8 @@ use Rattle.ledger_sheet.specs.declared.UnsavedAnswer.TheVariants as U
 use Rattle.ledger_layout.specs.Layout.{layout, call, on_sheet}
 use Rattle.ledger_layout.specs.Demand3.{answer_of, row_answer_of, report_answer_of, gap_answer_of, stream_answer_of, desk_answer_of, unsaved_answer_of}
 use Rattle.ledger_layout.proofs.Sheets.{fresh-layout, on-layout, asking-stays}
-use Rattle.ledger.specs.Demand3.{Promised, enrolled, found, reported, gapped, row_told, desk_told, unsaved_told, opened, ticked, unticked, saved, dropped, struck}
+use Rattle.ledger.specs.Demand3.{Promised, enrolled, found, reported, gapped, row_told, desk_told, unsaved_told, opened, ticked, unticked, saved, dropped}
+use Rattle.ledger.specs.Demand3.{struck}
 use Rattle.ledger.specs.Every.{EveryListOfCalls}
 use Rattle.ledger.proofs.Demand3.{made-fresh}
 

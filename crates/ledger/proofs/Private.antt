@@ -40,7 +40,8 @@ seen-in ps (working r opened worked) s = before worked ∙ sym (before s)
     copy t = place_bytes (with_ticks t (get_or ps r free))
 
     before : (t : Positions) → part ((1 ∷ r ∷ 0 ∷ 0 ∷ copy opened) ++ copy t) 0 worked_at ≡ 1 ∷ r ∷ 0 ∷ 0 ∷ copy opened
-    before t = let lo = length-place (with_ticks opened (get_or ps r free)) in part-seam [] (1 ∷ r ∷ 0 ∷ 0 ∷ copy opened) (copy t) 0 worked_at refl (omega arith)
+    before t = let lo = length-place (with_ticks opened (get_or ps r free)) in
+        part-seam [] (1 ∷ r ∷ 0 ∷ 0 ∷ copy opened) (copy t) 0 worked_at refl (omega arith)
 
 -- ---- past the end of a list there is nothing
 

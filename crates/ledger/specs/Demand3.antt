@@ -17,7 +17,8 @@ use Rattle.ledger_sheet.specs.declared.StreamAnswer.{StreamAnswer}
 use Rattle.ledger_sheet.specs.declared.DeskAnswer.{DeskAnswer}
 use Rattle.ledger_sheet.specs.declared.UnsavedAnswer.{UnsavedAnswer}
 use Rattle.ledger_layout.specs.Layout.{layout, call, on_sheet, fresh_on}
-use Rattle.ledger_layout.specs.Demand3.{answer_of, row_answer_of, report_answer_of, gap_answer_of, stream_answer_of, desk_answer_of, unsaved_answer_of, header_and_rows}
+use Rattle.ledger_layout.specs.Demand3.{answer_of, row_answer_of, report_answer_of, gap_answer_of, stream_answer_of, desk_answer_of, unsaved_answer_of}
+use Rattle.ledger_layout.specs.Demand3.{header_and_rows}
 
 -- What `fresh` promises if it answers done: on the slice s it leaves the sheet `start`.
 abbrev pub MadeFresh : (s start : List ℕ) → Type 0

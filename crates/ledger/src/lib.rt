@@ -2,6 +2,8 @@
 // shape: the words of the answer and the sheet after the call are those of the model's call on the book in the sheet. A call refuses a sheet that is
 // not right with 20, and leaves it unchanged.
 
+#![tactic(auto)]
+
 ghost use Rattle.std.specs.Prelude.{◌≡◌};
 ghost use Rattle.ledger_model.specs.Step.{Find, RowReport, FirstGap, RowStream, DeskState, Unsaved};
 ghost use Rattle.ledger_model.specs.Step.{Enrol, Ask, Open, Mark, Tick, Untick, Save, Drop, Strike};

@@ -7,7 +7,8 @@ use lib.ListN.{length, set, replicate, length-append, length-replicate, length-s
 use Rattle.octets.specs.Octets.{bytes_of, part, put}
 use Rattle.octets.proofs.Laws.{length-bytes_of, length_part}
 use Rattle.ledger_sheet.specs.Sheet.{used_flag_size, used_flag, key_start, key_size, first_at, first_size, ticks_at, ticks_size, row_size, row_count}
-use Rattle.ledger_sheet.specs.Sheet.{rows_start, desk_row_at, desk_zeros_at, desk_zeros_size, opened_at, worked_at, desk_count, desks_start, sheet_size, header_number_size}
+use Rattle.ledger_sheet.specs.Sheet.{rows_start, desk_row_at, desk_zeros_at, desk_zeros_size, opened_at, worked_at, desk_count, desks_start, sheet_size}
+use Rattle.ledger_sheet.specs.Sheet.{header_number_size}
 use Rattle.ledger_sheet.specs.Sheet.{length_at, used_at, row_count_at, rows_start_at, desk_count_at, desks_start_at, row_at, desk_at, used}
 use Rattle.ledger_layout.specs.Rows.{row_bytes}
 use Rattle.ledger_layout.specs.Bytes.{header_bytes, fresh_sheet, open_desk}

@@ -70,8 +70,8 @@ fn write_ticks(s: &mut [u8], a: usize, ticks: &[u8])
 // Enrols a stream in the lowest free row, and gives the row.
 pub fn enrol_row(s: &mut [u8], key: u64, first: u32) -> u32
     requires { IsSheet s.old × (all_used (book_of s.old).places ≡ false) }
-    ensures value { result ≡ lowest_free (book_of s.old).places }
-    ensures s_after { s.new ≡ layout (put_place result (row key first no_ticks) (book_of s.old)) }
+    ensures lowest { result ≡ lowest_free (book_of s.old).places }
+    ensures enrolled { s.new ≡ layout (put_place result (row key first no_ticks) (book_of s.old)) }
 {
     let row = ledger_layout::lookup::free_row(s);
     let used = right::rows_used(s) as u64;

@@ -84,7 +84,8 @@ module _ (old new : List ℕ) (k d : ℕ) (h : Laid old new k d) where
       }
 
   -- a desk
-  pub desk-laid : (v t : List ℕ) → d < desk_count → v ≡ desk_bytes (old_book_of old).places (old_desk_in old d) → t ≡ put new (desk_at d) v → Laid old t k (d + 1)
+  pub desk-laid : (v t : List ℕ) → d < desk_count → v ≡ desk_bytes (old_book_of old).places (old_desk_in old d)
+      → t ≡ put new (desk_at d) v → Laid old t k (d + 1)
   desk-laid v t l e p =
       let lv : length v ≡ desk_size = ap length e ∙ length-desk (old_book_of old).places (old_desk_in old d) in
       let ln = h.long in

@@ -6,7 +6,8 @@ use Rattle.std.specs.Prelude.{ℕ, ◌+◌, ◌*◌, Bool, not, ◌&&◌, ◌||�
 use Rattle.keys.specs.Key.{valid_key}
 use Rattle.keys.specs.Numbers.{is_number}
 use Rattle.octets.specs.Octets.{number_at, all, zero_at, same_at}
-use Rattle.ledger_sheet.specs.Sheet.{key_size, first_size, ticks_size, row_count, rows_start, desk_row_at, desk_zeros_at, desk_zeros_size, opened_at, desk_count}
+use Rattle.ledger_sheet.specs.Sheet.{key_size, first_size, ticks_size, row_count, rows_start, desk_row_at, desk_zeros_at, desk_zeros_size, opened_at}
+use Rattle.ledger_sheet.specs.Sheet.{desk_count}
 use Rattle.ledger_sheet.specs.Sheet.{length_at, row_count_at, rows_start_at, desk_count_at, desks_start_at, header_number, used}
 
 -- ---- sizes and offsets

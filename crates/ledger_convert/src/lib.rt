@@ -1,4 +1,7 @@
 // Converts old sheets (document 01's layout) to new ones (document 02, request 10).
+
+#![tactic(auto)]
+
 pub mod old;
 
 ghost use Rattle.std.specs.Prelude.{◌≡◌, true, ◌<◌, length};
@@ -47,7 +50,7 @@ fn lay_out(old: &[u8], new: &mut [u8])
 
 // Writes the used rows.
 fn write_rows(old: &[u8], new: &mut [u8], used: usize)
-    requires value { (Old.right old.now ≡ true) × (used ≡ Sheet.used old.now) }
+    requires right_sheet { (Old.right old.now ≡ true) × (used ≡ Sheet.used old.now) }
     requires laid { Laid old.now new.old 0 0 }
     ensures { Laid old.now new.new row_count 0 }
 {
@@ -59,7 +62,7 @@ fn write_rows(old: &[u8], new: &mut [u8], used: usize)
 
 // Writes the open desks.
 fn write_desks(old: &[u8], new: &mut [u8])
-    requires value { Old.right old.now ≡ true }
+    requires right_sheet { Old.right old.now ≡ true }
     requires laid { Laid old.now new.old row_count 0 }
     ensures { Laid old.now new.new row_count desk_count }
 {
@@ -75,8 +78,8 @@ fn write_desks(old: &[u8], new: &mut [u8])
 
 // Writes desk d as an open one.
 fn write_desk(new: &mut [u8], d: usize, row: u8, opened: Row, worked: Row)
-    requires len { (length new.old ≡ sheet_size) × (d < desk_count) }
-    requires ticks_len { (length opened.ticks ≡ ticks_size) × (length worked.ticks ≡ ticks_size) }
+    requires sized { (length new.old ≡ sheet_size) × (d < desk_count) }
+    requires ticks { (length opened.ticks ≡ ticks_size) × (length worked.ticks ≡ ticks_size) }
     ensures { new.new ≡ put new.old (desk_at d) (open_desk row (row_bytes opened.key opened.first opened.ticks)
         (row_bytes worked.key worked.first worked.ticks)) }
 {

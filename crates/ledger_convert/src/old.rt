@@ -151,7 +151,7 @@ fn is_rest(s: &[u8]) -> bool
 // Whether an open desk is right: its first byte is 1, its two zeros are zero, its row is used, and both copies have that row's key and first number.
 fn is_open_desk(s: &[u8], d: usize) -> bool
     requires sized { Sized s.now }
-    requires d_lt_desk_count { (d < desk_count) × (desk_byte s.now d ≡ 0 → ⊥) }
+    requires not_closed { (d < desk_count) × (desk_byte s.now d ≡ 0 → ⊥) }
     ensures { result ≡ desk_right s.now d }
 {
     let a = desk_at(d);

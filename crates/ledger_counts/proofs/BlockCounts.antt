@@ -8,7 +8,8 @@ use mathlib.Core.List.{List, ◌∷◌}
 use mathlib.Core.Path.{◌≡◌, refl, sym, ap, ◌∙◌, fun_ext}
 use borrow.Author.Tests.{ltb-true, ltb-false}
 use lib.Bits.{bit_and, and_le_l, and_le_r}
-use lib.Count.{ones, ones_step, ones-ones, ones-le, count_leading_zeros, leading_of_zero, leading_top, count_trailing_zeros, trailing_of_zero, trailing_le, under}
+use lib.Count.{ones, ones_step, ones-ones, ones-le, count_leading_zeros, leading_of_zero, leading_top, count_trailing_zeros, trailing_of_zero, trailing_le}
+use lib.Count.{under}
 use lib.Dec.{eqb, ltb}
 use lib.Pow.{pow_pos, pow_mono}
 use Rattle.ledger_model.specs.Positions.{size}
@@ -184,7 +185,8 @@ module _ (s : List ℕ) (a k w : ℕ) (block : IsBlock s a k w) (fits : w < 2 ^ 
   pub block_none : w ≡ 0 → past_highest (block_bits * (k + 1)) (ticked_at s a) ≡ past_highest (block_bits * k) (ticked_at s a)
   block_none e =
       let none = rw e at (leading-past block_bits w fits) in
-      let here : block_bits * k + end ≡ block_bits * k = omega (arith, none, leading_of_zero block_bits, ap (λ (x : ℕ). past_highest block_bits (bit_of x)) e) in
+      let here : block_bits * k + end ≡ block_bits * k =
+      omega (arith, none, leading_of_zero block_bits, ap (λ (x : ℕ). past_highest block_bits (bit_of x)) e) in
       block-past ∙ rw here refl
 
   pub block-end : 0 < w → past_highest (block_bits * (k + 1)) (ticked_at s a) ≡ block_bits * (k + 1) - count_leading_zeros block_bits w

@@ -45,7 +45,8 @@ tail-bit k x n i e h l =
 -- a block that is not zero has a lowest one
 pub some_one : (k x : ℕ) → x < 2 ^ k → (x ≡ 0 → ⊥) → count_trailing_zeros k x < k
 some_one k x l n =
-    ⊎_elim (λ (e : count_trailing_zeros k x ≡ k). absurd (n (trailing-all k x l e))) (λ (q : count_trailing_zeros k x < k). q) (eq-or-lt_of_le (trailing_le k x))
+    ⊎_elim (λ (e : count_trailing_zeros k x ≡ k). absurd (n (trailing-all k x l e)))
+    (λ (q : count_trailing_zeros k x < k). q) (eq-or-lt_of_le (trailing_le k x))
 
 -- ---- the positions of a block
 

@@ -1,4 +1,7 @@
 // Row report, first gap, and how many positions of one row are ticked and of another are not. All work on the bytes of a sheet.
+
+#![tactic(auto)]
+
 ghost use Rattle.std.specs.Prelude.{◌≡◌, true, not, cond, ◌∷◌, ◌+◌, ◌≤◌, ◌<◌, length};
 ghost use Rattle.ledger_model.specs.Counts.{first_gap_from};
 ghost use Rattle.ledger_layout.specs.Layout.{book_of};

@@ -67,7 +67,8 @@ module _ (s : List ℕ) {fine : Bool} (is : fine ≡ right s) (rule : Rule ℕ) 
   unfolding judge
   refused-first q g more = rw (← is) (e ∙ by fine rule (λ z. number-positive q (number_is ((20 when not fine) ∷ rule ∷ []) e q g ∙ z)))
     where
-      by : (r : Bool) (rule : Rule ℕ) → (verdict ((20 when not r) ∷ rule ∷ []) ≡ 0 → ⊥) → verdict ((20 when not r) ∷ rule ∷ []) ≡ verdict ((20 when not r) ∷ rule ∷ more)
+      by : (r : Bool) (rule : Rule ℕ) → (verdict ((20 when not r) ∷ rule ∷ []) ≡ 0 → ⊥)
+          → verdict ((20 when not r) ∷ rule ∷ []) ≡ verdict ((20 when not r) ∷ rule ∷ more)
       by false rule l = refl
       by true (n when true) l = refl
       by true (n when false) l = absurd (l refl)

@@ -1,5 +1,8 @@
 // Find, and the calls that change a sheet. The caller passes whether the sheet is right. Each call leaves a right sheet right (`stays-right`), so
 // calls made one after the other need only one check of the sheet.
+
+#![tactic(auto)]
+
 pub mod verdicts;
 
 ghost use Rattle.std.specs.Prelude.{◌≡◌};

@@ -11,7 +11,7 @@ use ledger_sheet as sheet;
 use refusals::Refusal;
 
 // The verdict on a call: it is accepted, or refused.
-#[derive(Drop)]
+#[derive(Clone, Copy)]
 pub enum Verdict {
     Fine,
     Refused(Refusal),

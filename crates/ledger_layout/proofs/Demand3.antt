@@ -30,7 +30,8 @@ use Rattle.ledger_sheet.specs.declared.DeskAnswer.TheVariants as D
 use Rattle.ledger_sheet.specs.declared.UnsavedAnswer.{UnsavedAnswer}
 use Rattle.ledger_sheet.specs.declared.UnsavedAnswer.TheVariants as U
 use Rattle.ledger_layout.specs.Layout.{layout, call, on_sheet}
-use Rattle.ledger_layout.specs.Demand3.{answer_of, row_answer_of, report_answer_of, gap_answer_of, stream_answer_of, desk_answer_of, unsaved_answer_of, header_and_rows}
+use Rattle.ledger_layout.specs.Demand3.{answer_of, row_answer_of, report_answer_of, gap_answer_of, stream_answer_of, desk_answer_of, unsaved_answer_of}
+use Rattle.ledger_layout.specs.Demand3.{header_and_rows}
 use Rattle.ledger_layout.specs.inner.Demand3.{Meets, MetCalls}
 use Rattle.ledger_layout.proofs.Places.{shape, front-part}
 use Rattle.ledger_layout.proofs.Sheets.{fresh-layout, on-layout}

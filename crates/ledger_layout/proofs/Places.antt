@@ -187,7 +187,8 @@ module _ (b : Book) (ok : Shape b) where
       rw (← e) (sym (part_at (layout b) (desk_at d) desk_size i h) ∙ ap (λ (t : List ℕ). get_or t i 0) (desk-part d l ∙ ap (desk_bytes b.places) q))
 
   -- what stands in a desk
-  pub desk-in : (d j n : ℕ) (x : Desk) → d < desk_count → desk b d ≡ x → j + n ≤ desk_size → part (layout b) (desk_at d + j) n ≡ part (desk_bytes b.places x) j n
+  pub desk-in : (d j n : ℕ) (x : Desk) → d < desk_count → desk b d ≡ x → j + n ≤ desk_size
+      → part (layout b) (desk_at d + j) n ≡ part (desk_bytes b.places x) j n
   desk-in d j n x l q h =
       sym (part-within (layout b) (desk_at d) desk_size j n (desk_at d + j) refl h)
       ∙ ap (λ (t : List ℕ). part t j n) (desk-part d l ∙ ap (desk_bytes b.places) q)

@@ -1,5 +1,5 @@
 -- A right sheet is the layout of the book that it holds, and that book is well-formed. Assumes nothing.
-use Prim.Native.Nat.{ℕ, zero, ◌+◌, ◌*◌, ◌<◌, ◌≤◌}
+use Prim.Native.Nat.{ℕ, ◌+◌, ◌*◌, ◌<◌, ◌≤◌}
 use native.Mathlib.Nat.{add-zero}
 use native.Mathlib.Omega.{arith}
 use mathlib.Core.Bool.{Bool, true, false, cond, not, ◌&&◌, ◌||◌}
@@ -19,7 +19,8 @@ use Rattle.octets.specs.Octets.{number_at, bytes_of, part, all, zero_at}
 use Rattle.octets.proofs.Laws.{Bytes, all-at}
 use Rattle.octets.proofs.Parts.{bytes-number, part_join, part-whole, zero-part, same-part}
 use Rattle.ledger_sheet.specs.Sheet.{sheet_size, used_flag_size, key_start, key_size, first_at, first_size, ticks_at, row_size, row_count, rows_start}
-use Rattle.ledger_sheet.specs.Sheet.{desk_row_at, desk_zeros_at, desk_zeros_size, opened_at, worked_at, desk_size, desk_count, desks_start, header_number_size, length_at}
+use Rattle.ledger_sheet.specs.Sheet.{desk_row_at, desk_zeros_at, desk_zeros_size, opened_at, worked_at, desk_size, desk_count, desks_start}
+use Rattle.ledger_sheet.specs.Sheet.{header_number_size, length_at}
 use Rattle.ledger_sheet.specs.Sheet.{used_at, row_count_at, rows_start_at, desk_count_at, desks_start_at, row_at, desk_at, header_number, used, is_used}
 use Rattle.ledger_sheet.specs.Sheet.{is_row, key_at, first_number_at, desk_byte, desk_row, is_closed, carries, header_right, valid_keys, is_new}
 use Rattle.ledger_sheet.specs.Sheet.{different_keys, first_numbers, free_zero, closed_zero, desk_marked, open_names, desk_right, right}

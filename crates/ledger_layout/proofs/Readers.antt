@@ -13,7 +13,8 @@ use Rattle.octets.specs.Octets.{all, zero_at}
 use Rattle.octets.specs.Lists.{table}
 use Rattle.octets.proofs.Laws.{all-at}
 use Rattle.octets.proofs.Lists.{length-table, get_or-table}
-use Rattle.ledger_sheet.specs.Sheet.{row_count, desk_count, desk_size, desk_row_at, opened_at, worked_at, row_at, desk_at, used, is_used, is_row, key_at, first_number_at}
+use Rattle.ledger_sheet.specs.Sheet.{row_count, desk_count, desk_size, desk_row_at, opened_at, worked_at, row_at, desk_at, used, is_used, is_row, key_at}
+use Rattle.ledger_sheet.specs.Sheet.{first_number_at}
 use Rattle.ledger_sheet.specs.Sheet.{desk_row, is_closed, closed_zero, desk_marked, open_names, desk_right, right}
 use Rattle.ledger_sheet.proofs.Clauses.{right-parts, row-parts, count-some, open_row}
 use Rattle.ledger_layout.specs.Ticks.{ticks_in}
@@ -102,7 +103,8 @@ module _ (s : List ℕ) where
     named-on r = rw (get_or-table desk_count (desk_in s) d closed l) (by (is_closed s d) refl)
       where
         by : (t : Bool) → is_closed s d ≡ t
-            → desk_row s d ≡ place_of (cond (is_closed s d) closed (working (desk_row s d) (ticks_in s (desk_at d + opened_at)) (ticks_in s (desk_at d + worked_at))))
+            → desk_row s d ≡ place_of
+            (cond (is_closed s d) closed (working (desk_row s d) (ticks_in s (desk_at d + opened_at)) (ticks_in s (desk_at d + worked_at))))
         by true e =
             let All-right = all-at desk_count d (desk_right s) (right-parts s r).desks l in
             let zero = (and_split (closed_zero s d) (desk_marked s d) (and_split (closed_zero s d && desk_marked s d) (open_names s d) All-right).0).0 in

@@ -17,9 +17,11 @@ use Rattle.ledger_model.proofs.Basics.{row_in, has-row}
 use Rattle.octets.specs.Octets.{number_at, part, zero_at}
 use Rattle.octets.proofs.Laws.{part_at, all-each}
 use Rattle.octets.proofs.Parts.{part_same}
-use Rattle.ledger_sheet.specs.Sheet.{sheet_size, used_flag_size, ticks_at, row_size, row_count, desk_row_at, desk_zeros_at, desk_zeros_size, opened_at, worked_at, desk_size}
+use Rattle.ledger_sheet.specs.Sheet.{sheet_size, used_flag_size, ticks_at, row_size, row_count, desk_row_at, desk_zeros_at, desk_zeros_size, opened_at}
+use Rattle.ledger_sheet.specs.Sheet.{worked_at, desk_size}
 use Rattle.ledger_sheet.specs.Sheet.{desk_count, rows_start, desks_start, header_number_size, row_at, desk_at, header_number, used, is_used, is_row, desk_byte}
-use Rattle.ledger_sheet.specs.Sheet.{desk_row, carries, header_right, count_right, valid_keys, is_new, different_keys, first_numbers, free_zero, desk_right, right}
+use Rattle.ledger_sheet.specs.Sheet.{desk_row, carries, header_right, count_right, valid_keys, is_new, different_keys, first_numbers, free_zero, desk_right}
+use Rattle.ledger_sheet.specs.Sheet.{right}
 use Rattle.ledger_layout.specs.Bytes.{open_desk}
 use Rattle.ledger_sheet.proofs.Clauses.{closed-desk, open-desk}
 use Rattle.ledger_layout.specs.Layout.{place_bytes, desk_bytes, count_used, layout, place_in, desk_in, book_of}
@@ -58,7 +60,8 @@ module _ (b : Book) (ok : WellFormed b) where
 
   -- ---- what is read of the layout
 
-  number : (k v : ℕ) → k < length (header_numbers n) → get_or (header_numbers n) k 0 ≡ v → v < 256 ^ header_number_size → header_number s (header_number_size * k) ≡ v
+  number : (k v : ℕ) → k < length (header_numbers n) → get_or (header_numbers n) k 0 ≡ v
+      → v < 256 ^ header_number_size → header_number s (header_number_size * k) ≡ v
   unfolding layout
   number k v l e h = header-number n k v _ _ l e h
 
@@ -229,7 +232,8 @@ module _ (b : Book) (ok : WellFormed b) where
   carried : (r c key first : ℕ) (t u : Positions) → part s (row_at r) row_size ≡ place_bytes (row key first t)
       → part s c row_size ≡ place_bytes (row key first u) → carries s c r ≡ true
   carried r c key first t u er ec =
-      let head : (a : ℕ) → part s a ticks_at ≡ part (part s a row_size) 0 ticks_at = λ a. sym (part-within s a row_size 0 ticks_at a (add-zero a) (omega arith)) in
+      let head : (a : ℕ) → part s a ticks_at ≡ part (part s a row_size) 0 ticks_at = λ a. sym
+      (part-within s a row_size 0 ticks_at a (add-zero a) (omega arith)) in
       part_same s (row_at r) s c ticks_at
       (head (row_at r) ∙ ap (λ (x : List ℕ). part x 0 ticks_at) er ∙ row_carries key first t u ∙ sym (ap (λ (x : List ℕ). part x 0 ticks_at) ec) ∙ sym (head c))
 

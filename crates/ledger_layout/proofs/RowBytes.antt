@@ -7,7 +7,8 @@ use lib.ListN.{length, length-append}
 use Rattle.octets.specs.Octets.{number_at, bytes_of, part}
 use Rattle.octets.proofs.Laws.{length-bytes_of}
 use Rattle.octets.proofs.Parts.{number-first, number-second, number-bytes, part-second, part-whole}
-use Rattle.ledger_sheet.specs.Sheet.{used_flag_size, used_flag, key_start, key_size, first_at, first_size, ticks_at, ticks_size, row_size, key_at, first_number_at}
+use Rattle.ledger_sheet.specs.Sheet.{used_flag_size, used_flag, key_start, key_size, first_at, first_size, ticks_at, ticks_size, row_size, key_at}
+use Rattle.ledger_sheet.specs.Sheet.{first_number_at}
 use Rattle.ledger_layout.specs.Rows.{row_bytes}
 
 -- ---- the bytes of a row
@@ -50,7 +51,8 @@ module _ (key first : ℕ) (ticks : List ℕ) where
   unfolding row_bytes
   row_first f =
       number-first head ticks first_at first_size (omega (arith, length-head))
-      ∙ number-second (flag ++ bytes_of key_size key) (bytes_of first_size first) first_at 0 first_size (omega (arith, length-key)) ∙ number-bytes first_size first f
+      ∙ number-second (flag ++ bytes_of key_size key) (bytes_of first_size first) first_at 0 first_size
+      (omega (arith, length-key)) ∙ number-bytes first_size first f
 
   pub row-ticks : length ticks ≡ ticks_size → part (row_bytes key first ticks) ticks_at ticks_size ≡ ticks
   unfolding row_bytes

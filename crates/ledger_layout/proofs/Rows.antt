@@ -14,7 +14,8 @@ use Rattle.ledger_model.specs.WellFormed.{PlaceOk}
 use Rattle.octets.specs.Octets.{number_at, bytes_of, part}
 use Rattle.octets.proofs.Laws.{Bytes, length-bytes_of, get_d_past}
 use Rattle.octets.proofs.Parts.{bytes-number, part_join, part-first, part-whole}
-use Rattle.ledger_sheet.specs.Sheet.{used_flag_size, used_flag, key_start, key_size, first_at, first_size, ticks_at, ticks_size, row_size, key_at, first_number_at}
+use Rattle.ledger_sheet.specs.Sheet.{used_flag_size, used_flag, key_start, key_size, first_at, first_size, ticks_at, ticks_size, row_size, key_at}
+use Rattle.ledger_sheet.specs.Sheet.{first_number_at}
 use Rattle.ledger_layout.specs.Ticks.{ticks_in}
 use Rattle.ledger_layout.specs.Rows.{row_bytes}
 use Rattle.ledger_layout.proofs.RowBytes.{length-row, row-flag, row-key, row_first, row-ticks}

@@ -56,7 +56,8 @@ module _ (c : Call) (s : List ℕ) where
       by true r = let q : verdict (refusals c (book_of s)) ≡ 0 = rw r at e in rw (r, q)
 
 -- a question that is answered
-pub answered-on : (q : Question) (s : List ℕ) → Bytes s → right s ≡ true → verdict (rules_on (Ask q) s) ≡ 0 → (0 ∷ asked q (book_of s), s) ≡ on_sheet (call (Ask q)) s
+pub answered-on : (q : Question) (s : List ℕ) → Bytes s → right s ≡ true → verdict (rules_on (Ask q) s) ≡ 0
+    → (0 ∷ asked q (book_of s), s) ≡ on_sheet (call (Ask q)) s
 unfolding effect
 answered-on q s bytes r e = ap (λ (t : List ℕ). (0 ∷ asked q (book_of s), t)) (sym (read-law s bytes r)) ∙ accepted-on (Ask q) s e
 

@@ -142,6 +142,7 @@ module _ (s : List ℕ) where
   row_of key i l = rw (get_or-table row_count (place_in s) i free l) (by (is_used s i))
     where
       by : (t : Bool)
-          → is_row_of key (cond t (row (key_at s (row_at i)) (first_number_at s (row_at i)) (ticks_in s (row_at i))) free) ≡ (t && eqb (key_at s (row_at i)) key)
+          → is_row_of key (cond t (row (key_at s (row_at i)) (first_number_at s (row_at i)) (ticks_in s (row_at i))) free)
+          ≡ (t && eqb (key_at s (row_at i)) key)
       by true = refl
       by false = refl

@@ -164,7 +164,8 @@ module _ (s : List ℕ) (a : ℕ) where
       ext_get_or 0 (tick_bytes n t) (part s (a + ticks_at) n) (lt ∙ sym (length_part s (a + ticks_at) n (omega arith))) (λ j l.
       let q : j < n = omega arith in
       let here = part_at s (a + ticks_at) n j q in
-      bits-same byte_bits (get_or (tick_bytes n t) j 0) (get_or (part s (a + ticks_at) n) j 0) (tick-byte-lt n t j q) (rw here (bytes (a + ticks_at + j)).fits) (λ k m.
+      bits-same byte_bits (get_or (tick_bytes n t) j 0) (get_or (part s (a + ticks_at) n) j 0)
+      (tick-byte-lt n t j q) (rw here (bytes (a + ticks_at + j)).fits) (λ k m.
       let i = byte_bits * j + k in
       let byte : i / byte_bits ≡ j = omega arith in
       let place : i % byte_bits ≡ k = omega arith in

@@ -19,7 +19,8 @@ use Rattle.ledger_model.proofs.WellFormed.{saved}
 use Rattle.octets.specs.Octets.{bytes_of, part, put, same_at}
 use Rattle.octets.proofs.Laws.{Bytes}
 use Rattle.octets.proofs.Parts.{same-part, part_same}
-use Rattle.ledger_sheet.specs.Sheet.{ticks_size, row_size, row_count, opened_at, worked_at, desk_size, desk_count, header_number_size, used_at, row_at, desk_at, used, right}
+use Rattle.ledger_sheet.specs.Sheet.{ticks_size, row_size, row_count, opened_at, worked_at, desk_size, desk_count, header_number_size, used_at, row_at}
+use Rattle.ledger_sheet.specs.Sheet.{desk_at, used, right}
 use Rattle.ledger_layout.specs.Rows.{row_bytes}
 use Rattle.ledger_layout.specs.inner.Rules.{IsSheet}
 use Rattle.ledger_layout.specs.Bytes.{open_desk}

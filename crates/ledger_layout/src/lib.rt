@@ -1,2 +1,5 @@
 // Lookups in the book that a sheet holds.
+
+#![tactic(auto)]
+
 pub mod lookup;

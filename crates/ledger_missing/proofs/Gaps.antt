@@ -74,7 +74,8 @@ lowest-first f (suc n) x some l =
     by (x % 2) refl (λ e. lowest-first (λ i. f (suc i)) n (x / 2) (λ z. some (omega arith)) (omega (arith, pow-succ' 2 n)))
   where
     by : (d : ℕ) → x % 2 ≡ d
-        → (x % 2 ≡ 0 → numbers_at (λ i. f (suc i)) n (x / 2) ≡ f (suc (count_trailing_zeros n (x / 2))) ∷ numbers_at (λ i. f (suc i)) n (bit_and (x / 2) (x / 2 - 1)))
+        → (x % 2 ≡ 0 → numbers_at (λ i. f (suc i)) n (x / 2) ≡ f (suc (count_trailing_zeros n (x / 2)))
+        ∷ numbers_at (λ i. f (suc i)) n (bit_and (x / 2) (x / 2 - 1)))
         → numbers_at f (suc n) x ≡ f (under (x % 2) (count_trailing_zeros n (x / 2))) ∷ numbers_at f (suc n) (bit_and x (x - 1))
     by zero e rest =
         let others = ap (numbers_at f (suc n)) (and-even x e) ∙ ones-double f n (bit_and (x / 2) (x / 2 - 1)) in
@@ -218,13 +219,16 @@ gaps-block s a end k l = by (ltb (end - block_bits * k) block_bits) refl
         let few = ltb-true (end - block_bits * k) block_bits e in
         let least : min block_bits (end - block_bits * k) ≡ end - block_bits * k = omega arith in
         let none : end - block_bits * (k + 1) ≡ 0 = omega arith in
-        rw (least, none, except-none (ticked_at s a) (number_at_position s a) (block_bits * (k + 1))) (sym (append-nil (gaps_in s a (block_bits * k) (end - block_bits * k))))
+        rw (least, none, except-none (ticked_at s a) (number_at_position s a) (block_bits * (k + 1)))
+        (sym (append-nil (gaps_in s a (block_bits * k) (end - block_bits * k))))
     by false e =
         let many = ltb-false (end - block_bits * k) block_bits e in
         let least : min block_bits (end - block_bits * k) ≡ block_bits = omega arith in
         let whole : end - block_bits * k ≡ block_bits + (end - block_bits * (k + 1)) = omega arith in
         let up : block_bits * k + block_bits ≡ block_bits * (k + 1) = omega arith in
-        rw least (ap (gaps_in s a (block_bits * k)) whole ∙ rw up at (except-split (ticked_at s a) (number_at_position s a) block_bits (end - block_bits * (k + 1)) (block_bits * k)))
+        rw least
+        (ap (gaps_in s a (block_bits * k)) whole
+        ∙ rw up at (except-split (ticked_at s a) (number_at_position s a) block_bits (end - block_bits * (k + 1)) (block_bits * k)))
 
 -- the block of unticked positions has the numbers at the gaps
 pub block-gaps : (s : List ℕ) (a k m w x : ℕ) → IsBlock s a k w → w < 2 ^ block_bits → m ≤ block_bits → x < 2 ^ m

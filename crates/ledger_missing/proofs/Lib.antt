@@ -1,3 +1,4 @@
 pub mod Gaps
 pub mod Calls
 pub mod Laws
+pub mod Blocks

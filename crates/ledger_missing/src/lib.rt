@@ -1,4 +1,7 @@
 // The missing list of a row: puts the numbers of the records to order into a lent list.
+
+#![tactic(auto)]
+
 ghost use Rattle.std.specs.Prelude.{◌≡◌, false, ◌+◌, ◌-◌, ◌*◌, ◌≤◌, ◌<◌, min, length};
 ghost use Rattle.std.proofs.lemmas.List.Edits.{sets};
 ghost use Rattle.ledger_model.specs.Positions.{row_length, position_number};
@@ -19,7 +22,7 @@ use ledger_sheet::right;
 use refusals::Refusal;
 
 // How many numbers are missing, or a refusal.
-#[derive(Drop)]
+#[derive(Clone, Copy)]
 pub enum MissingAnswer {
     Count(u32),
     Refused(Refusal),

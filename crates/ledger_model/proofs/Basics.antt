@@ -1,5 +1,6 @@
 -- Facts about the book's tests, and about places and desks in their lists. Assumes nothing.
-use Rattle.std.proofs.Common.{◌≡◌, ℕ, zero, suc, ◌<◌, ◌≤◌, true, false, eqb, ◌≢◌, List, [], ◌∷◌, length, get_or, set, replicate, sym, refl, ap, ◌∙◌, true≢false, suc-le-suc, zero-le, zero-lt-suc, get_or-set_other, get_or-set_same, ltb-true, eq-eqb}
+use Rattle.std.proofs.Common.{◌≡◌, ℕ, zero, suc, ◌<◌, ◌≤◌, true, false, eqb, ◌≢◌, List, [], ◌∷◌, length, get_or, set, replicate, sym, refl, ap, ◌∙◌}
+use Rattle.std.proofs.Common.{true≢false, suc-le-suc, zero-le, zero-lt-suc, get_or-set_other, get_or-set_same, ltb-true, eq-eqb}
 use native.Mathlib.Decide.{ℕ_discrete}
 use mathlib.Core.Bool.{false≢true, or-true}
 use lib.Seq.{set-get_or}

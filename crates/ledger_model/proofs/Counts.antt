@@ -1,5 +1,6 @@
 -- Laws of the counts: what is missing and what is the lowest, position by position; bounds; and how a tick or untick changes the count. Assumes nothing.
-use Rattle.std.proofs.Common.{◌≡◌, ℕ, zero, suc, ◌+◌, ◌<◌, ◌≤◌, Bool, true, false, not, ◌&&◌, List, [], ◌∷◌, length, get_or, set, sym, refl, ap, suc-le-suc, zero-le, zero-lt-suc, arith}
+use Rattle.std.proofs.Common.{◌≡◌, ℕ, zero, suc, ◌+◌, ◌<◌, ◌≤◌, Bool, true, false, not, ◌&&◌, List, [], ◌∷◌, length, get_or, set, sym, refl, ap, suc-le-suc}
+use Rattle.std.proofs.Common.{zero-le, zero-lt-suc, arith}
 use mathlib.Core.Bool.{false≢true}
 use mathlib.Core.Option.{Option, none, some, map, none-ne-some}
 use Rattle.laws.proofs.Bools.{and_split}

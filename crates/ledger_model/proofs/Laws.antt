@@ -1,6 +1,7 @@
 -- Laws of the model that other crates need: an enrolment's refusals, find, reports, strikes, the used places, how a tick or untick changes the count,
 -- and answers as numbers. Assumes nothing.
-use Rattle.std.proofs.Common.{◌≡◌, ℕ, zero, suc, ◌+◌, ◌<◌, ◌≤◌, Bool, true, false, cond, not, ◌||◌, eqb, ◌≢◌, List, [], ◌∷◌, ◌++◌, length, get_or, set, refl, ap, true≢false, suc-le-suc, zero-le, zero-lt-suc, arith, get_or-set_other, get_or-set_same, ltb-true, eqb-true}
+use Rattle.std.proofs.Common.{◌≡◌, ℕ, zero, suc, ◌+◌, ◌<◌, ◌≤◌, Bool, true, false, cond, not, ◌||◌, eqb, ◌≢◌, List, [], ◌∷◌, ◌++◌, length, get_or, set, refl}
+use Rattle.std.proofs.Common.{ap, true≢false, suc-le-suc, zero-le, zero-lt-suc, arith, get_or-set_other, get_or-set_same, ltb-true, eqb-true}
 use mathlib.Core.Bool.{beq, false≢true}
 use mathlib.Core.Option.{some}
 use borrow.Author.Tests.{eqb-false, not-false}

@@ -1,5 +1,6 @@
 -- Laws of the missing list. Assumes nothing.
-use Rattle.std.proofs.Common.{◌≡◌, ℕ, zero, suc, ◌<◌, ◌≤◌, true, false, ltb, ◌⊎◌, List, [], ◌∷◌, map, length, take, sym, refl, ap, ◌∙◌, inl, inr, suc-le-suc, zero-le, zero-lt-suc, arith, ltb-false, ltb-true}
+use Rattle.std.proofs.Common.{◌≡◌, ℕ, zero, suc, ◌<◌, ◌≤◌, true, false, ltb, ◌⊎◌, List, [], ◌∷◌, map, length, take, sym, refl, ap, ◌∙◌, inl, inr, suc-le-suc}
+use Rattle.std.proofs.Common.{zero-le, zero-lt-suc, arith, ltb-false, ltb-true}
 use mathlib.Core.Bool.{false≢true}
 use mathlib.Core.Option
 use mathlib.Core.Option.{Option, none, some}

@@ -1,5 +1,6 @@
 -- Request 09: a desk's ticks and unticks that it never saves change no other answer, no place and no other desk. Assumes nothing.
-use Rattle.std.proofs.Common.{◌≡◌, ℕ, zero, suc, Bool, true, false, cond, ◌||◌, eqb, ◌≢◌, List, [], ◌∷◌, get_or, set, sym, refl, ap, ◌∙◌, get_or-set_other, set-set, eqb-true}
+use Rattle.std.proofs.Common.{◌≡◌, ℕ, zero, suc, Bool, true, false, cond, ◌||◌, eqb, ◌≢◌, List, [], ◌∷◌, get_or, set, sym, refl, ap, ◌∙◌, get_or-set_other}
+use Rattle.std.proofs.Common.{set-set, eqb-true}
 use native.Mathlib.Decide.{ℕ_discrete}
 use lib.Seq.{set_comm}
 use borrow.Author.Tests.{eqb-false}

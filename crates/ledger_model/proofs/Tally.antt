@@ -1,5 +1,6 @@
 -- Request 13's identity, for every list of calls on a fresh book. Assumes nothing.
-use Rattle.std.proofs.Common.{◌≡◌, ℕ, zero, suc, ◌+◌, ◌<◌, Bool, true, false, cond, eqb, ◌≢◌, List, [], ◌∷◌, ◌++◌, map, length, get_or, set, replicate, sym, refl, ap, ◌∙◌, arith, length-append, length-set, eq-eqb, ne_eqb}
+use Rattle.std.proofs.Common.{◌≡◌, ℕ, zero, suc, ◌+◌, ◌<◌, Bool, true, false, cond, eqb, ◌≢◌, List, [], ◌∷◌, ◌++◌, map, length, get_or, set, replicate, sym}
+use Rattle.std.proofs.Common.{refl, ap, ◌∙◌, arith, length-append, length-set, eq-eqb, ne_eqb}
 use mathlib.Core.Bool.{beq}
 use mathlib.Core.Option.{none, some}
 use Rattle.laws.proofs.Bools.{by-test}

@@ -1,5 +1,6 @@
 -- Every book that calls can reach is well-formed. Assumes nothing.
-use Rattle.std.proofs.Common.{◌≡◌, ℕ, zero, suc, false, eqb, ◌≢◌, ◌⊎◌, List, [], ◌∷◌, get_or, set, sym, refl, ap, ◌∙◌, inl, inr, length-set, get_or-set_other, get_or-set_same, ltb-true}
+use Rattle.std.proofs.Common.{◌≡◌, ℕ, zero, suc, false, eqb, ◌≢◌, ◌⊎◌, List, [], ◌∷◌, get_or, set, sym, refl, ap, ◌∙◌, inl, inr, length-set, get_or-set_other}
+use Rattle.std.proofs.Common.{get_or-set_same, ltb-true}
 use native.Mathlib.Decide.{ℕ_discrete}
 use mathlib.Core.Bool.{false≢true}
 use mathlib.Core.Option.{some}

@@ -1,6 +1,6 @@
 -- The state of the model, which document 01 calls the "plain book": 32 places for rows, and eight desks. Assumes nothing.
 -- The manual, docs/INTERFACE.md: "The ledger".
-use Rattle.std.specs.Prelude.{ℕ, zero, suc, Bool, true, false, cond, ◌||◌, List, [], ◌∷◌, set, replicate, ◌==◌, nat_lt, slice_index_or, slice_set}
+use Rattle.std.specs.Prelude.{ℕ, zero, suc, Bool, true, false, cond, ◌||◌, List, [], ◌∷◌, replicate, ◌==◌, nat_lt, slice_index_or, slice_set}
 use Rattle.ledger_model.specs.Positions.{row_length, position, Positions}
 
 -- ---- the book

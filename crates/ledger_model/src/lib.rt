@@ -1,4 +1,7 @@
 // The model of the ledger is in specs/. Code has only the arithmetic of positions.
+
+#![tactic(auto)]
+
 ghost use Rattle.std.specs.Prelude.{◌≡◌};
 ghost use Rattle.ledger_model.specs.Positions as Positions;
 

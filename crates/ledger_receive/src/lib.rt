@@ -1,5 +1,8 @@
 // A desk receives a stream of records. Each whole record makes one visit of the desk: the desk finds and opens its row, ticks its number, and saves;
 // if the tick is refused, it drops the row. A receive is a list of the ledger's calls; the sheet is checked once.
+
+#![tactic(auto)]
+
 ghost use Rattle.std.specs.Prelude.{◌≡◌, true, cond, ◌+◌, ◌<◌, ◌^◌, eqb};
 ghost use Rattle.refusals.specs.Judge.{verdict, none_applies};
 ghost use Rattle.keys.specs.Key.{valid_key};
@@ -26,14 +29,14 @@ use sfdu_headers::StreamKey;
 use sfdu_stream as stream;
 
 // What a record says: its stream's key and its number; or unread, if a field of its header is out of range. (Public because the prover needs it.)
-#[derive(Drop)]
+#[derive(Clone, Copy)]
 pub enum Arrival {
     Unread,
     Arrived { key: u64, number: u32 },
 }
 
 // How many whole records were handled, where the walk stopped and why, and how many were ticked; or a refusal.
-#[derive(Drop)]
+#[derive(Clone, Copy)]
 pub enum Received {
     Records {
         walked: stream::Walked,

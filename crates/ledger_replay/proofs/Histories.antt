@@ -70,7 +70,8 @@ module _ (x : Line) where
   unfolding answer_in
   refused-line n h e = let z : eqb x.answer 0 ≡ false = rw (← e) (not-true (eqb n 0) h) in rw (z, e)
 
-  enrol-line : (a : Answer) → eqb x.call enrol_call ≡ true → row_fits a ≡ true → same_call_answer (call_answer (answer_words a)) (written x) ≡ true → answer_in x ≡ a
+  enrol-line : (a : Answer) → eqb x.call enrol_call ≡ true → row_fits a ≡ true
+      → same_call_answer (call_answer (answer_words a)) (written x) ≡ true → answer_in x ≡ a
   unfolding row_fits answer_in
   enrol-line (gave []) c h e = cc
   enrol-line (gave (r ∷ [])) c h e =
@@ -80,7 +81,8 @@ module _ (x : Line) where
   enrol-line (gave (r ∷ q ∷ words)) c h e = cc
   enrol-line (refused n) c h e = refused-line n (and_split _ _ h).0 (number-answered (refused n) e)
 
-  plain-line : (a : Answer) → eqb x.call enrol_call ≡ false → nothing_fits a ≡ true → same_call_answer (call_answer (answer_words a)) (written x) ≡ true → answer_in x ≡ a
+  plain-line : (a : Answer) → eqb x.call enrol_call ≡ false → nothing_fits a ≡ true
+      → same_call_answer (call_answer (answer_words a)) (written x) ≡ true → answer_in x ≡ a
   unfolding nothing_fits answer_in
   plain-line (gave []) c h e =
       let z : eqb x.answer 0 ≡ true = eq-eqb x.answer 0 (sym (number-answered (gave []) e)) in
@@ -130,7 +132,8 @@ pub truth : (t : List ℕ) (n j k : ℕ) (b : Book) → WellFormed b → (replay
 unfolding entries_from replay_from run written
 truth t zero j k b ok e = refl
 truth t (suc n) j k b ok e =
-    by (same_call_answer (call_answer (answer_words (step (call_in x) b).answer)) (call_answer (answer_words (answer_in x)))) refl (rw (on-layout (call (call_in x)) b ok) at e)
+    by (same_call_answer (call_answer (answer_words (step (call_in x) b).answer)) (call_answer (answer_words (answer_in x)))) refl
+    (rw (on-layout (call (call_in x)) b ok) at e)
     (truth t n (suc j) (suc k) (step (call_in x) b).book (well-formed b ok (outcome (call_in x) b)))
   where
     x : Line

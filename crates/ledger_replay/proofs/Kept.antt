@@ -85,7 +85,8 @@ model-fits (Save d) b ok k =
 model-fits (Drop d) b ok k =
     reply_given-fits nothing_fits (λ n. refl) (verdict (refusals (Drop d) b)) (Drop d) b (verdict-under (refusals (Drop d) b) (lit< tt, (lit< tt, tt))) refl
 model-fits (Strike r) b ok k =
-    reply_given-fits nothing_fits (λ n. refl) (verdict (refusals (Strike r) b)) (Strike r) b (verdict-under (refusals (Strike r) b) (lit< tt, (lit< tt, tt))) refl
+    reply_given-fits nothing_fits (λ n. refl) (verdict (refusals (Strike r) b)) (Strike r) b
+    (verdict-under (refusals (Strike r) b) (lit< tt, (lit< tt, tt))) refl
 
 -- ---- a call that is not kept changes nothing
 

@@ -1,4 +1,4 @@
--- Document 02, request 11: the replay of a trace, over a fresh sheet or over a sheet as it is. Each call is `onSheet (call c)`, as in the ledger's
+-- Document 02, request 11: the replay of a trace, over a fresh sheet or over a sheet as it is. Each call is `on_sheet (call c)`, as in the ledger's
 -- contracts. Assumes nothing.
 -- The manual, docs/INTERFACE.md: "A night in a trace, played again".
 use Rattle.std.specs.Prelude.{ℕ, suc, ◌≡◌, Bool, cond, not, ◌&&◌, List, [], ◌∷◌, eqb, length, get_or}

@@ -1,4 +1,7 @@
 // Replays a night's calls from a trace, over a fresh sheet (document 02, request 11) or over a sheet as it is.
+
+#![tactic(auto)]
+
 mod calls;
 mod trace;
 
@@ -53,7 +56,7 @@ pub const DROP: u8 = 6;
 pub const STRIKE: u8 = 7;
 
 // The fields of an entry.
-#[derive(Drop)]
+#[derive(Clone, Copy)]
 pub struct Line {
     pub call: u8,
     pub desk: u8,
@@ -64,14 +67,14 @@ pub struct Line {
 }
 
 // What a replay compares of an answer: 0 or the refusal's number, and the row of an accepted enrolment, else 0.
-#[derive(Drop)]
+#[derive(Clone, Copy)]
 pub struct CallAnswer {
     pub number: u32,
     pub row: u32,
 }
 
 // The answer of a replay: every call answered as the trace says; or the first entry that differs, counted from 0, and what its call answered.
-#[derive(Drop)]
+#[derive(Clone, Copy)]
 pub enum Replayed {
     Same,
     Differs { entry: u32, number: u32, row: u32 },
@@ -107,7 +110,7 @@ pub fn replay_on(t: &[u8], s: &mut [u8]) -> Replayed
 
 // Makes the calls of a trace on a sheet, up to the first whose answer differs from the trace's.
 fn play(t: &[u8], s: &mut [u8]) -> Replayed
-    requires header_size_in_bounds { (header_size ≤ length t.now) × (entry_at (count t.now) ≤ length t.now) × (count t.now ≤ most_entries) }
+    requires whole { (header_size ≤ length t.now) × (entry_at (count t.now) ≤ length t.now) × (count t.now ≤ most_entries) }
     requires laid { IsLaid s.old }
     ensures { (replayed_words result, s.new) ≡ played t.now s.old }
 {

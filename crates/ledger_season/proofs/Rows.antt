@@ -71,7 +71,8 @@ module _ (s : List ℕ) (r : ℕ) where
           → Whole t
       by none e h = let k : 0 ∷ t ∷ 0 ∷ [] ≡ 0 ∷ size ticks ∷ size (missing ticks) ∷ [] = rw e at h in
           record { ticked-is = cc; missing-is = cc; none_is = e }
-      by (some i) e h = let k : 0 ∷ t ∷ 0 ∷ [] ≡ 0 ∷ size ticks ∷ size (missing ticks) ∷ lowest_number (key_at s (row_at r)) (first_number_at s (row_at r)) (some i) = rw e at h in
+      by (some i) e h = let k : 0 ∷ t ∷ 0 ∷ [] ≡ 0 ∷ size ticks ∷ size (missing ticks) ∷ lowest_number
+          (key_at s (row_at r)) (first_number_at s (row_at r)) (some i) = rw e at h in
           absurd (false≢true cc)
 
   pub gaps-say : (t m l : ℕ) → report_answer_words (Report.Gaps t m l) ≡ report_words s (row_at r) → Gaps t m l
@@ -83,7 +84,8 @@ module _ (s : List ℕ) (r : ℕ) where
           → Gaps t m l
       by none e h = let k : 0 ∷ t ∷ m ∷ l ∷ [] ≡ 0 ∷ size ticks ∷ size (missing ticks) ∷ [] = rw e at h in
           absurd (false≢true cc)
-      by (some i) e h = let k : 0 ∷ t ∷ m ∷ l ∷ [] ≡ 0 ∷ size ticks ∷ size (missing ticks) ∷ lowest_number (key_at s (row_at r)) (first_number_at s (row_at r)) (some i) = rw e at h in
+      by (some i) e h = let k : 0 ∷ t ∷ m ∷ l ∷ [] ≡ 0 ∷ size ticks ∷ size (missing ticks) ∷ lowest_number
+          (key_at s (row_at r)) (first_number_at s (row_at r)) (some i) = rw e at h in
           record { ticked-is = cc; missing-is = cc; at = i; some_is = e; lowest-is = cc }
 
   pub not-refused : (why : Refusal) → report_answer_words (Report.Refused why) ≡ report_words s (row_at r) → ⊥

@@ -1,5 +1,8 @@
 // The season's gap report (document 02, request 13). A lent slice holds up to 16 ledger sheets, one after another. The report gives, for each sheet
 // and in all, how many positions are ticked, missing, and missing per million; and the first gap.
+
+#![tactic(auto)]
+
 ghost use Rattle.std.specs.Prelude.{◌≡◌, List, ◌∷◌, [], ℕ, ◌+◌, ◌*◌, ◌≤◌, ◌<◌, length};
 ghost use Rattle.refusals.specs.Judge.{verdict};
 ghost use Rattle.refusals.specs.Table.{number_of};
@@ -32,7 +35,7 @@ const FEW: usize = 24;
 const MILLION: u64 = 1000000;
 
 // The counts of a sheet, or in all: ticked positions, missing positions, and missing per million of both together.
-#[derive(Drop)]
+#[derive(Clone, Copy)]
 pub struct SheetCounts {
     pub ticked: u32,
     pub missing: u32,
@@ -40,14 +43,14 @@ pub struct SheetCounts {
 }
 
 // The first gap of the season: the sheet, its row, and the missing number.
-#[derive(Drop)]
+#[derive(Clone, Copy)]
 pub enum SeasonGap {
     Nothing,
     Gap { sheet: u32, row: u32, number: u32 },
 }
 
 // The answer of a season: how many sheets; the counts of each, zeros past the last; the counts in all; the first gap. A refused season has no sheet.
-#[derive(Drop)]
+#[derive(Clone, Copy)]
 pub struct SeasonReport {
     pub answer: Answer,
     pub count: u32,
@@ -57,14 +60,14 @@ pub struct SeasonReport {
 }
 
 // The first gap of a sheet.
-#[derive(Drop)]
+#[derive(Clone, Copy)]
 enum RowGap {
     Nothing,
     Gap { number: u32, row: u32 },
 }
 
 // The counts of a sheet's rows.
-#[derive(Drop)]
+#[derive(Clone, Copy)]
 struct Counted {
     ticked: u32,
     missing: u32,

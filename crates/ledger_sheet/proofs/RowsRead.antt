@@ -43,7 +43,8 @@ module _ (keys marks : List ℕ) (n key : ℕ) (h : Marked keys marks n) where
       before : j < n → get_or (set marks (key % mark_count) 1) (get_or (set keys n key) j 0 % mark_count) 0 ≡ 1
       before q = rw (get_or-set_other keys n j key 0 (λ e. omega arith)) (by (eqb (key % mark_count) (get_or keys j 0 % mark_count)) refl)
         where
-          by : (b : Bool) → eqb (key % mark_count) (get_or keys j 0 % mark_count) ≡ b → get_or (set marks (key % mark_count) 1) (get_or keys j 0 % mark_count) 0 ≡ 1
+          by : (b : Bool) → eqb (key % mark_count) (get_or keys j 0 % mark_count) ≡ b → get_or
+              (set marks (key % mark_count) 1) (get_or keys j 0 % mark_count) 0 ≡ 1
           by true e = rw (← eqb-true (key % mark_count) (get_or keys j 0 % mark_count) e) (get_or-set_same marks (key % mark_count) 1 0 place)
           by false e =
               let apart = eqb-false (key % mark_count) (get_or keys j 0 % mark_count) e in
@@ -120,7 +121,8 @@ module _ (s keys marks : List ℕ) (found : ℕ) (right : Bool) (i : ℕ) (h : R
         counted = rw (count_next, u, ← h.counted);
         keys-read = read_more (λ j. key_at s (row_at j)) (is_used s) keys found i h.keys-read key (omega (arith, h.few, h.long)) k u;
         marked = marked_more keys marks found key h.marked (omega (arith, h.few, h.long)) h.marks-long;
-        right_is = rw (all-next, u, ← h.right_is, ev, k, f, new) (regroup right (valid_key row) (is_new s i row) (is_number row (first_number_at s (row_at i))));
+        right_is = rw (all-next, u, ← h.right_is, ev, k, f, new)
+            (regroup right (valid_key row) (is_new s i row) (is_number row (first_number_at s (row_at i))));
       }
 
   -- a free row

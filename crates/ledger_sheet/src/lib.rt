@@ -1,5 +1,8 @@
 // The bytes of the ledger sheet (document 01, "The ledger sheet"; document 02, request 10): its sizes and offsets, and the test whether a slice is a
 // right sheet.
+
+#![tactic(auto)]
+
 pub mod right;
 
 ghost use Rattle.std.specs.Prelude.{◌≡◌, ◌≤◌, ◌<◌};
@@ -88,7 +91,7 @@ pub fn desk_at(d: usize) -> usize
 }
 
 // A row, or a desk's copy of one.
-#[derive(Drop)]
+#[derive(Clone, Copy)]
 pub struct Row {
     pub key: u64,
     pub first: u32,
@@ -96,21 +99,21 @@ pub struct Row {
 }
 
 // The answer of a call that gives no values.
-#[derive(Drop)]
+#[derive(Clone, Copy)]
 pub enum Answer {
     Done,
     Refused(Refusal),
 }
 
 // The answer of enrol and find.
-#[derive(Drop)]
+#[derive(Clone, Copy)]
 pub enum RowAnswer {
     Row(u32),
     Refused(Refusal),
 }
 
 // The answer of a row report: how many positions are ticked, how many are missing, and the number at the lowest missing position.
-#[derive(Drop)]
+#[derive(Clone, Copy)]
 pub enum ReportAnswer {
     Whole {
         ticked: u32,
@@ -124,14 +127,14 @@ pub enum ReportAnswer {
 }
 
 // The answer of `row`: the key of its stream, and its first number.
-#[derive(Drop)]
+#[derive(Clone, Copy)]
 pub enum StreamAnswer {
     Stream { key: u64, first: u32 },
     Refused(Refusal),
 }
 
 // The answer of `desk`: it is closed; or its row, and whether a save would be stale now.
-#[derive(Drop)]
+#[derive(Clone, Copy)]
 pub enum DeskAnswer {
     Closed,
     Working { row: u32, stale: bool },
@@ -139,14 +142,14 @@ pub enum DeskAnswer {
 }
 
 // The answer of `unsaved`: how many ticks and unticks a desk has not saved.
-#[derive(Drop)]
+#[derive(Clone, Copy)]
 pub enum UnsavedAnswer {
     Unsaved { ticks: u32, unticks: u32 },
     Refused(Refusal),
 }
 
 // The answer of first gap: the first missing number and its row.
-#[derive(Drop)]
+#[derive(Clone, Copy)]
 pub enum GapAnswer {
     Nothing,
     Gap { number: u32, row: u32 },

@@ -19,7 +19,7 @@ const MARKED: u8 = 1;
 const CARRIED: usize = sheet::TICKS_AT;
 
 // What the tests so far found, and the index from which bytes are still to be tested for zero.
-#[derive(Drop)]
+#[derive(Clone, Copy)]
 struct RowsFound {
     right: bool,
     zeros: usize,
@@ -162,7 +162,7 @@ pub fn is_other(keys: &[u64; sheet::ROWS], n: usize, key: u64) -> bool
 
 // Tests each open desk, and that the bytes between open desks and up to the sheet's end are zero.
 fn are_desks(s: &[u8], judged: RowsFound) -> bool
-    requires s_len { length s.now ≡ sheet_size }
+    requires whole { length s.now ≡ sheet_size }
     requires zeros { Zeros s.now judged.right judged.zeros }
     ensures { result ≡ (rows_right s.now && all desk_count (desk_right s.now)) }
 {
@@ -181,8 +181,8 @@ fn are_desks(s: &[u8], judged: RowsFound) -> bool
 
 // Whether an open desk is right: its first byte is 1, its two zeros are zero, its row is used, and both copies have that row's used flag, key and first number.
 fn is_open_desk(s: &[u8], d: usize) -> bool
-    requires s_len { length s.now ≡ sheet_size }
-    requires d_lt_desk_count { (d < desk_count) × (desk_byte s.now d ≡ 0 → ⊥) }
+    requires whole { length s.now ≡ sheet_size }
+    requires is_open { (d < desk_count) × (desk_byte s.now d ≡ 0 → ⊥) }
     ensures { result ≡ desk_right s.now d }
 {
     let a = sheet::desk_at(d);

@@ -1,4 +1,7 @@
 // Byte slices: reads and writes numbers of 1 to 8 bytes; tests, clears and copies ranges.
+
+#![tactic(auto)]
+
 pub mod numbers;
 
 ghost use Rattle.std.specs.Prelude.{◌≡◌, ◌⊎◌, ◌+◌, ◌*◌, ◌≤◌, length, replicate};
@@ -82,8 +85,8 @@ pub fn clear(s: &mut [u8], a: usize, n: usize)
 
 // Copies the n bytes from index a to index b. The ranges may overlap if b is at most a.
 pub fn copy(s: &mut [u8], a: usize, b: usize, n: usize)
-    requires n_in_bounds { (a + n ≤ length s.old) × (b + n ≤ length s.old) }
-    requires fact { (a + n ≤ b) ⊎ (b ≤ a) }
+    requires inside { (a + n ≤ length s.old) × (b + n ≤ length s.old) }
+    requires apart { (a + n ≤ b) ⊎ (b ≤ a) }
     ensures { s.new ≡ put s.old b (part s.old a n) }
 {
     for i in 0..n {
@@ -96,5 +99,5 @@ pub fn copy_in(source: &[u8], out: &mut [u8], a: usize)
     requires { a + length source.now ≤ length out.old }
     ensures { out.new ≡ put out.old a source.now }
 {
-    bytes::copy(source, &mut out[a..]);
+    out[a..a + source.len()].copy_from_slice(source);
 }

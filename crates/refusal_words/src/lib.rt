@@ -1,4 +1,7 @@
 // Refusals in words, for people: a text for each number of the refusal table, and one for every other number.
+
+#![tactic(auto)]
+
 mod constants;
 
 ghost use Rattle.std.specs.Prelude.{◌≡◌, cond, ◌<◌, ltb};
@@ -14,14 +17,14 @@ use refusals::Refusal;
 pub const MOST_BYTES: usize = 200;
 
 // What writing a text answers: how many bytes it has, without the zero byte behind it.
-#[derive(Drop)]
+#[derive(Clone, Copy)]
 pub enum Text {
     Bytes(usize),
     Refused(Refusal),
 }
 
 // Where a text lies among all texts. (Public for the prover's sake.)
-#[derive(Drop)]
+#[derive(Clone, Copy)]
 pub struct Span {
     pub at: usize,
     pub size: usize,

@@ -1,8 +1,11 @@
 // The refusal table: one name per row, in the order of document 01's table. Rows of document 02 stand where that document puts them.
+
+#![tactic(auto)]
+
 ghost use Rattle.std.specs.Prelude.{◌≡◌};
 ghost use Rattle.refusals.specs.Table.{number_of};
 
-#[derive(Drop)]
+#[derive(Clone, Copy)]
 pub enum Refusal {
     // Records: the reader.
     TooShort,

@@ -1,5 +1,6 @@
 -- The bytes of one record. Assumes nothing.
-use Rattle.std.proofs.Common.{◌≡◌, ℕ, zero, suc, ◌+◌, ◌<◌, ◌≤◌, Bool, true, false, leb, List, length, take, sym, refl, ap, ◌∙◌, arith, get_or-take, le-leb, leb-false, leb-true}
+use Rattle.std.proofs.Common.{◌≡◌, ℕ, zero, suc, ◌+◌, ◌<◌, ◌≤◌, Bool, true, false, leb, List, length, take, sym, refl, ap, ◌∙◌, arith, get_or-take, le-leb}
+use Rattle.std.proofs.Common.{leb-false, leb-true}
 use borrow.Author.Tests.{lt-leb}
 use Rattle.octets.specs.Octets.{number_at}
 use Rattle.sfdu.specs.Nesting.{label_size}
@@ -57,5 +58,6 @@ module _ (new : List ℕ) (upto : ℕ) (size : length new ≡ window_size) where
   of-record mid got sum f =
       let w = wanted mid in
       let same : record_length (take upto new) ≡ record_length mid =
-      length-take new upto (omega arith) ∙ sym (length-take new label_size (omega arith)) ∙ ap record_length f.held ∙ length-take mid label_size (omega arith) in
+      length-take new upto (omega arith) ∙ sym (length-take new label_size (omega arith))
+      ∙ ap record_length f.held ∙ length-take mid label_size (omega arith) in
       record { within = omega (arith, f.within, w.most); one = λ l. omega (arith, f.within, w.one) }

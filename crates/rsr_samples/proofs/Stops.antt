@@ -1,5 +1,6 @@
 -- Why a stream stops at a record, by unpack's answer. Assumes nothing.
-use Rattle.std.proofs.Common.{◌≡◌, ℕ, ◌-◌, ◌/◌, ◌≤◌, Bool, true, false, cond, ◌&&◌, ◌||◌, eqb, leb, ◌≢◌, ◌⊎◌, List, [], ◌∷◌, ◌++◌, length, get_or, drop, ℤ, sym, refl, ap, ◌∙◌, inl, inr, true≢false, mul-le-mul, div-le_self, arith, length-drop, length-take, le-ltb, ne_eqb, leb-true}
+use Rattle.std.proofs.Common.{◌≡◌, ℕ, ◌-◌, ◌/◌, ◌≤◌, Bool, true, false, cond, ◌&&◌, ◌||◌, eqb, leb, ◌≢◌, ◌⊎◌, List, [], ◌∷◌, ◌++◌, length, get_or, drop, ℤ}
+use Rattle.std.proofs.Common.{sym, refl, ap, ◌∙◌, inl, inr, true≢false, mul-le-mul, div-le_self, arith, length-drop, length-take, le-ltb, ne_eqb, leb-true}
 use native.Mathlib.Nat.{div-le_of_le-mul}
 use Rattle.laws.proofs.Bools.{and_split}
 use Rattle.refusals.specs.Judge.{Rule, ◌when◌}

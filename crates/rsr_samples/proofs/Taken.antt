@@ -1,5 +1,6 @@
 -- What becomes of a record, by what it is judged to be. Assumes nothing.
-use Rattle.std.proofs.Common.{◌≡◌, ℕ, ◌+◌, ◌≤◌, Bool, true, false, cond, eqb, ◌≢◌, List, [], ◌∷◌, length, get_or, take, ℤ, sym, refl, ap, ◌∙◌, arith, length-take-le, ne_eqb, eqb-true}
+use Rattle.std.proofs.Common.{◌≡◌, ℕ, ◌+◌, ◌≤◌, Bool, true, false, cond, eqb, ◌≢◌, List, [], ◌∷◌, length, get_or, take, ℤ, sym, refl, ap, ◌∙◌, arith}
+use Rattle.std.proofs.Common.{length-take-le, ne_eqb, eqb-true}
 use mathlib.Core.Bool.{false≢true}
 use Rattle.refusals.proofs.Judged.{none-applies}
 use Rattle.sfdu.specs.Read.{record_length, read_rules, accepts, in_stream}

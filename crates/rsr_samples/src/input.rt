@@ -6,19 +6,20 @@ ghost use Rattle.rsr_samples.specs.inner.Reading.{wanted_of};
 
 use octets::numbers;
 use sfdu::nesting;
+use std::io::Read;
 use streaming::{Piece, window};
 
 // The next record, from the window's start: its label first, which says how long it is. None comes at the end of the input.
-pub(crate) fn next_record(fd: i32, w: &mut [u8]) -> Piece
+pub(crate) fn next_record<R: Read>(from: &mut R, w: &mut [u8]) -> Piece
     requires { length w.old ≡ window_size }
     ensures { OfOne w.new result.got }
 {
-    let label = streaming::read_up_to(fd, w, 0, nesting::LABEL);
+    let label = streaming::read_up_to(from, w, 0, nesting::LABEL);
     if label.got < nesting::LABEL {
         return label;
     }
     let want = wanted(w);
-    let rest = streaming::read_up_to(fd, w, nesting::LABEL, want);
+    let rest = streaming::read_up_to(from, w, nesting::LABEL, want);
     let said = rest.said;
     Piece {
         got: nesting::LABEL + rest.got,

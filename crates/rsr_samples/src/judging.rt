@@ -8,7 +8,7 @@ use streaming::window;
 use streaming::window::Stop;
 
 // How many numbers are at the list's start; or a stop. (Public because the prover needs it.)
-#[derive(Drop)]
+#[derive(Clone, Copy)]
 pub enum Unpacked {
     Samples(usize),
     Stopped(Stop),

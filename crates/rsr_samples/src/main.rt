@@ -1,5 +1,8 @@
 // Writes the samples of streams of RSR records: those of the files that its arguments name, one after the other, or of standard input if there are
 // none. One pair, I and Q, on each line; with --raw as 32-bit little-endian integers.
+
+#![tactic(auto)]
+
 mod input;
 mod judging;
 mod output;
@@ -14,8 +17,12 @@ ghost use Rattle.rsr_samples.specs.inner.Written.{Ready, Writes};
 use arguments::Asked;
 use judging::Unpacked;
 use refusal_words::Text;
-use streaming::Piece;
+use std::io::Read;
 use streaming::window::Stop;
+use streaming::{Piece, Said, window};
+
+// The length of the text's buffer.
+const TEXT: usize = 65536;
 
 // The program's own option.
 const RAW: [u8; 5] = *b"--raw";
@@ -24,7 +31,7 @@ const RAW: [u8; 5] = *b"--raw";
 const NUMBERS: usize = 524288;
 
 // The outcome of the next record. (Public because the prover needs it.)
-#[derive(Drop)]
+#[derive(Clone, Copy)]
 pub enum Step {
     // Its samples are written; the number is the place behind it.
     Passed(u64),
@@ -38,6 +45,7 @@ pub enum Step {
 
 // Writes the samples of the record that was read into the window.
 fn take_record(
+    rt: &HostRuntime,
     piece: Piece,
     place: u64,
     raw: bool,
@@ -58,32 +66,40 @@ fn take_record(
     }
     let judged = judging::judge(&w[..have], place, list);
     match judged {
-        Unpacked::Samples(n) => written(list, n, raw, place + have as u64, out),
+        Unpacked::Samples(n) => written(rt, list, n, raw, place + have as u64, out),
         Unpacked::Stopped(stop) => Step::Stopped(stop),
     }
 }
 
 // Writes the list's first n numbers. Gives the step to the next place.
-fn written(list: &[i32], n: usize, raw: bool, next: u64, out: &mut [u8]) -> Step
+fn written(rt: &HostRuntime, list: &[i32], n: usize, raw: bool, next: u64, out: &mut [u8]) -> Step
     requires { (n ≤ length list.now) × (most_number ≤ length out.old) }
     ensures { Writes raw list.now n next out.new result }
 {
-    if output::write_parts(&list[..n], raw, out) {
+    if output::write_parts(rt, &list[..n], raw, out) {
         return Step::Passed(next);
     }
     Step::Unwritten
 }
 
-fn write_stream(fd: i32, name: &[u8], raw: bool, w: &mut [u8], list: &mut [i32], out: &mut [u8])
+fn write_stream<R: Read>(
+    rt: &HostRuntime,
+    from: &mut R,
+    name: &[u8],
+    raw: bool,
+    w: &mut [u8],
+    list: &mut [i32],
+    out: &mut [u8],
+)
     requires { (length w.old ≡ window_size) × (length list.old ≡ most_numbers) × (most_number ≤ length out.old) }
 {
     let mut place: u64 = 0;
     let mut left = streaming::TURNS;
     while 0 < left {
-        let piece = input::next_record(fd, w);
-        let step = take_record(piece, place, raw, w, list, out);
+        let piece = input::next_record(from, w);
+        let step = take_record(rt, piece, place, raw, w, list, out);
         let Step::Passed(next) = step else {
-            return tell_end(name, place, step);
+            return tell_end(rt, name, place, piece.said, step);
         };
         place = next;
         left -= 1;
@@ -91,107 +107,103 @@ fn write_stream(fd: i32, name: &[u8], raw: bool, w: &mut [u8], list: &mut [i32],
 }
 
 // Says why a stream stops.
-fn tell_end(name: &[u8], place: u64, step: Step) {
+fn tell_end(rt: &HostRuntime, name: &[u8], place: u64, said: Said, step: Step) {
     match step {
-        Step::Passed(_) | Step::Ended => {}
-        Step::Stopped(stop) => tell_stop(name, place, stop),
-        Step::Unread => os::fail(name),
-        Step::Unwritten => os::fail(b"standard output"),
+        // Where a write failed, the reason was told.
+        Step::Passed(_) | Step::Ended | Step::Unwritten => {}
+        Step::Stopped(stop) => tell_stop(rt, name, place, stop),
+        Step::Unread => streaming::tell_failed(rt, name, said),
     }
 }
 
-fn tell_stop(name: &[u8], place: u64, stop: Stop) {
-    io::write_all(libc::STDERR_FILENO, name);
-    io::write_all(libc::STDERR_FILENO, b": stopped at byte ");
-    io::print_decimal(libc::STDERR_FILENO, place);
-    tell_refusal(stop.number, stop.beside);
+fn tell_stop(rt: &HostRuntime, name: &[u8], place: u64, stop: Stop) {
+    failures::say(rt, name);
+    failures::say(rt, b": stopped at byte ");
+    let _ = rt.eprint(place);
+    tell_refusal(rt, stop.number, stop.beside);
 }
 
-fn tell_refusal(number: u32, beside: u64) {
-    io::write_all(libc::STDERR_FILENO, b": ");
-    io::print_decimal(libc::STDERR_FILENO, number as u64);
-    io::write_all(libc::STDERR_FILENO, b" ");
-    io::print_decimal(libc::STDERR_FILENO, beside);
-    tell_why(number);
+fn tell_refusal(rt: &HostRuntime, number: u32, beside: u64) {
+    failures::say(rt, b": ");
+    let _ = rt.eprint(number as u64);
+    failures::say(rt, b" ");
+    let _ = rt.eprint(beside);
+    tell_why(rt, number);
 }
 
-fn tell_why(number: u32) {
+fn tell_why(rt: &HostRuntime, number: u32) {
     let mut text = [0u8; refusal_words::MOST_BYTES];
     let found = refusal_words::write(number, &mut text);
-    io::write_all(libc::STDERR_FILENO, b" ");
+    failures::say(rt, b" ");
     if let Text::Bytes(n) = found {
-        tell_first(&text, n);
+        tell_first(rt, &text, n);
     }
-    io::write_all(libc::STDERR_FILENO, b"\n");
+    failures::say(rt, b"\n");
 }
 
 // Writes the first n bytes.
-fn tell_first(text: &[u8], n: usize) {
+fn tell_first(rt: &HostRuntime, text: &[u8], n: usize) {
     if n <= text.len() {
-        io::write_all(libc::STDERR_FILENO, &text[..n]);
+        failures::say(rt, &text[..n]);
     }
 }
 
-fn stream(fd: i32, name: &[u8], raw: bool) {
-    let mut window = io::large_buffer();
+fn stream<R: Read>(rt: &HostRuntime, from: &mut R, name: &[u8], raw: bool) {
+    let mut window = [0u8; window::WINDOW];
     let mut numbers = [0i32; NUMBERS];
-    let mut text = io::large_buffer();
-    write_stream(fd, name, raw, &mut window, &mut numbers, &mut text);
+    let mut text = [0u8; TEXT];
+    write_stream(rt, from, name, raw, &mut window, &mut numbers, &mut text);
 }
 
 // Writes the samples of the file that argument i names.
-fn file(i: usize, raw: bool) {
-    let mut path = io::buffer();
-    let opened = arguments::open_at(i, &mut path);
-    let fd = opened.fd;
-    if fd < 0 {
-        return;
-    }
+fn file(rt: &HostRuntime, i: usize, raw: bool) {
+    let mut path = [0u8; arguments::LONGEST];
+    let opened = arguments::open_at(rt, i, &mut path);
     let n = opened.size;
-    stream(fd, &path[..n], raw);
-    libc::close(fd);
+    if let Some(mut file) = opened.file {
+        stream(rt, &mut file, &path[..n], raw);
+    }
 }
 
-fn files(count: usize, raw: bool) {
+fn files(rt: &HostRuntime, count: usize, raw: bool) {
     let mut i = 1;
     while i < count {
-        if !arguments::is_at(i, &RAW) {
-            file(i, raw);
+        if !arguments::is_at(rt, i, &RAW) {
+            file(rt, i, raw);
         }
         i += 1;
     }
 }
 
 // Every argument except --raw names a file.
-fn samples(count: usize) {
-    let raws = arguments::how_many(count, &RAW);
+fn samples(rt: &HostRuntime, count: usize) {
+    let raws = arguments::how_many(rt, count, &RAW);
     let raw = 0 < raws;
-    let named = std::num::wrapping_sub_usize(count, raws);
+    let named = count.wrapping_sub(raws);
     if named < 2 {
-        stream(libc::STDIN_FILENO, b"standard input", raw);
+        stream(rt, &mut rt.stdin(), b"standard input", raw);
         return;
     }
-    files(count, raw);
+    files(rt, count, raw);
 }
 
-fn tell_usage(fd: i32) {
-    io::write_all(fd, b"usage: rsr_samples [--raw] [FILE ..]\n");
-    io::write_all(
-        fd,
+fn tell_usage(to: &impl Print) {
+    let _ = to.write_all(b"usage: rsr_samples [--raw] [FILE ..]\n");
+    let _ = to.write_all(
         b"Writes the samples of streams of RSR records, I and Q of each pair a line, in time order;\n",
     );
-    io::write_all(
-        fd,
+    let _ = to.write_all(
         b"with --raw as 32-bit little-endian integers. With no FILE it reads standard input.\n",
     );
 }
 
-fn main() {
-    let count = os::arg_count();
-    let wanted = arguments::first_option_but(count, &RAW);
+fn main(rt: HostRuntime) {
+    let rt = &rt;
+    let count = arguments::count(rt);
+    let wanted = arguments::first_option_but(rt, count, &RAW);
     match wanted {
-        Asked::Files => samples(count),
-        Asked::Help => tell_usage(libc::STDOUT_FILENO),
-        Asked::Unknown => tell_usage(libc::STDERR_FILENO),
+        Asked::Files => samples(rt, count),
+        Asked::Help => tell_usage(&rt.stdout()),
+        Asked::Unknown => tell_usage(&rt.stderr()),
     }
 }

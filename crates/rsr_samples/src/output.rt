@@ -3,8 +3,9 @@ ghost use Rattle.std.specs.Prelude.{◌≤◌, length};
 ghost use Rattle.rsr_samples_text.specs.inner.Room.{most_number};
 ghost use Rattle.rsr_samples.specs.inner.Written.{Ends};
 
-// Writes a list, and says whether all of it could be written. Each part begins where the one before ended, so together they are the text of the list.
-pub(crate) fn write_parts(list: &[i32], raw: bool, out: &mut [u8]) -> bool
+// Writes a list, and says whether all of it could be written; if not, standard error has the reason. Each part begins where the one before
+// ended, so together they are the text of the list.
+pub(crate) fn write_parts(rt: &HostRuntime, list: &[i32], raw: bool, out: &mut [u8]) -> bool
     requires { most_number ≤ length out.old }
     ensures { Ends raw list.now out.new result }
 {
@@ -12,7 +13,8 @@ pub(crate) fn write_parts(list: &[i32], raw: bool, out: &mut [u8]) -> bool
     while from < list.len() {
         let laid = rsr_samples_text::lay_out(list, from, raw, out);
         let end = laid.end;
-        if !io::write_all(libc::STDOUT_FILENO, &out[..end]) {
+        let said = streaming::write_out(rt, &out[..end]);
+        if streaming::has_failed(said) {
             return false;
         }
         from = laid.upto;

@@ -1,4 +1,7 @@
 // The samples of a record as text, one pair on each line, or as raw bytes. Writes them into a lent slice, part by part.
+
+#![tactic(auto)]
+
 ghost use Rattle.std.specs.Prelude.{◌≡◌, ◌+◌, ◌≤◌, length};
 ghost use Rattle.text.specs.Text.{Puts};
 ghost use Rattle.rsr_samples_text.specs.Text.{signed_numeral, raw_bytes, ending_at, number_text};
@@ -16,7 +19,7 @@ const NEGATIVE: u32 = 2147483648;
 const BYTE_VALUES: u32 = 256;
 
 // Where a part ends: the index behind its last number in the list, and the index behind its text in the slice.
-#[derive(Drop)]
+#[derive(Clone, Copy)]
 pub struct Laid {
     pub upto: usize,
     pub end: usize,

@@ -2,13 +2,13 @@
 use Prim.Native.Nat.{ℕ, ◌+◌, ◌-◌, ◌*◌, ◌%◌, ◌≤◌, ◌<◌}
 use native.Mathlib.Omega.{arith}
 use mathlib.Core.Bool.{Bool, true, false, cond, ◌&&◌, false≢true}
-use mathlib.Core.List.{List, [], ◌∷◌, ◌++◌, append-nil}
+use mathlib.Core.List.{List, [], ◌∷◌, ◌++◌}
 use mathlib.Core.Path.{◌≡◌, refl, sym, ap, subst, ◌∙◌}
 use borrow.Author.Tests.{eq-eqb, ne_eqb, eqb-true, eqb-false, le-ltb}
 use borrow.Rule.Slice.PartMut.{mid_of, put_mid, same_len_mid, mid_len}
 use lib.Dec.{eqb}
 use lib.ListN.{length, get_or, take, drop, set, length-set, take-append-drop}
-use lib.Seq.{length-take-le, take-length, drop-length, get_or-set_same, get_or-set_other}
+use lib.Seq.{length-take-le, get_or-set_same, get_or-set_other}
 use Rattle.octets.specs.Octets.{part}
 use Rattle.octets.proofs.Laws.{all-each}
 use Rattle.octets.proofs.Parts.{part-first, part-second, part-seam}
@@ -245,7 +245,8 @@ module _ (s : List ℕ) (n : ℕ) (few : n ≤ most_sheets) (whole : length s �
       by false e = absurd (refused (ap (λ (w : List ℕ). get_or w 0 0) e))
 
 -- the sheets that are told of
-pub right-first : (s : List ℕ) (n : ℕ) → sheet_size * n ≤ length s → ((j : ℕ) → j < n → right (sheet_at s j) ≡ true) → right_to (take (sheet_size * n) s) n ≡ true
+pub right-first : (s : List ℕ) (n : ℕ) → sheet_size * n ≤ length s → ((j : ℕ) → j < n → right (sheet_at s j) ≡ true)
+    → right_to (take (sheet_size * n) s) n ≡ true
 unfolding right_to
 right-first s n fits each =
     all-each n _ (λ j l. rw (slot-first j l) (each j l))
@@ -255,6 +256,3 @@ right-first s n fits each =
         let inside : sheet_size * j + sheet_size ≤ length (take (sheet_size * n) s) = rw (length-take-le (sheet_size * n) s fits) (omega arith) in
         sym (part-first (take (sheet_size * n) s) (drop (sheet_size * n) s) (sheet_size * j) sheet_size inside)
         ∙ ap (λ (t : List ℕ). sheet_at t j) (take-append-drop (sheet_size * n) s)
-
-pub whole_copy : (file slot : List ℕ) → length file ≡ length slot → take (length file) file ++ drop (length file) slot ≡ file
-whole_copy file slot l = rw (take-length file, l, drop-length slot, append-nil)

@@ -1,5 +1,8 @@
 // Writes the season's gap report as a table. Its arguments name the files of the ledger sheets, in order. It converts old sheets first.
 // `ledger_season` makes the report and `season_report_text` the text; this file has the calls of the system.
+
+#![tactic(auto)]
+
 mod files;
 
 ghost use Rattle.std.specs.Prelude.{◌*◌, true, ◌≡◌, length};
@@ -26,7 +29,7 @@ const ROOM: usize = sheet::SHEET + 1;
 const ALL_ROOMS: usize = ledger_season::MOST_SHEETS * ROOM;
 
 // The sheets that are loaded, how many bytes were read of each file, and whether all files were sheets. (Public because the prover needs it.)
-#[derive(Drop)]
+#[derive(Clone, Copy)]
 pub struct Loaded {
     pub files: Files,
     pub got: [usize; ledger_season::MOST_SHEETS],
@@ -34,26 +37,30 @@ pub struct Loaded {
 }
 
 // What the program says: the page, with the index behind it; or nothing, because a key is in two sheets. (Public because the prover needs it.)
-#[derive(Drop)]
+#[derive(Clone, Copy)]
 pub enum Told {
     Page { end: usize },
     Twice,
 }
 
-fn tell_usage(fd: i32) {
-    io::write_all(fd, b"usage: season_report [SHEET ..]\n");
-    io::write_all(
-        fd,
+fn tell_usage(to: &impl Print) {
+    let _ = to.write_all(b"usage: season_report [SHEET ..]\n");
+    let _ = to.write_all(
         b"The gap report of a season over its ledger sheets, 16 at most, files of 6968 bytes each: a line for each sheet, their total,\n",
     );
-    io::write_all(
-        fd,
+    let _ = to.write_all(
         b"and the first gap. A sheet of the old layout, 6776 bytes, is converted first. No stream may stand in two of the sheets.\n",
     );
 }
 
 // Loads the sheets that the arguments name, with their names, up to the first file that is no sheet. Each file is read into a room of its own.
-fn load_all(names: &mut [u8], rooms: &mut [u8], sheets: &mut [u8], count: usize) -> Loaded
+fn load_all(
+    rt: &HostRuntime,
+    names: &mut [u8],
+    rooms: &mut [u8],
+    sheets: &mut [u8],
+    count: usize,
+) -> Loaded
     requires { (length names.old ≡ name_size * most_sheets) × (length rooms.old ≡ room_size * most_sheets)
         × (length sheets.old ≡ sheet_size * most_sheets) }
     ensures { Named names.new result.files × LoadsAll count rooms.new sheets.new result }
@@ -78,7 +85,13 @@ fn load_all(names: &mut [u8], rooms: &mut [u8], sheets: &mut [u8], count: usize)
         let d = c + ROOM;
         let a = sheet::SHEET * i;
         let e = a + sheet::SHEET;
-        let file = files::load(i + 1, &mut names[b..f], &mut rooms[c..d], &mut sheets[a..e]);
+        let file = files::load(
+            rt,
+            i + 1,
+            &mut names[b..f],
+            &mut rooms[c..d],
+            &mut sheets[a..e],
+        );
         let taken = file.taken;
         let found = taken.found;
         if !found.is_sheet {
@@ -119,56 +132,52 @@ fn lay_out(out: &mut [u8], names: &[u8], sheets: &[u8], files: Files) -> Told
 }
 
 // Writes the page, or says why there is none.
-fn tell(names: &[u8], sheets: &[u8], files: Files)
+fn tell(rt: &HostRuntime, names: &[u8], sheets: &[u8], files: Files)
     requires { Named names.now files × (length sheets.now ≡ sheet_size * files.count) × (right_to sheets.now files.count ≡ true) }
 {
     let mut page = season_report_text::room();
     let told = lay_out(&mut page, names, sheets, files);
     match told {
         Told::Page { end } => {
-            if !io::write_all(libc::STDOUT_FILENO, &page[..end]) {
-                os::fail(b"standard output");
-            }
+            streaming::write_out(rt, &page[..end]);
         }
-        Told::Twice => tell_twice(),
+        Told::Twice => tell_twice(rt),
     }
 }
 
-fn tell_twice() {
-    io::write_all(
-        libc::STDERR_FILENO,
-        b"a stream stands in two of the sheets (41)\n",
-    );
+fn tell_twice(rt: &HostRuntime) {
+    failures::say(rt, b"a stream stands in two of the sheets (41)\n");
 }
 
-fn report(count: usize) {
+fn report(rt: &HostRuntime, count: usize) {
     let mut names = [0u8; MOST_NAMES];
     let mut rooms = [0u8; ALL_ROOMS];
     let mut sheets = [0u8; MOST_BYTES];
-    let loaded = load_all(&mut names, &mut rooms, &mut sheets, count);
+    let loaded = load_all(rt, &mut names, &mut rooms, &mut sheets, count);
     if !loaded.ok {
         return;
     }
     let files = loaded.files;
     let n = sheet::SHEET * files.count;
-    tell(&names, &sheets[..n], files);
+    tell(rt, &names, &sheets[..n], files);
 }
 
-fn main() {
-    let count = os::arg_count();
+fn main(rt: HostRuntime) {
+    let rt = &rt;
+    let count = arguments::count(rt);
     if count < 1 {
         return;
     }
-    let wanted = arguments::first_option(count);
+    let wanted = arguments::first_option(rt, count);
     match wanted {
-        Asked::Help => tell_usage(libc::STDOUT_FILENO),
-        Asked::Unknown => tell_usage(libc::STDERR_FILENO),
+        Asked::Help => tell_usage(&rt.stdout()),
+        Asked::Unknown => tell_usage(&rt.stderr()),
         Asked::Files => {
             if ledger_season::MOST_SHEETS < count - 1 {
-                io::write_all(libc::STDERR_FILENO, b"more than 16 sheets (42)\n");
+                failures::say(rt, b"more than 16 sheets (42)\n");
                 return;
             }
-            report(count - 1);
+            report(rt, count - 1);
         }
     }
 }

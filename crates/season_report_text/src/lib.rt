@@ -1,5 +1,8 @@
 // The season's gap report as text (document 02, request 13): the heading, a line for each sheet, their total, and the first gap. Writes it into a
 // lent slice. `ledger_season` gives the numbers.
+
+#![tactic(auto)]
+
 mod lines;
 mod sheets;
 
@@ -17,7 +20,7 @@ pub const NAME: usize = 4096;
 pub const PAGE: usize = 71357;
 
 // The files of a season, with one sheet each: how many there are, how long their names are, and which sheets were converted.
-#[derive(Drop)]
+#[derive(Clone, Copy)]
 pub struct Files {
     pub count: usize,
     pub sizes: [usize; ledger_season::MOST_SHEETS],
@@ -25,7 +28,7 @@ pub struct Files {
 }
 
 // Where the lines of the sheets end, and how many rows these use. (Public because the prover needs it.)
-#[derive(Drop)]
+#[derive(Clone, Copy)]
 pub struct Laid {
     pub end: usize,
     pub rows: u64,

@@ -35,6 +35,7 @@ pub not-held : (m d : ℕ) (xs : List Setting) → holds m d xs ≡ false → (y
 unfolding holds
 not-held m d (x ∷ xs) h y (Memᴰ.head q) = rw q (or-neither (is_of m d x) (holds m d xs) h).0
 not-held m d (x ∷ xs) h y (Memᴰ.tail k) = not-held m d xs (or-neither (is_of m d x) (holds m d xs) h).1 y k
+not-held m d [] h y k = elim k [ ]
 
 module _ (m e d f : ℕ) (xs : List Setting) where
   abbrev x : Setting

@@ -41,6 +41,7 @@ same-member (z ∷ zs) e x y (Memᴰ.head p) (Memᴰ.tail k) m d =
 same-member (z ∷ zs) e x y (Memᴰ.tail k) (Memᴰ.head q) m d =
     clash z.mission z.day zs (first-differs z zs e).0 x k (m ∙ ap (λ (w : Setting). w.mission) q) (d ∙ ap (λ (w : Setting). w.day) q)
 same-member (z ∷ zs) e x y (Memᴰ.tail k) (Memᴰ.tail l) m d = same-member zs (first-differs z zs e).1 x y k l m d
+same-member [] e x y k _ m d = elim k [ ]
 
 -- ---- the same settings, the same answer
 

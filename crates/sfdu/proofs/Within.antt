@@ -28,13 +28,37 @@ module _ (s : List ℕ) where
       let at : (n m : ℕ) → m ≤ length s → Inside (n ∷ m ∷ []) = inside in
       gives-past Inside 1 (read_rules s) (at _ _ (omega arith), tt) (λ long.
       let l : label_size ≤ length s = ltb-false _ _ long.0 in
-      gives-past Inside 4 (drop 1 (read_rules s)) (at _ _ (omega arith), (at _ _ (omega arith), (at _ _ (omega arith), (at _ _ (omega arith), tt)))) (λ labelled.
+      gives-past Inside 4 (drop 1 (read_rules s)) (
+        at _ _ (omega arith),
+        (
+          at _ _ (omega arith),
+          (
+            at _ _ (omega arith),
+            (
+              at _ _ (omega arith),
+              tt,
+            ),
+          ),
+        ),
+      ) (λ labelled.
       let r = in-range (kind_of s) s (not-false _ labelled.1.1.1.0) in
       gives-past Inside 1 (drop 5 (read_rules s)) (at _ _ (omega arith), tt) (λ lent.
       let whole : record_length s ≤ length s = ltb-false _ _ lent.0 in
       let room : data_value_at (kind_of s) ≤ length s = omega arith in
       gives-past Inside 4 (drop 6 (read_rules s)) (at _ _ (omega arith), (at _ _ (omega arith), (at _ _ (omega arith), (at _ _ (omega arith), tt)))) (λ _.
-      gives-past Inside 4 (drop 10 (read_rules s)) (at _ _ (omega arith), (at _ _ (omega arith), (at _ _ (omega arith), (at _ _ (omega arith), tt)))) (λ _. tt)))))
+      gives-past Inside 4 (drop 10 (read_rules s)) (
+        at _ _ (omega arith),
+        (
+          at _ _ (omega arith),
+          (
+            at _ _ (omega arith),
+            (
+              at _ _ (omega arith),
+              tt,
+            ),
+          ),
+        ),
+      ) (λ _. tt)))))
 
   inside-here : (n m : ℕ) → read_one s ≡ n ∷ m ∷ [] → m ≤ length s
   unfolding read_one

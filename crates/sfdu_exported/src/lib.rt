@@ -1,5 +1,8 @@
 // Calls that scripts do not have, exported with answers in numbers: the walk, the number lists, the table of entries, how long lists must be, and the
 // table of new years. `reference/table` compares them with the reference.
+
+#![tactic(auto)]
+
 ghost use Rattle.std.specs.Prelude.{◌≡◌};
 ghost use Rattle.sfdu_stream.specs.Walk.{words_of};
 ghost use Rattle.sfdu_stream.specs.Listing.{walked, list_numbers, list_entries};
@@ -15,7 +18,7 @@ const YEARS: usize = 1101;
 
 // How many records, the stop place, the stop number and its second number.
 #[repr(C)]
-#[derive(Drop)]
+#[derive(Clone, Copy)]
 pub struct Answer {
     pub count: usize,
     pub place: usize,
@@ -64,10 +67,10 @@ pub extern "C" fn rt_list_numbers(
 ) -> Answer
     ensures { (
       numbers_of result,
-      record { places = places.exit.now; lengths = lengths.new; kinds = kinds.new; numbers = numbers.new },
+      record { places = places.new; lengths = lengths.new; kinds = kinds.new; numbers = numbers.new },
     )
         ≡ list_numbers s.now
-        (record { places = places.entry.now; lengths = lengths.old; kinds = kinds.old; numbers = numbers.old }) }
+        (record { places = places.old; lengths = lengths.old; kinds = kinds.old; numbers = numbers.old }) }
 {
     in_numbers(sfdu_lists::list_numbers(s, places, lengths, kinds, numbers))
 }

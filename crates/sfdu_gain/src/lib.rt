@@ -1,5 +1,8 @@
 // The sub-channel gain multiplier of an RSR record (document 02, Req 14): `gain` takes the edition from the caller, `agreed_gain` from the mission's
 // agreement for the record's day.
+
+#![tactic(auto)]
+
 ghost use Rattle.std.specs.Prelude.{◌≡◌, [], ◌∷◌, ◌≤◌, length};
 ghost use Rattle.sfdu.specs.declared.Kind.TheVariants.{Rsr as RsrKind};
 ghost use Rattle.sfdu.specs.Nesting.{data_value_at};
@@ -14,7 +17,7 @@ use sfdu::{Fault, nesting};
 use sfdu_headers::rsr_record::Rsr;
 
 // The multiplier's four bytes as one number; Nothing in the old edition; or a refusal. `Header` is a refusal 1 to 12 of read headers, with its second number.
-#[derive(Drop)]
+#[derive(Clone, Copy)]
 pub enum GainAnswer {
     Multiplier(u32),
     Nothing,

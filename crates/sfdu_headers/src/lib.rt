@@ -1,4 +1,7 @@
 // The header fields of a record of either kind, and its stream key.
+
+#![tactic(auto)]
+
 mod bands;
 mod call;
 mod rsr;
@@ -9,14 +12,14 @@ pub use call::{read_headers, record_number, stream_key};
 use sfdu::{Checked, Fault, Primary};
 
 // The uplink band of a telemetry record; unused if the predicts mode has no band.
-#[derive(Drop)]
+#[derive(Clone, Copy)]
 pub enum Band {
     Letter(u8),
     Unused,
 }
 
 // The fields of a telemetry record's secondary block.
-#[derive(Drop)]
+#[derive(Clone, Copy)]
 pub struct TelemetryFields {
     pub spacecraft: u16,
     pub source: u8,
@@ -29,7 +32,7 @@ pub struct TelemetryFields {
 }
 
 // The source of an RSR record.
-#[derive(Drop)]
+#[derive(Clone, Copy)]
 pub struct RsrSource {
     pub software: u16,
     pub number: u16,
@@ -42,7 +45,7 @@ pub struct RsrSource {
 }
 
 // The signal in an RSR record.
-#[derive(Drop)]
+#[derive(Clone, Copy)]
 pub struct RsrSignal {
     pub uplink: u8,
     pub downlink: u8,
@@ -57,7 +60,7 @@ pub struct RsrSignal {
 }
 
 // The year and the day of an RSR record's ADC reading, and the override frequency.
-#[derive(Drop)]
+#[derive(Clone, Copy)]
 pub struct RsrReading {
     pub year: u16,
     pub day: u16,
@@ -65,7 +68,7 @@ pub struct RsrReading {
 }
 
 // A telemetry record's received time: days from 1 January 1958, milliseconds of the day, extended resolution. No call tests them.
-#[derive(Drop)]
+#[derive(Clone, Copy)]
 pub struct ReceivedTime {
     pub days: u16,
     pub milliseconds: u32,
@@ -73,28 +76,28 @@ pub struct ReceivedTime {
 }
 
 // Whether an RSR record's year and day are right; if they are, their day count. (Public because the prover needs it.)
-#[derive(Drop)]
+#[derive(Clone, Copy)]
 pub struct Dated {
     pub checked: Checked,
     pub count: u32,
 }
 
 // The values that a tested byte may have. (Public because the prover needs it.)
-#[derive(Drop)]
+#[derive(Clone, Copy)]
 pub enum Allowed {
     Between(u8, u8),
     Bands,
 }
 
 // A byte that is tested: its offset from the record's start, and the values it may have. (Public because the prover needs it.)
-#[derive(Drop)]
+#[derive(Clone, Copy)]
 pub struct ByteRule {
     pub at: usize,
     pub allowed: Allowed,
 }
 
 // The stream key of a record; none if a field of its header is out of range.
-#[derive(Drop)]
+#[derive(Clone, Copy)]
 pub enum StreamKey {
     Key(u64),
     OutOfRange,
@@ -102,7 +105,7 @@ pub enum StreamKey {
 
 // The answer of read headers: the record's length, its primary value, its fields, its stream key, and the received time or the day count; or a
 // refusal with its second number; or that the record is of the other kind.
-#[derive(Drop)]
+#[derive(Clone, Copy)]
 pub enum Headers {
     Telemetry {
         size: usize,

@@ -6,7 +6,7 @@ use crate::Headers;
 use sfdu::{Fault, nesting};
 
 // The record's length, the mission of its primary value, and its day count; or a refusal.
-#[derive(Drop)]
+#[derive(Clone, Copy)]
 pub enum Rsr {
     Record {
         size: usize,

@@ -333,7 +333,7 @@ pub records : (place : ℕ) (s : List ℕ) (last : Bool) (k : Kind) (n m : ℕ) 
 unfolding found_in found_at cut_short refusal
 records place s last k n m w p q r = rw (whole-refusal s w, w, r, p, q)
 
--- Read one refuses with n and m. The listing's refusal is the same, or 17, and `stopOf` tells it.
+-- Read one refuses with n and m. The listing's refusal is the same, or 17, and `stop_of` tells it.
 module _ (s : List ℕ) (fits : length s ≤ buffer_size) (n m : ℕ) (e : n ∷ m ∷ [] ≡ read_one s) where
   given : List ℕ
   given = cond (is_over s (n ∷ m ∷ [])) (17 ∷ []) (n ∷ m ∷ [])

@@ -1,4 +1,7 @@
 // The listing of a stream on lent slices: goes over a window onto the stream record by record, and writes a line of text for each.
+
+#![tactic(auto)]
+
 mod lines;
 mod window;
 
@@ -6,7 +9,7 @@ pub use lines::begin;
 pub use window::list_piece;
 
 // What stands at a place of the window. (Public because the prover needs it.)
-#[derive(Drop)]
+#[derive(Clone, Copy)]
 pub enum Found {
     Record {
         kind: sfdu::Kind,
@@ -21,7 +24,7 @@ pub enum Found {
 
 // The result of listing a window: how many of its bytes are used, where the text ends, and whether the last line is there. (Public because the prover
 // needs it.)
-#[derive(Drop)]
+#[derive(Clone, Copy)]
 pub struct Drained {
     pub used: usize,
     pub end: usize,

@@ -1,4 +1,7 @@
 // Lists of a stream's records, in two layouts: four lists of numbers, or a table of entries.
+
+#![tactic(auto)]
+
 ghost use Rattle.std.specs.Prelude.{◌≡◌, min};
 ghost use Rattle.sfdu_stream.specs.Walk.{words_of};
 ghost use Rattle.sfdu_stream.specs.Listing.{entry_at, list_numbers, list_entries};
@@ -10,7 +13,7 @@ use sfdu::{Fault, Kind, nesting};
 use sfdu_stream as stream;
 
 // One turn of a list's loop: the entry of the next record and the place behind it, or the list's answer. (Public because the prover needs it.)
-#[derive(Drop)]
+#[derive(Clone, Copy)]
 pub struct Turn {
     pub listed: bool,
     pub entry: stream::Entry,

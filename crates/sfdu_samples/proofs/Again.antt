@@ -1,5 +1,7 @@
 -- Unpacked and packed again, and packed and unpacked again: one proof for every width. Assumes nothing.
-use Rattle.std.proofs.Common.{◌≡◌, ℕ, zero, suc, ◌+◌, ◌*◌, ◌/◌, ◌%◌, ◌^◌, ◌<◌, ◌≤◌, true, List, [], ◌∷◌, ◌++◌, length, take, drop, ℤ, refl, ◌∙◌, le_of_suc-le-suc, not-suc-le-zero, add-zero, mod-lt, mod-eq_of_lt, suc-mul, div-lt_iff_lt-mul, pow-suc, div-add-mod', mul-div_cancel, arith, lit<, length-drop, take-append-drop, get_or-drop, drop_at}
+use Rattle.std.proofs.Common.{◌≡◌, ℕ, zero, suc, ◌+◌, ◌*◌, ◌/◌, ◌%◌, ◌^◌, ◌<◌, ◌≤◌, true, List, [], ◌∷◌, ◌++◌, length, take, drop, ℤ, refl, ◌∙◌}
+use Rattle.std.proofs.Common.{le_of_suc-le-suc, not-suc-le-zero, add-zero, mod-lt, mod-eq_of_lt, suc-mul, div-lt_iff_lt-mul, pow-suc, div-add-mod'}
+use Rattle.std.proofs.Common.{mul-div_cancel, arith, lit<, length-drop, take-append-drop, get_or-drop, drop_at}
 use native.Mathlib.Nat.{mul-mod_left, pow-zero, mul-add-div_right, mul-add-mod_self_right, div-eq_of_lt}
 use Rattle.octets.specs.Octets.{number_at, bytes_of, part}
 use Rattle.octets.proofs.Laws.{Bytes, number_lt, length-bytes_of, all-each}
@@ -92,7 +94,11 @@ unfolding sample_word_of samples_of
 word-again w v ys h l =
     let i : v % half_sample_word < (2 ^ w) ^ per_half w = rw h.whole (omega arith) in
     let q : v / half_sample_word < (2 ^ w) ^ per_half w = rw h.whole (omega arith) in
-    rw (i-again w h.some (per_half w) (v % half_sample_word) (v / half_sample_word) ys i, q-again w h.some (per_half w) (v % half_sample_word) (v / half_sample_word) ys q) (omega arith)
+    rw (
+      i-again w h.some (per_half w) (v % half_sample_word) (v / half_sample_word) ys i,
+      q-again w h.some
+          (per_half w) (v % half_sample_word) (v / half_sample_word) ys q,
+    ) (omega arith)
 
 bytes_drop : (n : ℕ) (s : List ℕ) → Bytes s → Bytes (drop n s)
 bytes_drop n s b k = rw get_or-drop (b (n + k))
@@ -120,11 +126,14 @@ samples-again w xs h c l =
     let long : 2 * per_half w ≤ length (drop 1 xs) + 1 = rw length-drop (omega arith) in
     let i = half-small w (per_half w) xs h c (omega arith) (omega arith) in
     let q = half-small w (per_half w) (drop 1 xs) h (coded-drop w 1 xs c) (omega arith) long in
-    let low : (half_of w (per_half w) (drop 1 xs) * half_sample_word + half_of w (per_half w) xs) % half_sample_word ≡ half_of w (per_half w) xs = omega arith in
-    let high : (half_of w (per_half w) (drop 1 xs) * half_sample_word + half_of w (per_half w) xs) / half_sample_word ≡ half_of w (per_half w) (drop 1 xs) = omega arith in
+    let low : (half_of w (per_half w) (drop 1 xs) * half_sample_word + half_of w (per_half w) xs)
+    % half_sample_word ≡ half_of w (per_half w) xs = omega arith in
+    let high : (half_of w (per_half w) (drop 1 xs) * half_sample_word + half_of w (per_half w) xs) /
+    half_sample_word ≡ half_of w (per_half w) (drop 1 xs) = omega arith in
     (omega arith, rw (low, high) (pairs-again w h.some (per_half w) xs c l))
 
-pub unpacked-again : (w n : ℕ) (xs : List ℤ) → Width w → Coded w xs → length xs ≡ n * per_sample_word w → unpacked_sample_words w n (packed_sample_words w n xs) ≡ xs
+pub unpacked-again : (w n : ℕ) (xs : List ℤ) → Width w → Coded w xs → length xs ≡ n * per_sample_word w
+    → unpacked_sample_words w n (packed_sample_words w n xs) ≡ xs
 unfolding packed_sample_words unpacked_sample_words
 unpacked-again w zero [] h c l = refl
 unpacked-again w zero (x ∷ xs) h c l = absurd (omega arith)

@@ -1,7 +1,8 @@
 -- Words worked out by hand after table 3-2: [Q2, Q1], [I2, I1] at 8 bits, [Q1], [I1] at 16. Assumes nothing.
 use Rattle.std.proofs.Common.{◌≡◌, [], ◌∷◌, pos, negsuc, refl}
 use Rattle.octets.specs.Octets.{number_at, bytes_of}
-use Rattle.sfdu_samples.specs.Packing.{twos, value_of, code_of, pairs_of, samples_of, half_of, sample_word_of, unpacked_sample_words, packed_sample_words, unpacked, packed}
+use Rattle.sfdu_samples.specs.Packing.{twos, value_of, code_of, pairs_of, samples_of, half_of, sample_word_of, unpacked_sample_words, packed_sample_words}
+use Rattle.sfdu_samples.specs.Packing.{unpacked, packed}
 
 -- Q2 = 1, Q1 = 2, I2 = 254 (k = -2), I1 = 3: in time order 7, 5, then -3, 3
 eight : unpacked 8 (1 ∷ 2 ∷ 254 ∷ 3 ∷ []) ≡ pos 7 ∷ pos 5 ∷ negsuc 2 ∷ pos 3 ∷ []

@@ -1,5 +1,8 @@
 -- A code whose highest bit is flipped, and where the samples of a word stand. Assumes nothing.
-use Rattle.std.proofs.Common.{◌≡◌, ℕ, zero, suc, ◌+◌, ◌-◌, ◌*◌, ◌/◌, ◌%◌, ◌^◌, ◌<◌, ◌≤◌, Bool, true, false, not, ◌&&◌, ◌||◌, eqb, ltb, leb, pos, negsuc, ◌+ℤ◌, ◌-ℤ◌, ◌*ℤ◌, sym, refl, ap, ◌∙◌, mod-lt, mod-eq_of_lt, mul_assoc, mul_comm, div-lt_iff_lt-mul, add-mul, mul-lt-mul_of_pos_right, mul-pos, div-add-mod', mul-add, arith, pow_pos, pow-add, w32, SFits, ltb-false, ltb-true, le-ltb, lt-ltb, eq-eqb, eqb-true, le-leb}
+use Rattle.std.proofs.Common.{◌≡◌, ℕ, zero, suc, ◌+◌, ◌-◌, ◌*◌, ◌/◌, ◌%◌, ◌^◌, ◌<◌, ◌≤◌, Bool, true, false, not, ◌&&◌, ◌||◌, eqb, ltb, leb, pos, negsuc, ◌+ℤ◌}
+use Rattle.std.proofs.Common.{◌-ℤ◌, ◌*ℤ◌, sym, refl, ap, ◌∙◌, mod-lt, mod-eq_of_lt, mul_assoc, mul_comm, div-lt_iff_lt-mul, add-mul, mul-lt-mul_of_pos_right}
+use Rattle.std.proofs.Common.{mul-pos, div-add-mod', mul-add, arith, pow_pos, pow-add, w32, SFits, ltb-false, ltb-true, le-ltb, lt-ltb, eq-eqb, eqb-true}
+use Rattle.std.proofs.Common.{le-leb}
 use native.Mathlib.Nat.{add-mul-div_left, add-mul-mod_self_left, add-mul-mod_self_right, div-div-eq-div-mul, mul-div-mul_right}
 use borrow.Author.Rules.{sfits_of}
 use lib.Bits.{bit_xor, xor_shifted, xor_comm, xor_block, xor_self, xor_zero_r}

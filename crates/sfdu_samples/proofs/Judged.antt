@@ -1,5 +1,6 @@
 -- The calls' answers, case by case: what each refusal and an accepted call leave. Assumes nothing.
-use Rattle.std.proofs.Common.{◌≡◌, ℕ, ◌*◌, ◌/◌, ◌%◌, ◌<◌, ◌≤◌, true, false, List, [], ◌∷◌, length, ℤ, sym, refl, ap, ◌∙◌, div-lt_iff_lt-mul, le-div_iff_mul-le, arith, ltb-false, le-ltb, lt-ltb, eq-eqb, ne_eqb, eqb-true}
+use Rattle.std.proofs.Common.{◌≡◌, ℕ, ◌*◌, ◌/◌, ◌%◌, ◌<◌, ◌≤◌, true, false, List, [], ◌∷◌, length, ℤ, sym, refl, ap, ◌∙◌, div-lt_iff_lt-mul}
+use Rattle.std.proofs.Common.{le-div_iff_mul-le, arith, ltb-false, le-ltb, lt-ltb, eq-eqb, ne_eqb, eqb-true}
 use borrow.Author.Tests.{not-false}
 use lib.Seq.{sets}
 use Rattle.refusals.specs.Judge.{Rule, judge}
@@ -79,7 +80,8 @@ module _ (size rate : ℕ) (xs : List ℤ) (old : List ℕ) where
         unfolding packing judge
         pack-is h = rw (e, eq-eqb _ _ whole, c, le-ltb _ _ h)
 
-        pub pack-accepts : (out : List ℕ) → length xs / per_sample_word size * 4 ≤ length old → out ≡ sets old 0 (packed_sample_words size (length xs / per_sample_word size) xs)
+        pub pack-accepts : (out : List ℕ) → length xs / per_sample_word size * 4 ≤ length old
+            → out ≡ sets old 0 (packed_sample_words size (length xs / per_sample_word size) xs)
             → ◌≡◌ {A = List ℕ × List ℕ} (0 ∷ length xs / per_sample_word size * 4 ∷ [], out) (packing size rate xs old)
         pack-accepts out h f =
             let n = length-packed size (length xs / per_sample_word size) xs in

@@ -1,5 +1,6 @@
 -- Numbers packed: a half word, number by number, and one word more. Assumes nothing.
-use Rattle.std.proofs.Common.{◌≡◌, ℕ, zero, suc, ◌+◌, ◌-◌, ◌*◌, ◌^◌, ◌<◌, ◌≤◌, true, List, length, get_or, drop, ℤ, pos, refl, add-zero, mul-le-mul_right, suc-mul, pow-suc, arith, lit<, length-append, length-drop, get_or-drop, drop-drop}
+use Rattle.std.proofs.Common.{◌≡◌, ℕ, zero, suc, ◌+◌, ◌-◌, ◌*◌, ◌^◌, ◌<◌, ◌≤◌, true, List, length, get_or, drop, ℤ, pos, refl, add-zero, mul-le-mul_right}
+use Rattle.std.proofs.Common.{suc-mul, pow-suc, arith, lit<, length-append, length-drop, get_or-drop, drop-drop}
 use native.Mathlib.Nat.{pow-zero, pow-le-pow_right}
 use lib.Seq.{sets}
 use Rattle.octets.specs.Octets.{bytes_of}

@@ -1,5 +1,6 @@
 -- Words unpacked: lengths, and one pair or one word more. Assumes nothing.
-use Rattle.std.proofs.Common.{◌≡◌, ℕ, zero, suc, ◌+◌, ◌-◌, ◌*◌, ◌/◌, ◌%◌, ◌^◌, ◌<◌, List, length, drop, set, ℤ, sym, refl, ap, ◌∙◌, suc-mul, mul-zero, zero-add, div-one, add-one, arith, length-append, get_or-drop, drop-drop}
+use Rattle.std.proofs.Common.{◌≡◌, ℕ, zero, suc, ◌+◌, ◌-◌, ◌*◌, ◌/◌, ◌%◌, ◌^◌, ◌<◌, List, length, drop, set, ℤ, sym, refl, ap, ◌∙◌, suc-mul, mul-zero}
+use Rattle.std.proofs.Common.{zero-add, div-one, add-one, arith, length-append, get_or-drop, drop-drop}
 use native.Mathlib.Nat.{pow-zero}
 use lib.Seq.{sets}
 use Rattle.octets.specs.Octets.{number_at}
@@ -37,7 +38,8 @@ pair-more l to w (suc left) i q h =
     rw (e, f, add-one)
 
 pub word_first : (l : List ℤ) (at w v : ℕ)
-    → sets l at (pairs_of w (per_half w) (v % half_sample_word / 2 ^ (w * (per_half w - per_half w))) (v / half_sample_word / 2 ^ (w * (per_half w - per_half w))))
+    → sets l at (pairs_of w (per_half w) (v % half_sample_word / 2 ^ (w * (per_half w - per_half w)))
+    (v / half_sample_word / 2 ^ (w * (per_half w - per_half w))))
     ≡ sets l at (samples_of w v)
 unfolding samples_of
 word_first l at w v =

@@ -1,5 +1,7 @@
 -- A sample's value and its code, at every width. Assumes nothing.
-use Rattle.std.proofs.Common.{◌≡◌, ℕ, zero, suc, ◌+◌, ◌-◌, ◌*◌, ◌/◌, ◌%◌, ◌^◌, ◌<◌, ◌≤◌, Bool, true, false, ◌&&◌, eqb, ltb, ℤ, pos, negsuc, ◌+ℤ◌, ◌-ℤ◌, ◌*ℤ◌, neg_ℤ, sym, refl, ap, ◌∙◌, not-suc-le-zero, mod-eq_of_lt, mul_assoc, suc-mul, add-mul, pow-suc, arith, lit<, ltb-false, ltb-true, le-ltb, lt-ltb, eq-eqb, ne_eqb, eqb-true}
+use Rattle.std.proofs.Common.{◌≡◌, ℕ, zero, suc, ◌+◌, ◌-◌, ◌*◌, ◌/◌, ◌%◌, ◌^◌, ◌<◌, ◌≤◌, Bool, true, false, ◌&&◌, eqb, ltb, ℤ, pos, negsuc, ◌+ℤ◌, ◌-ℤ◌, ◌*ℤ◌}
+use Rattle.std.proofs.Common.{neg_ℤ, sym, refl, ap, ◌∙◌, not-suc-le-zero, mod-eq_of_lt, mul_assoc, suc-mul, add-mul, pow-suc, arith, lit<, ltb-false}
+use Rattle.std.proofs.Common.{ltb-true, le-ltb, lt-ltb, eq-eqb, ne_eqb, eqb-true}
 use native.Mathlib.Nat.{pow-zero, pow-le-pow_right, add-mul-mod_self_right, one-le-pow}
 use mathlib.Core.Bool.{false≢true, and-true, and-false}
 use borrow.Author.Tests.{eqb-false}

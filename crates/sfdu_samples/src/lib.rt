@@ -1,4 +1,7 @@
 // The samples of an RSR record: unpacks its data part into pairs of numbers, and packs numbers into a data part.
+
+#![tactic(auto)]
+
 pub mod rates;
 
 ghost use Rattle.std.specs.Prelude.{◌≡◌, ◌≤◌, length};
@@ -17,7 +20,7 @@ mod packs;
 mod unpacks;
 
 // How many numbers or bytes were written; or a refusal. `Header` is a refusal 1 to 12 of read headers, with its second number.
-#[derive(Drop)]
+#[derive(Clone, Copy)]
 pub enum Answer {
     Count(usize),
     Header(Fault),

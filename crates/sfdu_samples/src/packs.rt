@@ -1,7 +1,8 @@
 // Packs numbers into words of samples.
 ghost use Rattle.std.specs.Prelude.{◌≡◌, ◌+◌, ◌*◌, ◌<◌, ◌≤◌, true, length, drop};
 ghost use Rattle.std.proofs.lemmas.List.Edits.{sets};
-ghost use Rattle.sfdu_samples.specs.Packing.{code_of, has_code, half_sample_word, per_half, per_sample_word, half_of, sample_word_of, packed_sample_words, all_coded};
+ghost use Rattle.sfdu_samples.specs.Packing.{code_of, has_code, half_sample_word, per_half, per_sample_word, half_of, sample_word_of};
+ghost use Rattle.sfdu_samples.specs.Packing.{packed_sample_words, all_coded};
 ghost use Rattle.sfdu_samples.specs.inner.Unpacking.{Width, raised};
 ghost use Rattle.sfdu_samples.specs.inner.Stored.{from_lowest};
 ghost use Rattle.octets.specs.Octets.{bytes_of};

@@ -3,7 +3,7 @@ ghost use Rattle.std.specs.Prelude.{◌≡◌};
 ghost use Rattle.sfdu_samples.specs.Rates.{is_listed};
 
 // A row of table 3-1.
-#[derive(Drop)]
+#[derive(Clone, Copy)]
 pub struct Listed {
     pub rate: u32,
     pub size: u32,

@@ -1,4 +1,7 @@
 // Streams of records: a cursor, a walk, and how long a list of the records must be. `sfdu_lists` makes the lists.
+
+#![tactic(auto)]
+
 mod room;
 mod walking;
 
@@ -6,13 +9,13 @@ pub use room::{most_records, most_rsr_records};
 pub use walking::{in_stream, stopped, walk};
 
 // A place in a stream: an offset in bytes from its start.
-#[derive(Drop)]
+#[derive(Clone, Copy)]
 pub struct Cursor {
     pub at: usize,
 }
 
 // The answer of a step, with the cursor that it gives back: moved past the record if there is one, else unmoved.
-#[derive(Drop)]
+#[derive(Clone, Copy)]
 pub enum Step {
     Found {
         kind: sfdu::Kind,
@@ -25,14 +28,14 @@ pub enum Step {
 }
 
 // Why a walk or a list stops: at the stream's end, or by a refusal. The refusal's offset counts from the stream's start; a full list has 0.
-#[derive(Drop)]
+#[derive(Clone, Copy)]
 pub enum Stop {
     End,
     Refused(sfdu::Fault),
 }
 
 // The answer of a walk or a list: how many whole records it found, the place where it stopped, and why.
-#[derive(Drop)]
+#[derive(Clone, Copy)]
 pub struct Walked {
     pub count: usize,
     pub place: usize,
@@ -41,7 +44,7 @@ pub struct Walked {
 
 // An entry of a list: a record's place, its length in bytes, its kind's number and its record number.
 #[repr(C)]
-#[derive(Drop)]
+#[derive(Clone, Copy)]
 pub struct Entry {
     pub place: u64,
     pub length: u64,

@@ -204,7 +204,8 @@ module _ (k : Kind) (p : Primary) (secondary value rest : List ℕ) (hs : length
       let q = placed k in
       rw by-label (piece-block label _ aggregation_at aggregation_type (aggregation_length k) (length_label _ _) (lit< tt) (omega arith))
 
-  by-primary : slice ≡ label ++ aggregation ++ (block primary_type primary_length ++ (primary_words p ++ (block (secondary_type k) (secondary_length k) ++ tail)))
+  by-primary : slice ≡ label ++ aggregation ++ (block primary_type primary_length ++ (primary_words p ++ (block (secondary_type k)
+      (secondary_length k) ++ tail)))
   unfolding blocks primary_block
   by-primary = by-label ∙ simp append_assoc
 

@@ -1,4 +1,7 @@
 // Write one: makes a record from its kind, its primary value, and the bytes of its secondary and data values. It tests no field in them.
+
+#![tactic(auto)]
+
 ghost use Rattle.std.specs.Prelude.{◌≡◌, ◌+◌, ◌≤◌, length};
 ghost use Rattle.octets.specs.Octets.{put};
 ghost use Rattle.sfdu.specs.Nesting.{kind_number, label_size, primary_at, secondary_value_at, data_value_at, block_label_size, secondary_length, most_data};
@@ -9,7 +12,7 @@ use refusals::Refusal;
 use sfdu::{Kind, Primary, nesting};
 
 // The answer of write one: the length of the record in bytes.
-#[derive(Drop)]
+#[derive(Clone, Copy)]
 pub enum Write {
     Written(usize),
     Refused(Refusal),

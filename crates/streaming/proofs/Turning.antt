@@ -64,8 +64,11 @@ module _ {l : Listing} where
           piece = piece;
           wrote = [];
           laid = listed.t;
-          stands = λ read ended written run.
-              (eqb (length piece) 0, rw (append-nil written) (lists run on piece w₁ out w' out' r window refl (subst (λ (n : ℕ). Lists l w₁ out s n w' out' r) (sym long) listed)));
+          stands = λ read ended written run. (
+            eqb (length piece) 0,
+            rw (append-nil written) (lists run on piece w₁ out w' out' r window refl (subst (λ (n : ℕ). Lists l w₁ out s n w' out' r)
+                (sym long) listed)),
+          );
           grows = grown listed.puts;
         }
 

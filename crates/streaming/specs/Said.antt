@@ -1,7 +1,7 @@
 -- What the system answered to a read or a write. Only `streaming` makes a `Said`, from the answer of a system call: the struct's field is private.
 -- Assumes nothing.
-use Rattle.std.specs.Prelude.{Bool}
+use Rattle.std.specs.Prelude.{Bool, is_some}
 use Rattle.streaming.specs.declared.Said.{Said}
 
 abbrev pub says_failed : Said → Bool
-says_failed said = said.failed
+says_failed said = is_some said.error

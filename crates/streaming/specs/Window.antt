@@ -32,6 +32,6 @@ abbrev pub telling : List ℕ → Stop
 telling words = record { number = get_or words 0 0; beside = get_or words 1 0 }
 
 -- Of such a record 17, with 0. Else the refusal's number; the count of bytes that goes with 1 and 6 stays, and an offset is counted from
--- the stream's start (`inStream`).
+-- the stream's start (`in_stream`).
 unfoldable pub stop_of : (place : ℕ) (s refusal : List ℕ) → Stop
 stop_of place s refusal = cond (is_over s refusal) (record { number = 17; beside = 0 }) (telling (in_stream place refusal))

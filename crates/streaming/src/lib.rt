@@ -1,4 +1,7 @@
 // What programs share that read an input piece by piece: they read bytes behind those they hold, make text from them, and write it.
+
+#![tactic(auto)]
+
 pub mod window;
 
 ghost use Rattle.std.specs.Prelude.{◌≡◌, ◌≤◌, length};
@@ -7,6 +10,9 @@ ghost use Rattle.streaming.specs.State.{emptied};
 ghost use Rattle.streaming.specs.Said.{says_failed};
 ghost use Rattle.streaming.specs.inner.Reading.{Behind};
 ghost use Rattle.streaming.specs.inner.Turn.{Writes};
+
+use std::io;
+use std::io::Read;
 
 // Text is written once there is more of it than this. Then its buffer has room for more.
 pub const ENOUGH: usize = 32768;
@@ -17,7 +23,7 @@ pub const TURNS: u64 = 140737488355328;
 
 // Where a listing stands: the place in its input of the first byte that is held, how many bytes are held, how many bytes of text are laid
 // out, and whether the last line is among them.
-#[derive(Drop)]
+#[derive(Clone, Copy)]
 pub struct State {
     pub place: u64,
     pub have: usize,
@@ -25,21 +31,21 @@ pub struct State {
     pub done: bool,
 }
 
-// What the system answered to a read or a write. Its field is private, so that no program can make one.
-#[derive(Drop)]
+// What the system answered to a read or a write: an error if it failed. Its field is private, so that no program can make one.
+#[derive(Clone, Copy)]
 pub struct Said {
-    failed: bool,
+    error: Option<io::Error>,
 }
 
 // A piece of the input: how many bytes were read; 0 at its end, or if the read failed.
-#[derive(Drop)]
+#[derive(Clone, Copy)]
 pub struct Piece {
     pub got: usize,
     pub said: Said,
 }
 
 // The result of a turn: the state of the listing, and what the system answered to its last read or write.
-#[derive(Drop)]
+#[derive(Clone, Copy)]
 pub struct Turn {
     pub state: State,
     pub said: Said,
@@ -48,30 +54,42 @@ pub struct Turn {
 pub fn has_failed(said: Said) -> bool
     ensures { result ≡ says_failed said }
 {
-    said.failed
+    said.error.is_some()
+}
+
+// Says on standard error why a read or a write of what is named failed, if it did.
+pub fn tell_failed(rt: &HostRuntime, what: &[u8], said: Said) {
+    if let Some(why) = said.error {
+        failures::tell(rt, what, why);
+    }
 }
 
 // Reads into `w` from index `have` on, up to `want`. If there is room for a byte, 0 bytes mean the end of the input.
-pub fn read_piece(fd: i32, w: &mut [u8], have: usize, want: usize) -> Piece
+pub fn read_piece<R: Read>(from: &mut R, w: &mut [u8], have: usize, want: usize) -> Piece
     requires { (have ≤ want) × (want ≤ length w.old) }
     ensures { Behind w.old have want w.new result.got }
 {
     let part = &mut w[have..want];
-    let count = libc::read(fd, part);
-    Piece {
-        got: io::count(count, part),
-        said: Said { failed: count < 0 },
+    match from.read(part) {
+        Ok(got) => Piece {
+            got,
+            said: Said { error: None },
+        },
+        Err(why) => Piece {
+            got: 0,
+            said: Said { error: Some(why) },
+        },
     }
 }
 
 // Reads from index `have` on until there are `want` bytes, the input ends, or a read fails.
-pub fn read_up_to(fd: i32, w: &mut [u8], have: usize, want: usize) -> Piece
+pub fn read_up_to<R: Read>(from: &mut R, w: &mut [u8], have: usize, want: usize) -> Piece
     requires { (have ≤ want) × (want ≤ length w.old) }
     ensures { Behind w.old have want w.new result.got }
 {
     let mut at = have;
     while at < want {
-        let piece = read_piece(fd, w, at, want);
+        let piece = read_piece(from, w, at, want);
         let got = piece.got;
         if got == 0 {
             let said = piece.said;
@@ -84,16 +102,16 @@ pub fn read_up_to(fd: i32, w: &mut [u8], have: usize, want: usize) -> Piece
     }
     Piece {
         got: at - have,
-        said: Said { failed: false },
+        said: Said { error: None },
     }
 }
 
 // The same for a whole slice.
-pub fn read_full(fd: i32, w: &mut [u8]) -> Piece
+pub fn read_full<R: Read>(from: &mut R, w: &mut [u8]) -> Piece
     ensures { IsPrefixLen result.got w.new }
 {
     let n = w.len();
-    read_up_to(fd, w, 0, n)
+    read_up_to(from, w, 0, n)
 }
 
 // The first turn: nothing has been read yet.
@@ -102,20 +120,27 @@ pub fn start(state: State) -> Turn
 {
     Turn {
         state,
-        said: Said { failed: false },
+        said: Said { error: None },
     }
 }
 
+// Writes bytes on standard output. If it cannot, says why on standard error.
+pub fn write_out(rt: &HostRuntime, bytes: &[u8]) -> Said {
+    let said = match rt.stdout().write_all(bytes) {
+        Ok(()) => Said { error: None },
+        Err(why) => Said { error: Some(why) },
+    };
+    tell_failed(rt, b"standard output", said);
+    said
+}
+
 // Writes the text in the buffer.
-pub fn write_text(out: &[u8], s: State) -> Turn
+pub fn write_text(rt: &HostRuntime, out: &[u8], s: State) -> Turn
     requires { s.text ≤ length out.now }
     ensures { result.state ≡ emptied s }
 {
     let n = s.text;
-    let is_written = io::write_all(libc::STDOUT_FILENO, &out[..n]);
-    if !is_written {
-        os::fail(b"standard output");
-    }
+    let said = write_out(rt, &out[..n]);
     Turn {
         state: State {
             place: s.place,
@@ -123,25 +148,23 @@ pub fn write_text(out: &[u8], s: State) -> Turn
             text: 0,
             done: s.done,
         },
-        said: Said {
-            failed: !is_written,
-        },
+        said,
     }
 }
 
 // The same, if there is enough text.
-pub fn write_enough(out: &[u8], s: State, said: Said) -> Turn
+pub fn write_enough(rt: &HostRuntime, out: &[u8], s: State, said: Said) -> Turn
     requires { s.text ≤ length out.now }
     ensures { Writes s said result }
 {
     if s.text <= ENOUGH {
         return Turn { state: s, said };
     }
-    write_text(out, s)
+    write_text(rt, out, s)
 }
 
 // Says that no turn is left.
-pub fn give_up(name: &[u8]) {
-    io::write_all(libc::STDERR_FILENO, name);
-    io::write_all(libc::STDERR_FILENO, b": too long to list\n");
+pub fn give_up(rt: &HostRuntime, name: &[u8]) {
+    failures::say(rt, name);
+    failures::say(rt, b": too long to list\n");
 }

@@ -11,7 +11,7 @@ use sfdu::{Fault, nesting};
 pub const WINDOW: usize = 65536;
 
 // The refusal's number and the number beside it, 0 where none goes with it.
-#[derive(Drop)]
+#[derive(Clone, Copy)]
 pub struct Stop {
     pub number: u32,
     pub beside: u64,

@@ -1,4 +1,7 @@
 // Writes text into a lent slice. Each function writes from index `at` on, and gives the index behind its text.
+
+#![tactic(auto)]
+
 ghost use Rattle.std.specs.Prelude.{◌+◌, ◌≤◌, length};
 ghost use Rattle.text.specs.Text.{numeral, Puts};
 ghost use Rattle.text.specs.inner.Room.{most_numeral};

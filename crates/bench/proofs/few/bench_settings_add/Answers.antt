@@ -1,0 +1,16 @@
+-- `bench::few::bench_settings_add` meets its contract. Assumes nothing.
+use Prim.Native.Nat.{ℕ}
+use mathlib.Core.List.{List}
+use mathlib.Core.Path.{ap, ◌∙◌}
+use Rattle.answers.specs.Numbers.{plain}
+use Rattle.bench.proofs.Numbers.{few-onto}
+use Rattle.bench.proofs.few.bench_settings_add.Goals as goal
+
+pub returns : goal.returns
+returns c =
+    let called = c.add.ensures in
+    let words = ap (λ (o : List ℕ × List ℕ). plain o.0) called in
+    record {
+      value = c.onto.ensures ∙ few-onto _ words c.answer.ensures;
+      s_after = ap (λ (o : List ℕ × List ℕ). o.1) called;
+    }

@@ -1,0 +1,12 @@
+-- `bench::few::bench_settings_ask` meets its contract. Assumes nothing.
+use Prim.Native.Nat.{ℕ}
+use mathlib.Core.List.{List}
+use mathlib.Core.Path.{ap, ◌∙◌}
+use Rattle.answers.specs.Numbers.{plain}
+use Rattle.bench.proofs.Numbers.{few-onto}
+use Rattle.bench.proofs.few.bench_settings_ask.Goals as goal
+
+pub returns : goal.returns
+returns c =
+    let words = ap (λ (o : List ℕ × List ℕ). plain o.0) c.ask.ensures in
+    c.onto.ensures ∙ few-onto _ words c.asked.ensures

@@ -1,0 +1,11 @@
+-- `host::receivers::hernganow_unpack` meets its contract. Written by crates/host/exports. Assumes nothing.
+use Rattle.host.proofs.Exports.{unwritten-on, written_on}
+use Rattle.host.proofs.receivers.hernganow_unpack.Goals as goal
+
+pub returns-then-answer-ne-ANSWER : goal.returns-then-answer-ne-ANSWER
+returns-then-answer-ne-ANSWER c = unwritten-on _ _ _ _ c.if-answer-ne-ANSWER.true c.unwritten.ensures
+
+pub returns : goal.returns
+returns c =
+    let length = c.if-answer-ne-ANSWER.false in
+    written_on _ _ _ _ length c.unpack-found.ensures c.samples.ensures.same c.write_few.ensures

@@ -1,0 +1,15 @@
+-- `idr::fields::status_of` meets its contract. Assumes nothing.
+use Rattle.idr.proofs.fields.status_of.Goals as goal
+
+pub returns : goal.returns
+returns c =
+    rw (
+      c.decimation.ensures,
+      c.field-6.ensures.0,
+      c.field-5.ensures.0,
+      c.field-4.ensures.0,
+      c.field-3.ensures.0,
+      c.long.ensures,
+      c.field-2.ensures.0,
+      c.field.ensures.0,
+    )

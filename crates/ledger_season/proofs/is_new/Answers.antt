@@ -1,0 +1,16 @@
+-- `is_new` meets its contract. The invariant: `new` says whether the key is none of the first j. Assumes nothing.
+use mathlib.Core.Path.{◌≡◌, sym}
+use native.Mathlib.Omega.{arith}
+use Rattle.octets.proofs.Laws.{all_none, all-next}
+use Rattle.ledger_season.specs.inner.Gathered.{is_new}
+use Rattle.ledger_season.proofs.is_new.Goals as goal
+
+pub loop-j-init : goal.loop-j-init
+loop-j-init c = (omega arith, sym (all_none _))
+
+pub loop-j-preserved : goal.loop-j-preserved
+loop-j-preserved c = (omega arith, rw (all-next, c.loop-j.invariant.1))
+
+pub returns : goal.returns
+unfolding is_new
+returns c = let e : c.args.n ≡ c.loop-j.j = omega arith in rw e c.loop-j.invariant.1

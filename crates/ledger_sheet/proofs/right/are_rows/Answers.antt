@@ -1,0 +1,41 @@
+-- `right::are_rows` meets its contract. The invariant: the array has the keys of the used rows among the first i, and `right` says whether these rows
+-- are right. Assumes nothing.
+use mathlib.Core.Path.{refl, sym, ◌∙◌}
+use native.Mathlib.Omega.{arith}
+use Rattle.ledger_sheet.proofs.RowsRead.{no-row-read, used-read, free-read, rows-found, rows-ended}
+use Rattle.ledger_sheet.proofs.right.are_rows.Goals as goal
+use Rattle.ledger_sheet.proofs.right.are_rows.Goals.{then-is_used, else-is_used, else-loop-i-test, then-loop-i-test+then-found-used}
+
+pub loop-i-init : goal.loop-i-init
+loop-i-init c = (omega arith, no-row-read _ _ _ refl refl)
+
+pub is_new-right-requires : goal.is_new-right-requires
+is_new-right-requires c =
+    (omega (arith, c.loop-i.invariant.1.few), c.loop-i.invariant.1.marked)
+
+pub loop-i-preserved : goal.loop-i-preserved
+loop-i-preserved c =
+    let place = c.row_at-row.ensures in
+    let flag = c.is_used.ensures in
+    elim c.if-is_used.branch [
+      | then-is_used w ↦ let key = rw place at w.key_at-key.ensures in
+          let first = rw place at w.first_at.ensures in (
+            omega arith,
+            rw (w.keys-is, w.marks-is, w.found-is, w.right-is)
+                (used-read _ _ _ _ _ _ c.loop-i.invariant.1 _ _ _ _ (omega arith) (sym flag ∙ w.if-is_used.true)
+                key first w.is_stream-right.ensures w.is_new-right.ensures),
+          )
+      | else-is_used w ↦ let zero = rw place at w.is_zero-right.ensures in
+          (omega arith, rw (w.keys-is, w.marks-is, w.found-is, w.right-is) (free-read _ _ _ _ _ _ c.loop-i.invariant.1 _ (sym flag ∙ w.if-is_used.false) zero))
+    ]
+
+pub returns : goal.returns
+returns c =
+    let counted = c.rows_used-used.ensures in
+    let place = c.row_at.ensures in
+    let read = c.loop-i.invariant.1 in
+    elim c.loop-i-test.branch [
+      | else-loop-i-test w ↦ rw (place, counted) (rows-ended _ c.loop-i.i c.loop-i.found c.loop-i.right read.counted read.right_is (omega arith))
+      | then-loop-i-test+then-found-used w ↦ rw (place, counted)
+          (rows-found _ c.loop-i.i c.loop-i.found c.loop-i.right read.counted read.right_is c.loop-i.invariant.0 (w.if-found-used.true ∙ counted))
+    ]

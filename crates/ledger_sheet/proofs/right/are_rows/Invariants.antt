@@ -1,0 +1,12 @@
+-- `right::are_rows` meets its contract. The invariant: the array has the keys of the used rows among the first i, and `right` says whether these rows
+-- are right. Assumes nothing.
+use Prim.Native.Nat.{◌≤◌, ◌-◌}
+use Rattle.ledger_sheet.specs.Sheet.{row_count}
+use Rattle.ledger_sheet.proofs.RowsRead.{RowsRead}
+use Rattle.ledger_sheet.proofs.right.are_rows.Given as goal
+
+abbrev pub invariant-loop-i : goal.invariant-loop-i
+invariant-loop-i l = (l.i ≤ row_count) × RowsRead l.s l.keys l.marks l.found l.right l.i
+
+abbrev pub decreases-loop-i : goal.decreases-loop-i
+decreases-loop-i l = row_count - l.i

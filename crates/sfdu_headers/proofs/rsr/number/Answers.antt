@@ -1,0 +1,7 @@
+-- `sfdu_headers::rsr::number` meets its contract. Assumes nothing.
+use Rattle.sfdu_headers.specs.Fields.{record_number}
+use Rattle.sfdu_headers.proofs.rsr.number.Goals as goal
+
+pub returns : goal.returns
+unfolding record_number
+returns c = c.read_u16.ensures
