@@ -32,7 +32,7 @@ all: $(STATIC) $(SHARED) $(PROGRAM)
 
 # Proved and compiled by rt, where a source is newer.
 $(PROVED): always
-	@host/library
+	@tools/build host
 
 $(OUT):
 	mkdir -p $@

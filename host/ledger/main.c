@@ -185,12 +185,23 @@ static int run_program(int argc, char **argv)
     return status;
 }
 
+/* Another program cut a stream short while this one read it. The database undoes what was begun, as after a kill. */
+static void end_cut_short(int number)
+{
+    static const char text[] = "ledger: a file was cut short while it was read; nothing of this command was kept, try again when the file is whole\n";
+    ssize_t written = write(STDERR_FILENO, text, sizeof text - 1);
+    (void)number;
+    (void)written;
+    _exit(CANNOT);
+}
+
 int main(int argc, char **argv)
 {
     end_command = end_program;
     /* A failed write is an error that the program reports; it must not end the program. */
     signal(SIGPIPE, SIG_IGN);
     signal(SIGXFSZ, SIG_IGN);
+    signal(SIGBUS, end_cut_short);
     int status = run_program(argc, argv);
     if (fflush(stdout)) {
         fputs("ledger: standard output cannot be written\n", stderr);

@@ -5,8 +5,9 @@ import shutil
 import sqlite3
 import subprocess
 import tempfile
+import time
 
-from common import Ledger, expect
+from common import ENDED, Ledger, Wrong, expect
 
 
 def begun(ledger):
@@ -242,11 +243,42 @@ def output(program, work):
     return 'standard output that is full, closed, or cut off'
 
 
+# ---- Streams
+
+def wait_until_mapped(process, path):
+    """Waits until a process has mapped a file."""
+    end = time.time() + ENDED
+    while time.time() < end:
+        with open(f'/proc/{process.pid}/maps') as maps:
+            if path in maps.read():
+                return
+        time.sleep(0.01)
+    raise Wrong(f'{path} was not mapped')
+
+
+def cut_short(program, work, samples):
+    """Another program cuts a stream short while this one, which has mapped it, waits for its turn to write."""
+    ledger = begun(Ledger(program, os.path.join(work, 'cut'), work))
+    stream = os.path.join(work, 'stream')
+    shutil.copyfile(os.path.join(samples, 'good-night'), stream)
+    other = sqlite3.connect(ledger.place, isolation_level=None)
+    other.execute('BEGIN IMMEDIATE')
+    waiting = subprocess.Popen([program, ledger.place, 'receive', '2', stream], stdout=subprocess.PIPE, stderr=subprocess.PIPE, text=True)
+    wait_until_mapped(waiting, stream)
+    os.truncate(stream, 0)
+    other.execute('ROLLBACK')
+    other.close()
+    out, err = waiting.communicate(timeout=ENDED)
+    expect(waiting.returncode == 2 and not out and 'cut short while it was read; nothing of this command was kept' in err, (waiting.returncode, out, err))
+    has_all(ledger)
+    return 'a stream cut short while it is read'
+
+
 def try_all(program, work, samples):
     """Runs all of these tests on SQLite. Returns what was tried."""
     return '; '.join([full_disk(program, work), file_limit(program, work), read_only(program, work), no_rights(program, work),
                       not_ledgers(program, work, samples), anothers(program, work), names(program, work), damaged(program, work),
-                      damaged_pages(program, work), output(program, work)])
+                      damaged_pages(program, work), output(program, work), cut_short(program, work, samples)])
 
 
 # ---- PostgreSQL
