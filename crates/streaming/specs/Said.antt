@@ -1,4 +1,4 @@
--- What the system answered to a read or a write. Only `streaming` makes a `Said`, from the answer of a system call: the struct's field is private.
+-- What a read or a write answered. Only `streaming` makes a `Said`, from what a reader or the system answered: the struct's field is private.
 -- Assumes nothing.
 use Rattle.std.specs.Prelude.{Bool, is_some}
 use Rattle.streaming.specs.declared.Said.{Said}

@@ -31,7 +31,7 @@ pub struct State {
     pub done: bool,
 }
 
-// What the system answered to a read or a write: an error if it failed. Its field is private, so that no program can make one.
+// What a read or a write answered: an error if it failed. Its field is private, so only this crate makes one, from what a reader or the system answered.
 #[derive(Clone, Copy)]
 pub struct Said {
     error: Option<io::Error>,
@@ -124,13 +124,15 @@ pub fn start(state: State) -> Turn
     }
 }
 
-// Writes bytes on standard output. If it cannot, says why on standard error.
+// Writes bytes on standard output. If it cannot, says why on standard error; not where nobody reads any more, as when `head` has its lines.
 pub fn write_out(rt: &HostRuntime, bytes: &[u8]) -> Said {
-    let said = match rt.stdout().write_all(bytes) {
-        Ok(()) => Said { error: None },
-        Err(why) => Said { error: Some(why) },
+    let Err(why) = rt.stdout().write_all(bytes) else {
+        return Said { error: None };
     };
-    tell_failed(rt, b"standard output", said);
+    let said = Said { error: Some(why) };
+    if why.kind() != io::ErrorKind::BrokenPipe {
+        tell_failed(rt, b"standard output", said);
+    }
     said
 }
 
