@@ -43,7 +43,7 @@ pub enum Step {
     Unwritten,
 }
 
-// Writes the samples of the record that was read into the window.
+// Writes the samples of the record that was read into the window. Sets `gone` if nobody reads them any more.
 fn take_record(
     rt: &HostRuntime,
     piece: Piece,
@@ -52,6 +52,7 @@ fn take_record(
     w: &[u8],
     list: &mut [i32],
     out: &mut [u8],
+    gone: &mut bool,
 ) -> Step
     requires { Ready place piece w.now list.old out.old }
     ensures { Takes raw place piece w.now list.old out.new result }
@@ -66,22 +67,32 @@ fn take_record(
     }
     let judged = judging::judge(&w[..have], place, list);
     match judged {
-        Unpacked::Samples(n) => written(rt, list, n, raw, place + have as u64, out),
+        Unpacked::Samples(n) => written(rt, list, n, raw, place + have as u64, out, gone),
         Unpacked::Stopped(stop) => Step::Stopped(stop),
     }
 }
 
-// Writes the list's first n numbers. Gives the step to the next place.
-fn written(rt: &HostRuntime, list: &[i32], n: usize, raw: bool, next: u64, out: &mut [u8]) -> Step
+// Writes the list's first n numbers. Gives the step to the next place. Sets `gone` if nobody reads them any more.
+fn written(
+    rt: &HostRuntime,
+    list: &[i32],
+    n: usize,
+    raw: bool,
+    next: u64,
+    out: &mut [u8],
+    gone: &mut bool,
+) -> Step
     requires { (n ≤ length list.now) × (most_number ≤ length out.old) }
     ensures { Writes raw list.now n next out.new result }
 {
-    if output::write_parts(rt, &list[..n], raw, out) {
+    let Some(said) = output::write_parts(rt, &list[..n], raw, out) else {
         return Step::Passed(next);
-    }
+    };
+    *gone = streaming::lacks_reader(said);
     Step::Unwritten
 }
 
+// Writes the samples of a stream. False if nobody reads them any more.
 fn write_stream<R: Read>(
     rt: &HostRuntime,
     from: &mut R,
@@ -90,26 +101,29 @@ fn write_stream<R: Read>(
     w: &mut [u8],
     list: &mut [i32],
     out: &mut [u8],
-)
+) -> bool
     requires { (length w.old ≡ window_size) × (length list.old ≡ most_numbers) × (most_number ≤ length out.old) }
 {
     let mut place: u64 = 0;
+    let mut gone = false;
     let mut left = streaming::TURNS;
     while 0 < left {
         let piece = input::next_record(from, w);
-        let step = take_record(rt, piece, place, raw, w, list, out);
+        let step = take_record(rt, piece, place, raw, w, list, out, &mut gone);
         let Step::Passed(next) = step else {
-            return tell_end(rt, name, place, piece.said, step);
+            tell_end(rt, name, place, piece.said, step);
+            return !gone;
         };
         place = next;
         left -= 1;
     }
+    true
 }
 
 // Says why a stream stops.
 fn tell_end(rt: &HostRuntime, name: &[u8], place: u64, said: Said, step: Step) {
     match step {
-        // Where a write failed, the reason was told.
+        // `write_out` has told why a write failed.
         Step::Passed(_) | Step::Ended | Step::Unwritten => {}
         Step::Stopped(stop) => tell_stop(rt, name, place, stop),
         Step::Unread => streaming::tell_failed(rt, name, said),
@@ -148,28 +162,30 @@ fn tell_first(rt: &HostRuntime, text: &[u8], n: usize) {
     }
 }
 
-fn stream<R: Read>(rt: &HostRuntime, from: &mut R, name: &[u8], raw: bool) {
+// The same, with buffers of its own.
+fn stream<R: Read>(rt: &HostRuntime, from: &mut R, name: &[u8], raw: bool) -> bool {
     let mut window = [0u8; window::WINDOW];
     let mut numbers = [0i32; NUMBERS];
     let mut text = [0u8; TEXT];
-    write_stream(rt, from, name, raw, &mut window, &mut numbers, &mut text);
+    write_stream(rt, from, name, raw, &mut window, &mut numbers, &mut text)
 }
 
-// Writes the samples of the file that argument i names.
-fn file(rt: &HostRuntime, i: usize, raw: bool) {
+// Writes the samples of the file that argument i names. False if nobody reads them any more.
+fn file(rt: &HostRuntime, i: usize, raw: bool) -> bool {
     let mut path = [0u8; arguments::LONGEST];
     let opened = arguments::open_at(rt, i, &mut path);
     let n = opened.size;
-    if let Some(mut file) = opened.file {
-        stream(rt, &mut file, &path[..n], raw);
-    }
+    let Some(mut file) = opened.file else {
+        return true;
+    };
+    stream(rt, &mut file, &path[..n], raw)
 }
 
 fn files(rt: &HostRuntime, count: usize, raw: bool) {
     let mut i = 1;
     while i < count {
-        if !arguments::is_at(rt, i, &RAW) {
-            file(rt, i, raw);
+        if !arguments::is_at(rt, i, &RAW) && !file(rt, i, raw) {
+            return;
         }
         i += 1;
     }

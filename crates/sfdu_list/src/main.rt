@@ -80,40 +80,41 @@ fn list_stream<R: Read>(
     list_from(rt, from, name, w, out, begun)
 }
 
-fn list<R: Read>(rt: &HostRuntime, from: &mut R, name: &[u8]) {
+// Lists a stream from its start. False if nobody reads the listing any more.
+fn list<R: Read>(rt: &HostRuntime, from: &mut R, name: &[u8]) -> bool {
     let mut window = [0u8; window::WINDOW];
     let w: &mut [u8] = &mut window;
     let mut text = [0u8; TEXT];
     let out: &mut [u8] = &mut text;
     let t = list_stream(rt, from, name, w, out);
     let s = t.state;
-    streaming::write_text(rt, out, s);
+    let last = streaming::write_text(rt, out, s);
+    !streaming::lacks_reader(t.said) & !streaming::lacks_reader(last.said)
 }
 
-// Lists the file that argument i names. If there are several, it first writes a line with the name.
-fn list_argument(rt: &HostRuntime, i: usize, several: bool) {
+// Lists the file that argument i names. If there are several, it first writes a line with the name. False if nobody reads the listing any more.
+fn list_argument(rt: &HostRuntime, i: usize, several: bool) -> bool {
     let mut path = [0u8; arguments::LONGEST];
     let opened = arguments::open_at(rt, i, &mut path);
     let n = opened.size;
     let Some(mut file) = opened.file else {
-        return;
+        return true;
     };
     if several {
-        say(rt, &path[..n]);
-        say(rt, b"\n");
+        let said = streaming::write_name(rt, &path[..n]);
+        if streaming::lacks_reader(said) {
+            return false;
+        }
     }
-    list(rt, &mut file, &path[..n]);
-}
-
-// Writes bytes on standard output, if it can be written.
-fn say(rt: &HostRuntime, bytes: &[u8]) {
-    let _ = rt.stdout().write_all(bytes);
+    list(rt, &mut file, &path[..n])
 }
 
 fn list_arguments(rt: &HostRuntime, count: usize) {
     let mut i = 1;
     while i < count {
-        list_argument(rt, i, 2 < count);
+        if !list_argument(rt, i, 2 < count) {
+            return;
+        }
         i += 1;
     }
 }

@@ -4,12 +4,13 @@
 
 pub mod window;
 
-ghost use Rattle.std.specs.Prelude.{◌≡◌, ◌≤◌, length};
+ghost use Rattle.std.specs.Prelude.{◌≡◌, ◌≤◌, length, Decides};
 ghost use Rattle.io.specs.Counts.{IsPrefixLen};
 ghost use Rattle.streaming.specs.State.{emptied};
 ghost use Rattle.streaming.specs.Said.{says_failed};
 ghost use Rattle.streaming.specs.inner.Reading.{Behind};
 ghost use Rattle.streaming.specs.inner.Turn.{Writes};
+ghost use Rattle.streaming.specs.inner.Writing.{LacksReader};
 
 use std::io;
 use std::io::Read;
@@ -55,6 +56,16 @@ pub fn has_failed(said: Said) -> bool
     ensures { result ≡ says_failed said }
 {
     said.error.is_some()
+}
+
+// Whether a write failed because the reader is gone, as when `head` has its lines.
+pub fn lacks_reader(said: Said) -> bool
+    ensures { Decides result (LacksReader said) }
+{
+    let Some(why) = said.error else {
+        return false;
+    };
+    matches!(why.kind(), io::ErrorKind::BrokenPipe)
 }
 
 // Says on standard error why a read or a write of what is named failed, if it did.
@@ -124,13 +135,24 @@ pub fn start(state: State) -> Turn
     }
 }
 
-// Writes bytes on standard output. If it cannot, says why on standard error; not where nobody reads any more, as when `head` has its lines.
+// Writes bytes on standard output.
+fn try_write(rt: &HostRuntime, bytes: &[u8]) -> Said {
+    match rt.stdout().write_all(bytes) {
+        Ok(()) => Said { error: None },
+        Err(why) => Said { error: Some(why) },
+    }
+}
+
+// Writes a line with a file's name on standard output. Where it cannot, the text that follows says so.
+pub fn write_name(rt: &HostRuntime, name: &[u8]) -> Said {
+    try_write(rt, name);
+    try_write(rt, b"\n")
+}
+
+// Writes bytes on standard output. If it cannot, says why on standard error, unless nobody reads any more.
 pub fn write_out(rt: &HostRuntime, bytes: &[u8]) -> Said {
-    let Err(why) = rt.stdout().write_all(bytes) else {
-        return Said { error: None };
-    };
-    let said = Said { error: Some(why) };
-    if why.kind() != io::ErrorKind::BrokenPipe {
+    let said = try_write(rt, bytes);
+    if !lacks_reader(said) {
         tell_failed(rt, b"standard output", said);
     }
     said

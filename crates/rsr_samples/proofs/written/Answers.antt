@@ -6,8 +6,8 @@ use Rattle.rsr_samples.proofs.written.Goals as goal
 pub slice_bounds-write_parts-end : goal.slice_bounds-write_parts-end
 slice_bounds-write_parts-end c = sym (length-take-le _ _ (omega arith))
 
-pub returns-then-write_parts : goal.returns-then-write_parts
-returns-then-write_parts c = record { written = true; step = refl; came = λ e. c.write_parts.ensures c.if-write_parts.true }
+pub returns-in_default : goal.returns-in_default
+returns-in_default c = record { written = true; step = refl; came = λ e. c.in_default.ensures refl }
 
 pub returns : goal.returns
 returns c = record { written = false; step = refl; came = λ e. absurd (false≢true e) }
