@@ -52,23 +52,29 @@ class Desk(threading.Thread):
             text += more
         return text.decode()
 
+    def kill(self, said):
+        self.child.send_signal(signal.SIGKILL)
+        raise Died(said + self.end_session())
+
     def say(self, words):
-        """A command's last line; sometimes the process is killed before it."""
+        """A command's last line. Sometimes the process is killed: at any time before that line, or as soon as the line is there."""
         begun = time.perf_counter()
         try:
             self.child.stdin.write((words + '\n').encode())
         except BrokenPipeError:
             raise Died(self.end_session())
-        if self.night.may_kill(self.random):
+        may_kill, is_before = self.night.may_kill(self.random), self.random.random() < 0.5
+        if may_kill and is_before:
             time.sleep(self.random.random() * 0.012)
-            self.child.send_signal(signal.SIGKILL)
-            raise Died(self.end_session())
+            self.kill('')
         line = self.line()
         if 'is closed; not kept' in line and words.startswith('save'):
             line = self.line()
         self.night.waits.append(time.perf_counter() - begun)
         if line.startswith('ledger: '):
             raise Failed(line)
+        if may_kill:
+            self.kill(line)
         return line
 
     # ---- a visit
