@@ -11,21 +11,21 @@ pub mod setting;
 pub mod streams;
 pub mod tapes;
 
-ghost use Rattle.std.specs.Prelude.{cond, [], ◌∷◌, ◌≡◌};
+ghost use Rattle.std.specs.Prelude.{cond, [], ◌∷◌, ◌++◌, ◌-◌, ◌≡◌, replicate};
+ghost use Rattle.refusals.specs.Words.{answer_words, no_words};
 ghost use Rattle.refusals.specs.Table.{number_of};
-ghost use Rattle.sfdu.specs.Read.{fault_words};
+ghost use Rattle.sfdu.specs.Read.{fault_words, refusal_words};
 ghost use Rattle.dates.specs.Answers as Dates;
 ghost use Rattle.keys.specs.Words as Keys;
 ghost use Rattle.refusal_words.specs.Written as Texts;
-ghost use Rattle.answers.specs.Numbers.{plain, counted, flagged};
+ghost use Rattle.answers.specs.Numbers.{number_count, plain, counted, flagged};
 ghost use Rattle.answers.specs.inner.Dates.{count_words};
-ghost use Rattle.answers.specs.inner.Numbers.{Few, Numbers};
+ghost use Rattle.answers.specs.inner.Numbers.{few_count, Few, Numbers};
 
-use dates::{CountAnswer, DateAnswer};
-use keys::{KeyAnswer, KeyParts};
-use refusal_words::Text;
+use dates::Date;
+use keys::KeyParts;
 use refusals::Refusal;
-use sfdu::{Fault, nesting};
+use sfdu::{Fault, Kind, RecordRefusal};
 
 // How many numbers an answer has, how many bytes each number has, and how many bytes an answer has.
 pub const NUMBERS: usize = 32;
@@ -49,6 +49,23 @@ pub fn refused(why: Refusal) -> [u64; FEW]
     numbers
 }
 
+// The answer of a call that gives no values.
+pub fn done(answer: Result<(), Refusal>) -> [u64; FEW]
+    ensures { Few result (plain (answer_words no_words answer)) }
+{
+    match answer {
+        Ok(()) => [0u64; FEW],
+        Err(why) => refused(why),
+    }
+}
+
+// The answer of a test: 1 if it holds, 0 if it does not.
+pub fn test(holds: bool) -> [u64; FEW]
+    ensures { Few result (flagged holds) }
+{
+    count(flag(holds))
+}
+
 // 0 and one number.
 pub fn count(n: u64) -> [u64; FEW]
     ensures { Few result (counted n) }
@@ -69,35 +86,37 @@ pub fn wrong(fault: Fault) -> [u64; FEW]
     numbers
 }
 
-// A refusal's text: how many bytes it has.
-pub fn text(answer: Text) -> [u64; FEW]
-    ensures { Few result (plain (Texts.words_of answer)) }
+// A refusal of a call that reads a record first.
+pub fn refused_record(why: RecordRefusal) -> [u64; FEW]
+    ensures { Few result (plain (refusal_words why)) }
 {
-    match answer {
-        Text::Bytes(n) => {
-            let mut numbers = [0u64; FEW];
-            numbers[places::TEXT_LENGTH] = n as u64;
-            numbers
-        }
-        Text::Refused(why) => refused(why),
+    match why {
+        RecordRefusal::Fault(fault) => wrong(fault),
+        RecordRefusal::Alone(alone) => refused(alone),
     }
 }
 
-pub fn key(answer: KeyAnswer) -> [u64; FEW]
+// A refusal's text: how many bytes it has.
+pub fn text(answer: Result<usize, Refusal>) -> [u64; FEW]
+    ensures { Few result (plain (Texts.words_of answer)) }
+{
+    match answer {
+        Ok(n) => count(n as u64),
+        Err(why) => refused(why),
+    }
+}
+
+pub fn key(answer: Result<u64, Refusal>) -> [u64; FEW]
     ensures { Few result (plain (Keys.words_of answer)) }
 {
     match answer {
-        KeyAnswer::Key(key) => {
-            let mut numbers = [0u64; FEW];
-            numbers[places::KEY] = key;
-            numbers
-        }
-        KeyAnswer::Refused(why) => refused(why),
+        Ok(key) => count(key),
+        Err(why) => refused(why),
     }
 }
 
 // 1 for true, 0 for false.
-pub(crate) fn flag(holds: bool) -> u64
+pub fn flag(holds: bool) -> u64
     ensures { result ≡ cond holds 1 0 }
 {
     if holds {
@@ -106,86 +125,73 @@ pub(crate) fn flag(holds: bool) -> u64
     0
 }
 
-// Whether a key is one that a stream can have.
-pub fn key_valid(holds: bool) -> [u64; FEW]
-    ensures { Few result (flagged holds) }
-{
-    let mut numbers = [0u64; FEW];
-    numbers[places::KEY_VALID] = flag(holds);
-    numbers
-}
-
 // A day count, or a none.
-pub fn day_count(answer: CountAnswer) -> [u64; FEW]
+pub fn day_count(answer: Option<u32>) -> [u64; FEW]
     ensures { Few result (count_words answer) }
 {
     match answer {
-        CountAnswer::Day(n) => counted_day(n as u64),
-        CountAnswer::NotADate => counted_day(NONE),
+        Some(n) => count(n as u64),
+        None => count(NONE),
     }
 }
 
-fn counted_day(n: u64) -> [u64; FEW]
-    ensures { Few result (counted n) }
-{
-    let mut numbers = [0u64; FEW];
-    numbers[places::DAY_COUNT] = n;
-    numbers
-}
-
-pub fn date(answer: DateAnswer) -> [u64; FEW]
+pub fn date(answer: Result<Date, Refusal>) -> [u64; FEW]
     ensures { Few result (plain (Dates.words_of answer)) }
 {
     match answer {
-        DateAnswer::Date { year, day } => {
+        Ok(date) => {
             let mut numbers = [0u64; FEW];
-            numbers[places::DATE_YEAR] = year as u64;
-            numbers[places::DATE_DAY] = day as u64;
+            numbers[places::DATE_YEAR] = date.year as u64;
+            numbers[places::DATE_DAY] = date.day as u64;
             numbers
         }
-        DateAnswer::Refused(why) => refused(why),
+        Err(why) => refused(why),
     }
 }
 
-// A refusal without a second number, as all 32 numbers of an answer.
-pub fn refused_alone(why: Refusal) -> [u64; NUMBERS]
-    ensures { Numbers result (plain (number_of why ∷ [])) }
+// All the numbers of an answer that has a few: zeros stand behind them.
+pub fn all(few: [u64; FEW]) -> [u64; NUMBERS]
+    ensures { result ≡ few ++ replicate (number_count - few_count) 0 }
 {
     let mut numbers = [0u64; NUMBERS];
-    numbers[places::REFUSAL] = refusals::number(why) as u64;
+    numbers[..FEW].copy_from_slice(&few);
     numbers
 }
 
 // The parts of a key: its kind and its four numbers.
-pub fn parts(answer: KeyParts) -> [u64; NUMBERS]
+pub fn parts(answer: Result<KeyParts, Refusal>) -> [u64; NUMBERS]
     ensures { Numbers result (plain (Keys.parts_words answer)) }
 {
     match answer {
-        KeyParts::Telemetry {
-            spacecraft,
-            source,
-            equipment,
-            stream,
-        } => five(
-            nesting::TELEMETRY_NUMBER as u64,
+        Ok(
+            KeyParts::Telemetry {
+                spacecraft,
+                source,
+                equipment,
+                stream,
+            },
+        ) => five(
+            u32::from(Kind::Telemetry) as u64,
             spacecraft as u64,
             source as u64,
             equipment as u64,
             stream as u64,
         ),
-        KeyParts::Rsr {
-            spacecraft,
-            station,
-            receiver,
-            subchannel,
-        } => five(
-            nesting::RSR_NUMBER as u64,
+        Ok(
+            KeyParts::Rsr {
+                spacecraft,
+                station,
+                receiver,
+                subchannel,
+            },
+        ) => five(
+            u32::from(Kind::Rsr) as u64,
             spacecraft as u64,
             station as u64,
             receiver as u64,
             subchannel as u64,
         ),
-        KeyParts::Refused(why) => refused_alone(why),
+        Err(why) => all(refused(why)),
     }
 }
 

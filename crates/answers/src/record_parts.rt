@@ -7,7 +7,7 @@ ghost use Rattle.answers.specs.inner.Numbers.{Few};
 ghost use Rattle.answers.specs.inner.Parts.{secondary_place, data_place, samples_place};
 
 use crate::{FEW, places};
-use sfdu::{Kind, Read, nesting};
+use sfdu::{Fault, Kind, Record, nesting};
 
 fn placed(start: u64, size: u64) -> [u64; FEW]
     ensures { Few result (given (start ∷ size ∷ [])) }
@@ -18,35 +18,27 @@ fn placed(start: u64, size: u64) -> [u64; FEW]
     numbers
 }
 
-pub fn secondary(found: Read) -> [u64; FEW]
+pub fn secondary(found: Result<Record, Fault>) -> [u64; FEW]
     ensures { Few result (given (secondary_place found)) }
 {
     match found {
-        Read::Record {
-            kind,
-            size: _,
-            primary: _,
-        } => placed(
+        Ok(found) => placed(
             nesting::SECONDARY_VALUE_AT as u64,
-            nesting::secondary_length(kind) as u64,
+            nesting::secondary_length(found.kind) as u64,
         ),
-        Read::Refused(_) => placed(0, 0),
+        Err(_) => placed(0, 0),
     }
 }
 
-pub fn data(found: Read) -> [u64; FEW]
+pub fn data(found: Result<Record, Fault>) -> [u64; FEW]
     ensures { Few result (given (data_place found)) }
 {
     match found {
-        Read::Record {
-            kind,
-            size,
-            primary: _,
-        } => placed(
-            nesting::data_value_at(kind) as u64,
-            data_length(kind, size) as u64,
+        Ok(found) => placed(
+            nesting::data_value_at(found.kind) as u64,
+            data_length(found.kind, found.size) as u64,
         ),
-        Read::Refused(_) => placed(0, 0),
+        Err(_) => placed(0, 0),
     }
 }
 

@@ -9,29 +9,25 @@ ghost use Rattle.answers.specs.Streams.{stepped};
 ghost use Rattle.answers.specs.inner.Numbers.{Few, Numbers};
 
 use crate::{FEW, NONE, NUMBERS, places, records};
-use sfdu::Read;
-use sfdu_stream::{Step, Stop, Walked};
-use sfdu_write::Write;
+use refusals::Refusal;
+use sfdu::{Fault, Record};
+use sfdu_stream::{Step, Walked};
 
-pub fn read(found: Read) -> [u64; NUMBERS]
+pub fn read(found: Result<Record, Fault>) -> [u64; NUMBERS]
     ensures { Numbers result (plain (Reading.words_of found)) }
 {
     match found {
-        Read::Record {
-            kind,
-            size,
-            primary,
-        } => records::record(kind, size, primary),
-        Read::Refused(fault) => records::wrong(fault),
+        Ok(found) => records::record(found),
+        Err(fault) => crate::all(crate::wrong(fault)),
     }
 }
 
-pub fn written(answer: Write) -> [u64; FEW]
+pub fn written(answer: Result<usize, Refusal>) -> [u64; FEW]
     ensures { Few result (plain (Writing.words_of answer)) }
 {
     match answer {
-        Write::Written(size) => crate::count(size as u64),
-        Write::Refused(why) => crate::refused(why),
+        Ok(size) => crate::count(size as u64),
+        Err(why) => crate::refused(why),
     }
 }
 
@@ -43,8 +39,8 @@ pub fn walked(found: Walked) -> [u64; NUMBERS]
     let place = found.place as u64;
     let stop = found.stop;
     match stop {
-        Stop::End => stopped(count, place, 0, 0),
-        Stop::Refused(fault) => {
+        Ok(()) => stopped(count, place, 0, 0),
+        Err(fault) => {
             let why = fault.refusal;
             stopped(count, place, refusals::number(why) as u64, fault.at as u64)
         }
@@ -63,18 +59,14 @@ fn stopped(count: u64, place: u64, stop: u64, second: u64) -> [u64; NUMBERS]
 }
 
 // A step: the numbers of read one, and the place of the cursor after it.
-pub fn step(found: Step) -> [u64; NUMBERS]
-    ensures { Numbers result (stepped (Walking.step_words found)) }
+pub fn step(step: Step) -> [u64; NUMBERS]
+    ensures { Numbers result (stepped (Walking.step_words step)) }
 {
-    match found {
-        Step::Found {
-            kind,
-            size,
-            primary,
-            next,
-        } => with_place(records::record(kind, size, primary), next.at as u64),
-        Step::Done(cursor) => with_place(no_record(), cursor.at as u64),
-        Step::Refused(fault, cursor) => with_place(records::wrong(fault), cursor.at as u64),
+    let place = step.next.at as u64;
+    match step.found {
+        Ok(Some(found)) => with_place(records::record(found), place),
+        Ok(None) => with_place(no_record(), place),
+        Err(fault) => with_place(crate::all(crate::wrong(fault)), place),
     }
 }
 

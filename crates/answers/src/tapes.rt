@@ -8,56 +8,44 @@ ghost use Rattle.answers.specs.Tapes as Fields;
 ghost use Rattle.answers.specs.inner.Numbers.{Few, Numbers, count_number};
 
 use crate::{FEW, NONE, NUMBERS, places};
+use idr::Tagged;
+use refusals::Refusal;
 
 // The answer of a call that only writes.
-pub fn outcome(answer: idr::Outcome) -> [u64; FEW]
+pub fn outcome(answer: Result<(), Refusal>) -> [u64; FEW]
     ensures { Few result (plain (outcome_number answer ∷ [])) }
 {
-    match answer {
-        idr::Outcome::Accepted => [0u64; FEW],
-        idr::Outcome::Refused(why) => crate::refused(why),
-    }
+    crate::done(answer)
 }
 
 // The record's source, its time tag and the recorder.
-pub fn origin(found: idr::Read) -> [u64; NUMBERS]
+pub fn origin(found: Result<Option<Tagged>, Refusal>) -> [u64; NUMBERS]
     ensures { Numbers result (Fields.origin (words_of found)) }
 {
     match found {
-        idr::Read::Tagged {
-            origin,
-            time,
-            recorder,
-            reduction: _,
-            status: _,
-            count: _,
-        } => with_recorder(
-            with_time(with_origin([0u64; NUMBERS], origin), time),
-            recorder,
+        Ok(Some(tagged)) => with_recorder(
+            with_time(with_origin([0u64; NUMBERS], tagged.origin), tagged.time),
+            tagged.recorder,
         ),
-        idr::Read::Untagged => no_origin(),
-        idr::Read::Refused(why) => crate::refused_alone(why),
+        Ok(None) => no_origin(),
+        Err(why) => crate::all(crate::refused(why)),
     }
 }
 
-// A medium band record: how it was reduced, and how many samples it has.
-pub fn reduction(found: idr::Read) -> [u64; NUMBERS]
+// A medium band record: how it was reduced, and how many samples it has. Twice, since the two calls give other fields.
+pub fn reduction(found: Result<Option<Tagged>, Refusal>) -> [u64; NUMBERS]
     ensures { Numbers result (Fields.reduction (words_of found)) }
 {
     match found {
-        idr::Read::Tagged {
-            origin: _,
-            time: _,
-            recorder: _,
-            reduction,
-            status,
-            count,
-        } => with_count(
-            with_status(with_reduction([0u64; NUMBERS], reduction), status),
-            count,
+        Ok(Some(tagged)) => with_count(
+            with_status(
+                with_reduction([0u64; NUMBERS], tagged.reduction),
+                tagged.status,
+            ),
+            tagged.count,
         ),
-        idr::Read::Untagged => no_reduction(),
-        idr::Read::Refused(why) => crate::refused_alone(why),
+        Ok(None) => no_reduction(),
+        Err(why) => crate::all(crate::refused(why)),
     }
 }
 
@@ -148,19 +136,10 @@ fn with_status(begun: [u64; NUMBERS], status: idr::Status) -> [u64; NUMBERS]
     numbers
 }
 
-fn with_count(begun: [u64; NUMBERS], count: idr::Count) -> [u64; NUMBERS]
+fn with_count(begun: [u64; NUMBERS], count: Option<u32>) -> [u64; NUMBERS]
     ensures { result ≡ sets begun 15 (count_number count ∷ []) }
 {
     let mut numbers = begun;
-    numbers[places::TAPE_COUNT] = count_number(count);
+    numbers[places::TAPE_COUNT] = count.map_or(NONE, u64::from);
     numbers
-}
-
-fn count_number(count: idr::Count) -> u64
-    ensures { result ≡ count_number count }
-{
-    match count {
-        idr::Count::Samples(n) => n as u64,
-        idr::Count::Unknown => NONE,
-    }
 }

@@ -6,6 +6,8 @@ use mathlib.Core.Path.{◌≡◌, refl, sym, ap, ◌∙◌}
 use lib.Bits.{bit_xor}
 use lib.ListN.{length, get_or, drop, replicate}
 use lib.Seq.{drop_at}
+use Rattle.std.specs.Prelude.{Ok, Err}
+use Rattle.refusals.specs.declared.Refusal.{Refusal}
 use Rattle.ledger_season.proofs.Read.{length-sheets}
 use Rattle.ledger_season.specs.declared.SeasonReport.{SeasonReport}
 use Rattle.ledger_season.specs.Report.{most_sheets}
@@ -32,7 +34,7 @@ few-onto {numbers = ns} promised e f =
 
 -- ---- a season
 
-pub season-onto : {words : List ℕ} (r : SeasonReport) → Answers words r → bit_xor r.count (counts_onto (counts_words r.total)) ≡ season_onto words
+pub season-onto : {words : List ℕ} (r : SeasonReport) → Answers words (Ok r) → bit_xor r.count (counts_onto (counts_words r.total)) ≡ season_onto words
 season-onto r e =
     let count : length r.sheets ≡ most_sheets = ap (λ (p : ℕ × List ℕ). p.0) e in
     let sheets = sheets_words r.sheets in
@@ -42,3 +44,8 @@ season-onto r e =
     ap (λ (l : List ℕ). drop (3 * most_sheets) l) (append_assoc sheets (counts_words r.total) (or_further r.gap []))
     ∙ drop_at sheets further (3 * most_sheets) size in
     sym (ap (λ (l : List ℕ). bit_xor r.count (counts_onto l)) behind) ∙ ap (λ (p : ℕ × List ℕ). season_onto p.1) e
+
+-- A refused season has no sheet, and zeros.
+pub refused-onto : {words : List ℕ} (why : Refusal) → Answers words (Err why) → 0 ≡ season_onto words
+unfolding sheets_words
+refused-onto why e = ap (λ (p : ℕ × List ℕ). season_onto p.1) e

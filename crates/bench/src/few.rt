@@ -10,7 +10,6 @@ ghost use Rattle.answers.specs.Numbers.{numbers_of, plain};
 ghost use Rattle.bench.specs.inner.Digest.{few_onto, counts_onto, season_onto};
 
 use answers::{receivers, setting};
-use ledger_answers::ledgers;
 use ledger_season::SheetCounts;
 
 pub(crate) fn onto(numbers: [u64; answers::FEW]) -> u64
@@ -49,7 +48,7 @@ pub extern "C" fn bench_settings_add(
     ensures value { result ≡ few_onto (numbers_of (plain (on_sheet (add mission edition day frame) s.old).0)) }
     ensures s_after { s.new ≡ (on_sheet (add mission edition day frame) s.old).1 }
 {
-    onto(setting::answer(settings::add(s, mission, edition, day, frame)))
+    onto(answers::done(settings::add(s, mission, edition, day, frame)))
 }
 
 #[unsafe(no_mangle)]
@@ -64,17 +63,18 @@ pub extern "C" fn bench_convert(old: &[u8], new: &mut [u8]) -> u64
     ensures value { result ≡ few_onto (numbers_of (plain (convert_on old.now new.old).0)) }
     ensures after { new.new ≡ (convert_on old.now new.old).1 }
 {
-    onto(ledgers::answer(ledger_convert::convert(old, new)))
+    onto(answers::done(ledger_convert::convert(old, new)))
 }
 
-// The exclusive or of the season's number of sheets and its counts in all.
+// The exclusive or of the season's number of sheets and its counts in all, which are zeros if it is refused.
 #[unsafe(no_mangle)]
 pub extern "C" fn bench_season(s: &[u8]) -> u64
     ensures { result ≡ season_onto (season s.now) }
 {
-    let found = ledger_season::season(s);
-    let total = found.total;
-    found.count as u64 ^ counts_onto(total)
+    match ledger_season::season(s) {
+        Ok(report) => report.count as u64 ^ counts_onto(report.total),
+        Err(_) => crate::NOTHING,
+    }
 }
 
 fn counts_onto(c: SheetCounts) -> u64

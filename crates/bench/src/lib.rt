@@ -11,7 +11,7 @@ pub mod sheets;
 pub mod tapes;
 
 ghost use Rattle.std.specs.Prelude.{◌≡◌, [], ◌∷◌, ◌+◌, ◌*◌, ◌^◌, get_or};
-ghost use Rattle.ledger_sheet.specs.Words.{answer_words, report_answer_words};
+ghost use Rattle.ledger_sheet.specs.Words.{answer_words, report_values};
 ghost use Rattle.sfdu_headers.specs.Headers.{read_headers};
 ghost use Rattle.answers.specs.Numbers.{numbers_of};
 ghost use Rattle.sfdu_stream.specs.Listing.{walked};
@@ -21,7 +21,8 @@ ghost use Rattle.ledger_layout.specs.Layout.{call, on_sheet};
 ghost use Rattle.bench.specs.inner.Digest.{xor_of, flag, counts, counted};
 
 use ledger_sheet as sheet;
-use ledger_sheet::{Answer, ReportAnswer};
+use ledger_sheet::Report;
+use refusals::Refusal;
 
 // The first word of an accepted answer; and the number that changes nothing.
 const ACCEPTED: u64 = 0;
@@ -37,14 +38,12 @@ pub extern "C" fn bench_read_headers(s: &[u8], wanted: u32) -> u64
     xor_of(answers::records::headers(found))
 }
 
-// The exclusive or of the numbers, from the last.
+// The exclusive or of the numbers. By index, since it goes from the last number back, as the definition does.
 pub(crate) fn xor_of(numbers: [u64; answers::NUMBERS]) -> u64
     ensures { result ≡ xor_of numbers }
 {
     let mut all = NOTHING;
-    let mut i = answers::NUMBERS;
-    while 0 < i {
-        i -= 1;
+    for i in (0..answers::NUMBERS).rev() {
         all ^= numbers[i];
     }
     all
@@ -82,12 +81,13 @@ pub extern "C" fn bench_untick(s: &mut [u8], desk: u32, n: u32) -> u64
     said(ledger::untick(s, desk, n))
 }
 
-fn said(answer: Answer) -> u64
+// A number, since C takes it.
+fn said(answer: Result<(), Refusal>) -> u64
     ensures { result ∷ [] ≡ answer_words answer }
 {
     match answer {
-        Answer::Done => 0,
-        Answer::Refused(why) => refusals::number(why) as u64,
+        Ok(()) => 0,
+        Err(why) => refusals::number(why) as u64,
     }
 }
 
@@ -95,7 +95,10 @@ fn said(answer: Answer) -> u64
 pub extern "C" fn bench_report(s: &[u8], row: u32) -> u64
     ensures { result ≡ counts (on_sheet (call (Ask (RowReport row))) s.now).0 }
 {
-    reported(ledger::row_report(s, row))
+    match ledger::row_report(s, row) {
+        Ok(report) => reported(report),
+        Err(why) => refusals::number(why) as u64,
+    }
 }
 
 // The counting alone: the report of a row of a slice that has a sheet's length. Does not check the sheet.
@@ -113,17 +116,12 @@ pub extern "C" fn bench_count(s: &[u8], row: u32) -> u64
     reported(ledger_counts::row_report(s, row))
 }
 
-fn reported(answer: ReportAnswer) -> u64
-    ensures { result ≡ counts (report_answer_words answer) }
+fn reported(report: Report) -> u64
+    ensures { result ≡ counts (0 ∷ report_values report) }
 {
-    match answer {
-        ReportAnswer::Whole { ticked } => packed(ticked, 0) ^ NOTHING,
-        ReportAnswer::Gaps {
-            ticked,
-            missing,
-            lowest,
-        } => packed(ticked, missing) ^ lowest as u64,
-        ReportAnswer::Refused(why) => refusals::number(why) as u64,
+    match report.gaps {
+        None => packed(report.ticked, 0) ^ NOTHING,
+        Some(gaps) => packed(report.ticked, gaps.missing) ^ gaps.lowest as u64,
     }
 }
 

@@ -1,9 +1,10 @@
 // The replay of a trace.
 ghost use Rattle.std.specs.Prelude.{◌≡◌};
-ghost use Rattle.ledger_replay.specs.Replay.{replayed_words, replay_on, replay_on_sheet};
+ghost use Rattle.ledger_replay.specs.Replay.{answered_words, replayed_words, replay_on, replay_on_sheet};
 ghost use Rattle.bench.specs.inner.Digest.{sum_of};
 
-use ledger_replay::Replayed;
+use ledger_replay::Difference;
+use refusals::Refusal;
 
 #[unsafe(no_mangle)]
 pub extern "C" fn bench_replay(t: &[u8], s: &mut [u8]) -> u64
@@ -20,12 +21,23 @@ pub extern "C" fn bench_replay_on(t: &[u8], s: &mut [u8]) -> u64
     said(ledger_replay::replay_on(t, s))
 }
 
-fn said(answer: Replayed) -> u64
+// A number, since C takes it.
+fn said(answer: Result<Option<Difference>, Refusal>) -> u64
     ensures { result ≡ sum_of (replayed_words answer) }
 {
     match answer {
-        Replayed::Same => 0,
-        Replayed::Differs { entry, number, row } => entry as u64 + number as u64 + row as u64,
-        Replayed::Refused(why) => refusals::number(why) as u64,
+        Ok(None) => 0,
+        Ok(Some(found)) => found.entry as u64 + answered(found.answer),
+        Err(why) => refusals::number(why) as u64,
+    }
+}
+
+// What an entry's call answered: the row or the refusal's number. A number, since C takes it.
+fn answered(answer: Result<u32, Refusal>) -> u64
+    ensures { result ≡ sum_of (answered_words answer) }
+{
+    match answer {
+        Ok(row) => row as u64,
+        Err(why) => refusals::number(why) as u64,
     }
 }

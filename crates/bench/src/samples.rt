@@ -3,7 +3,7 @@ ghost use Rattle.std.specs.Prelude.{◌≡◌};
 ghost use Rattle.sfdu_samples.specs.Calls.{words_of, unpacking, packing};
 ghost use Rattle.bench.specs.inner.Digest.{tallied};
 
-use sfdu_samples::Answer;
+use sfdu::RecordRefusal;
 
 #[unsafe(no_mangle)]
 pub extern "C" fn bench_unpack(s: &[u8], list: &mut [i32]) -> u64
@@ -21,16 +21,16 @@ pub extern "C" fn bench_pack(size: u32, rate: u32, samples: &[i32], out: &mut [u
     tally(sfdu_samples::pack(size, rate, samples, out))
 }
 
-// The count, or the refusal's number.
-fn tally(answer: Answer) -> u64
+// The count, or the refusal's number. A number, since C takes it.
+fn tally(answer: Result<usize, RecordRefusal>) -> u64
     ensures { result ≡ tallied (words_of answer) }
 {
     match answer {
-        Answer::Count(n) => n as u64,
-        Answer::Header(fault) => {
+        Ok(n) => n as u64,
+        Err(RecordRefusal::Fault(fault)) => {
             let why = fault.refusal;
             refusals::number(why) as u64
         }
-        Answer::Refused(why) => refusals::number(why) as u64,
+        Err(RecordRefusal::Alone(why)) => refusals::number(why) as u64,
     }
 }

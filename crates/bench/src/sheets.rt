@@ -43,5 +43,5 @@ pub extern "C" fn bench_missing(s: &[u8], row: u32, list: &mut [u32]) -> u64
     ensures value { result ≡ few_onto (numbers_of (plain (missing_on row s.now list.old).0)) }
     ensures list_after { list.new ≡ (missing_on row s.now list.old).1 }
 {
-    few::onto(ledgers::missing(ledger_missing::missing_numbers(s, row, list)))
+    few::onto(ledgers::number(ledger_missing::missing_numbers(s, row, list)))
 }

@@ -13,19 +13,12 @@ pub extern "C" fn bench_read_tape(s: &[u8]) -> u64
 {
     let found = idr::read_record(s);
     match found {
-        idr::Read::Tagged {
-            origin,
-            time,
-            recorder,
-            reduction,
-            status,
-            count,
-        } => {
-            let last = reduced_onto(reduction, status, count);
-            ACCEPTED ^ recorded_onto(origin, time, recorder, last)
+        Ok(Some(tagged)) => {
+            let last = reduced_onto(tagged.reduction, tagged.status, tagged.count);
+            ACCEPTED ^ recorded_onto(tagged.origin, tagged.time, tagged.recorder, last)
         }
-        idr::Read::Untagged => ACCEPTED ^ NOTHING,
-        idr::Read::Refused(why) => refusals::number(why) as u64 ^ NOTHING,
+        Ok(None) => ACCEPTED ^ NOTHING,
+        Err(why) => refusals::number(why) as u64 ^ NOTHING,
     }
 }
 
@@ -35,7 +28,7 @@ fn recorded_onto(origin: idr::Origin, time: idr::Time, recorder: idr::Recorder, 
     origin_onto(origin, time_onto(time, recorder_onto(recorder, rest)))
 }
 
-fn reduced_onto(reduction: idr::Reduction, status: idr::Status, count: idr::Count) -> u64
+fn reduced_onto(reduction: idr::Reduction, status: idr::Status, count: Option<u32>) -> u64
     ensures { result ≡ digest (map number (reduction_words reduction ++ status_words status ++ count_words count)) }
 {
     reduction_onto(reduction, status_onto(status, counted(count)))
@@ -78,11 +71,11 @@ fn status_onto(f: idr::Status, rest: u64) -> u64
     f.day as u64 ^ (f.second as u64 ^ (f.overflow as u64 ^ last))
 }
 
-fn counted(count: idr::Count) -> u64
+fn counted(count: Option<u32>) -> u64
     ensures { result ≡ digest (map number (count_words count)) }
 {
     match count {
-        idr::Count::Samples(n) => n as u64 ^ NOTHING,
-        idr::Count::Unknown => NOTHING,
+        Some(n) => n as u64 ^ NOTHING,
+        None => NOTHING,
     }
 }

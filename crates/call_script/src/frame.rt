@@ -1,8 +1,8 @@
 // Reads a frame of the script on standard input.
-use call_script_text::Frame;
+use call_script_text::{Frame, Op};
 use octets::numbers;
 use std::io::Stdin;
-use streaming::Said;
+use streaming::Failure;
 
 const HEADER: usize = 40;
 
@@ -33,83 +33,62 @@ const MOST_B: usize = 66000;
 
 pub const MOST_RUNS: usize = MOST_A + MOST_B;
 
-// What comes next in the script.
+// Why no frame can be read: the read failed, or the frame is a bad one. Its own enum, since a bad frame is no failure of a read, and a None in its
+// place would not name it.
 #[derive(Clone, Copy)]
-pub enum Next {
-    End,
-    Failed(Said),
+pub enum Broken {
+    Failed(Failure),
     Bad,
-    Frame(Frame),
 }
 
-// Reads a frame, and its two runs to the start of `runs`, one after the other.
-pub(crate) fn read(from: &mut Stdin, runs: &mut [u8]) -> Next {
+impl From<Failure> for Broken {
+    fn from(failure: Failure) -> Broken {
+        Broken::Failed(failure)
+    }
+}
+
+// Reads a frame, and its two runs to the start of `runs`, one after the other. None at the end of the script.
+// A fixed array, since a program's buffers have a fixed size, on the stack, and each header has this length.
+pub(crate) fn read(from: &mut Stdin, runs: &mut [u8]) -> Result<Option<Frame>, Broken> {
     let mut header = [0u8; HEADER];
-    let piece = streaming::read_full(from, &mut header);
-    let said = piece.said;
-    if streaming::has_failed(said) {
-        return Next::Failed(said);
+    let got = streaming::read_full(from, &mut header)?;
+    if got == 0 {
+        return Ok(None);
     }
-    if piece.got == 0 {
-        return Next::End;
+    if got < HEADER {
+        return Err(Broken::Bad);
     }
-    if piece.got < HEADER {
-        return Next::Bad;
-    }
-    read_runs(from, runs, read_header(&header))
+    let a = numbers::read_u32(&header, LENGTH_A_AT) as usize;
+    let b = numbers::read_u32(&header, LENGTH_B_AT) as usize;
+    read_runs(from, runs, a, b)?;
+    let Ok(op) = Op::try_from(numbers::read_u32(&header, OP_AT)) else {
+        return Err(Broken::Bad);
+    };
+    Ok(Some(Frame {
+        op,
+        x: numbers::read_u32(&header, X_AT),
+        y: numbers::read_u32(&header, Y_AT),
+        z: numbers::read_u32(&header, Z_AT),
+        w: numbers::read_u32(&header, W_AT),
+        key: numbers::read_u64(&header, KEY_AT),
+        a,
+        b,
+    }))
 }
 
-fn read_header(header: &[u8; HEADER]) -> Frame {
-    let s: &[u8] = header;
-    Frame {
-        op: numbers::read_u32(s, OP_AT),
-        x: numbers::read_u32(s, X_AT),
-        y: numbers::read_u32(s, Y_AT),
-        z: numbers::read_u32(s, Z_AT),
-        w: numbers::read_u32(s, W_AT),
-        key: numbers::read_be(s, KEY_AT, KEY),
-        a: numbers::read_u32(s, LENGTH_A_AT) as usize,
-        b: numbers::read_u32(s, LENGTH_B_AT) as usize,
-    }
-}
-
-// The frame, if its runs are not too long, have room, and can be read.
-fn read_runs(from: &mut Stdin, runs: &mut [u8], f: Frame) -> Next {
-    let a = f.a;
-    let b = f.b;
-    if MOST_A < a {
-        return Next::Bad;
-    }
-    if MOST_B < b {
-        return Next::Bad;
+// Reads the runs, if they are not too long, have room, and are whole.
+fn read_runs(from: &mut Stdin, runs: &mut [u8], a: usize, b: usize) -> Result<(), Broken> {
+    if MOST_A < a || MOST_B < b || runs.len() < a + b {
+        return Err(Broken::Bad);
     }
     let n = a + b;
-    if runs.len() < n {
-        return Next::Bad;
+    if streaming::read_full(from, &mut runs[..n])? < n {
+        return Err(Broken::Bad);
     }
-    let piece = streaming::read_full(from, &mut runs[..n]);
-    let said = piece.said;
-    if streaming::has_failed(said) {
-        return Next::Failed(said);
-    }
-    if piece.got < n {
-        return Next::Bad;
-    }
-    Next::Frame(f)
-}
-
-// The first n bytes of s; all of s if it has fewer.
-pub(crate) fn first(s: &[u8], n: usize) -> &[u8] {
-    if s.len() < n {
-        return s;
-    }
-    &s[..n]
+    Ok(())
 }
 
 // The bytes behind the first n of s; all of s if it has fewer.
 pub(crate) fn behind(s: &[u8], n: usize) -> &[u8] {
-    if s.len() < n {
-        return s;
-    }
-    &s[n..]
+    s.get(n..).unwrap_or(s)
 }

@@ -2,8 +2,6 @@
 
 #![tactic(auto)]
 
-ghost use Rattle.std.specs.Prelude.{◌<◌};
-
 mod calls;
 mod frame;
 mod receives;
@@ -12,8 +10,9 @@ mod setting;
 mod sheets;
 
 use arguments::Asked;
-use call_script_text::{Frame, line, ops};
-use frame::Next;
+use call_script_text::{Frame, Op, line};
+use frame::Broken;
+use streaming::Failure;
 
 // The lengths of the buffers of the sheet, the settings and the text.
 const MOST_SHEET: usize = 8192;
@@ -34,13 +33,26 @@ struct Lengths {
     settings: usize,
 }
 
-// The state of a run: the lengths, how much text is not written yet, and whether the run goes on.
+// The state of a run: the lengths, and how much text is not written yet.
 #[derive(Clone, Copy)]
 struct State {
     kept: Lengths,
     text: usize,
-    on: bool,
 }
+
+// Says that a run ends: the script has ended, has a bad frame or cannot be read, or the text cannot be written.
+#[derive(Clone, Copy)]
+pub struct Ended;
+
+impl From<Failure> for Ended {
+    fn from(_failure: Failure) -> Ended {
+        Ended
+    }
+}
+
+const USAGE: &str = "\
+usage: call_script < SCRIPT\n\
+Makes the calls of a script, docs/call-script.md, and writes a line for each: 0 and the answer, or the refusal's number.\n";
 
 fn main(rt: HostRuntime) {
     let rt = &rt;
@@ -49,20 +61,11 @@ fn main(rt: HostRuntime) {
         make_calls(rt);
         return;
     }
-    let wanted = arguments::first_option(rt, count);
-    match wanted {
-        Asked::Help => tell_usage(&rt.stdout()),
-        _ => tell_usage(&rt.stderr()),
-    }
+    let asked = arguments::first_option(rt, count).unwrap_or(Asked::Unknown);
+    arguments::tell_usage(rt, asked, USAGE);
 }
 
-fn tell_usage(to: &impl Print) {
-    let _ = to.write_all(b"usage: call_script < SCRIPT\n");
-    let _ = to.write_all(
-        b"Makes the calls of a script, docs/call-script.md, and writes a line for each: 0 and the answer, or the refusal's number.\n",
-    );
-}
-
+// Lends the run its buffers. A fixed array, since a program's buffers have a fixed size, on the stack: each buffer has its longest length.
 fn make_calls(rt: &HostRuntime) {
     let mut runs = [0u8; frame::MOST_RUNS];
     let mut sheet = [0u8; MOST_SHEET];
@@ -78,14 +81,24 @@ fn run(rt: &HostRuntime, runs: &mut [u8], sheet: &mut [u8], settings: &mut [u8],
             settings: settings::SHEET,
         },
         text: 0,
-        on: true,
     };
-    let mut frames = streaming::TURNS;
-    while 0 < frames {
-        s = turn(rt, runs, sheet, settings, out, s);
-        frames = frames_left(s, frames);
+    let _ = take_frames(rt, runs, sheet, settings, out, &mut s);
+    let _ = flush(rt, out, &mut s);
+}
+
+// By index, since a loop that is proved must end, and the script need not: the number of a turn is not used.
+fn take_frames(
+    rt: &HostRuntime,
+    runs: &mut [u8],
+    sheet: &mut [u8],
+    settings: &mut [u8],
+    out: &mut [u8],
+    s: &mut State,
+) -> Result<(), Ended> {
+    for _turn in 0..streaming::TURNS {
+        turn(rt, runs, sheet, settings, out, s)?;
     }
-    flush(rt, out, s);
+    Ok(())
 }
 
 // One frame: makes its line, and writes the text once there is enough of it.
@@ -95,14 +108,15 @@ fn turn(
     sheet: &mut [u8],
     settings: &mut [u8],
     out: &mut [u8],
-    s: State,
-) -> State {
-    let next = take_frame(rt, runs, sheet, settings, out, s);
-    end_line(out, s.text, next.text);
-    if next.text <= ENOUGH {
-        return next;
+    s: &mut State,
+) -> Result<(), Ended> {
+    let at = s.text;
+    let taken = take_frame(rt, runs, sheet, settings, out, s);
+    end_line(out, at, s.text);
+    if ENOUGH < s.text {
+        flush(rt, out, s)?;
     }
-    flush(rt, out, next)
+    taken
 }
 
 // Ends a line: replaces its last space, if it has words, by a line end.
@@ -116,17 +130,6 @@ fn end_line(out: &mut [u8], at: usize, end: usize) {
     }
 }
 
-// How many more frames may be read; 0 once the run has ended.
-fn frames_left(s: State, frames: u64) -> u64
-    requires { 0 < frames }
-    ensures { result < frames }
-{
-    if s.on {
-        return frames - 1;
-    }
-    0
-}
-
 // Reads a frame and makes its call.
 fn take_frame(
     rt: &HostRuntime,
@@ -134,36 +137,22 @@ fn take_frame(
     sheet: &mut [u8],
     settings: &mut [u8],
     out: &mut [u8],
-    s: State,
-) -> State {
-    let next = frame::read(&mut rt.stdin(), runs);
-    match next {
-        Next::End => ended(s),
-        Next::Failed(said) => {
-            streaming::tell_failed(rt, b"standard input", said);
-            return ended(s);
+    s: &mut State,
+) -> Result<(), Ended> {
+    match frame::read(&mut rt.stdin(), runs) {
+        Ok(Some(f)) => answer(f, runs, sheet, settings, out, s),
+        Ok(None) => Err(Ended),
+        Err(Broken::Failed(failure)) => {
+            failure.tell(rt, b"standard input");
+            Err(Ended)
         }
-        Next::Bad => bad_frame(out, s),
-        Next::Frame(f) => answer(f, runs, sheet, settings, out, s),
+        Err(Broken::Bad) => bad_frame(out, s),
     }
 }
 
-fn ended(s: State) -> State {
-    let kept = s.kept;
-    State {
-        kept,
-        text: s.text,
-        on: false,
-    }
-}
-
-fn bad_frame(out: &mut [u8], s: State) -> State {
-    let kept = s.kept;
-    State {
-        kept,
-        text: line::letters(out, s.text, b"bad frame"),
-        on: false,
-    }
+fn bad_frame(out: &mut [u8], s: &mut State) -> Result<(), Ended> {
+    s.text = line::letters(out, s.text, b"bad frame");
+    Err(Ended)
 }
 
 fn answer(
@@ -172,51 +161,31 @@ fn answer(
     sheet: &mut [u8],
     settings: &mut [u8],
     out: &mut [u8],
-    s: State,
-) -> State {
-    let a = frame::first(runs, f.a);
-    let b = frame::first(frame::behind(runs, f.a), f.b);
-    let kept = s.kept;
-    let end = line_of(f, a, b, sheet, settings, kept, out, s.text);
+    s: &mut State,
+) -> Result<(), Ended> {
+    let a = call_script_text::first(runs, f.a);
+    let b = call_script_text::first(frame::behind(runs, f.a), f.b);
+    let end = calls::call(f, a, b, sheet, settings, s.kept, out, s.text);
     if end == s.text {
         return bad_frame(out, s);
     }
-    State {
-        kept: kept_after(f, kept),
-        text: end,
-        on: true,
-    }
-}
-
-fn line_of(
-    f: Frame,
-    a: &[u8],
-    b: &[u8],
-    sheet: &mut [u8],
-    settings: &mut [u8],
-    kept: Lengths,
-    out: &mut [u8],
-    at: usize,
-) -> usize {
-    if f.op < ops::NEW_SETTINGS {
-        return calls::call(f, a, b, sheet, kept.sheet, out, at);
-    }
-    setting::call(f, a, settings, kept.settings, out, at)
+    s.kept = kept_after(f, s.kept);
+    s.text = end;
+    Ok(())
 }
 
 // The lengths after a frame.
 fn kept_after(f: Frame, kept: Lengths) -> Lengths {
-    let op = f.op;
-    match op {
-        ops::NEW_SHEET => Lengths {
+    match f.op {
+        Op::NewSheet => Lengths {
             sheet: f.a,
             settings: kept.settings,
         },
-        ops::CONVERT => Lengths {
+        Op::Convert => Lengths {
             sheet: f.z as usize,
             settings: kept.settings,
         },
-        ops::NEW_SETTINGS => Lengths {
+        Op::NewSettings => Lengths {
             sheet: kept.sheet,
             settings: f.a,
         },
@@ -224,13 +193,9 @@ fn kept_after(f: Frame, kept: Lengths) -> Lengths {
     }
 }
 
-// Writes the text in the buffer. If it cannot, the run ends.
-fn flush(rt: &HostRuntime, out: &[u8], s: State) -> State {
-    let said = streaming::write_out(rt, frame::first(out, s.text));
-    let kept = s.kept;
-    State {
-        kept,
-        text: 0,
-        on: s.on & !streaming::has_failed(said),
-    }
+// Writes the text in the buffer.
+fn flush(rt: &HostRuntime, out: &[u8], s: &mut State) -> Result<(), Failure> {
+    let n = s.text;
+    s.text = 0;
+    streaming::write_out(rt, call_script_text::first(out, n))
 }

@@ -1,5 +1,5 @@
 // The lines of the calls on the ledger sheet that are also lent a list: missing numbers, and receive.
-use call_script_text::{Frame, crc, line, ops};
+use call_script_text::{Frame, Op, crc, line};
 use ledger_answers::{ledgers, streams};
 
 // The longest list, and what it holds before the call.
@@ -33,15 +33,15 @@ pub(crate) fn line(
     let mut numbers = [FILL; MOST_NUMBERS];
     let list = &mut numbers[..z];
     let end = call(f, a, s, list, out, at);
-    let listed = line::number(out, end, crc::crc_of_numbers(list) as u64);
-    line::number(out, listed, crc::crc(s) as u64)
+    let listed = line::number(out, end, u64::from(crc::crc_of_numbers(list)));
+    line::number(out, listed, u64::from(crc::crc(s)))
 }
 
 fn call(f: Frame, a: &[u8], s: &mut [u8], list: &mut [u32], out: &mut [u8], at: usize) -> usize {
-    if f.op == ops::MISSING_NUMBERS {
+    if f.op == Op::MissingNumbers {
         let found = ledger_missing::missing_numbers(s, f.x, list);
-        return line::told(out, at, ledgers::missing(found), MISSING);
+        return line::told(out, at, &ledgers::number(found), MISSING);
     }
     let found = ledger_receive::receive(s, f.x, a, list);
-    line::told_of(out, at, streams::received(found), RECEIVED)
+    line::told(out, at, &streams::received(found), RECEIVED)
 }

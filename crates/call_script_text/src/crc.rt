@@ -9,27 +9,43 @@ const TABLE: [u32; 16] = [
 ];
 
 pub fn crc(s: &[u8]) -> u32 {
-    let mut register = ALL_ONES;
-    for i in 0..s.len() {
-        register = byte(register, wide(s[i]));
-    }
-    register ^ ALL_ONES
+    over(ALL_ONES, s) ^ ALL_ONES
 }
 
 // The CRC of numbers of four bytes, highest byte first.
-pub fn crc_of_numbers(list: &[u32]) -> u32 {
+pub fn crc_of_numbers<T: Number>(list: &[T]) -> u32 {
     let mut register = ALL_ONES;
-    for i in 0..list.len() {
-        register = four_bytes(register, list[i]);
+    for n in list {
+        register = over(register, &n.bytes());
     }
     register ^ ALL_ONES
 }
 
-fn four_bytes(register: u32, n: u32) -> u32 {
-    let one = byte(register, n / 16777216);
-    let two = byte(one, n / 65536 % 256);
-    let three = byte(two, n / 256 % 256);
-    byte(three, n % 256)
+// A number of four bytes; a negative one in two's complement.
+pub trait Number {
+    // The bytes, highest first.
+    fn bytes(&self) -> [u8; 4];
+}
+
+impl Number for u32 {
+    fn bytes(&self) -> [u8; 4] {
+        self.to_be_bytes()
+    }
+}
+
+impl Number for i32 {
+    fn bytes(&self) -> [u8; 4] {
+        self.to_be_bytes()
+    }
+}
+
+// The register after more bytes.
+fn over(register: u32, s: &[u8]) -> u32 {
+    let mut after = register;
+    for b in s {
+        after = byte(after, u32::from(*b));
+    }
+    after
 }
 
 fn byte(register: u32, value: u32) -> u32 {
@@ -39,8 +55,4 @@ fn byte(register: u32, value: u32) -> u32 {
 fn four_bits(register: u32) -> u32 {
     let i = (register % 16) as usize;
     (register / 16) ^ TABLE[i]
-}
-
-fn wide(x: u8) -> u32 {
-    x as u32
 }

@@ -5,15 +5,18 @@
 pub mod crc;
 pub mod line;
 mod lists;
-pub mod ops;
+mod ops;
 mod records;
-pub mod samples;
+mod samples;
 mod tapes;
+
+pub use ops::{Op, UnknownOp};
+use refusals::Refusal;
 
 // A frame: the op, its numbers, and the lengths of the two runs of bytes that follow it.
 #[derive(Clone, Copy)]
 pub struct Frame {
-    pub op: u32,
+    pub op: Op,
     pub x: u32,
     pub y: u32,
     pub z: u32,
@@ -29,7 +32,7 @@ pub const ACCEPTED: u64 = 0;
 // What lent bytes hold before a call writes them; and how many bytes write one and pack are lent at most.
 pub const FILL: u8 = 165;
 
-pub const MOST_SLICE: usize = 70000;
+const MOST_SLICE: usize = 70000;
 
 // How many numbers an accepted answer has.
 const KEY: usize = 2;
@@ -38,34 +41,35 @@ const DATE: usize = 3;
 
 const PARTS: usize = 6;
 
-// Makes a call that is lent no sheet, by its op. The line of a bad frame has no words.
+// The first n elements of s; all of s if it has fewer.
+pub fn first<T>(s: &[T], n: usize) -> &[T] {
+    s.get(..n).unwrap_or(s)
+}
+
+// Makes a call that is lent no sheet. The line of a bad frame has no words.
 pub fn on_bytes(f: Frame, a: &[u8], b: &[u8], out: &mut [u8], at: usize) -> usize {
-    let op = f.op;
-    match op {
-        ops::READ_ONE => records::read_one(a, out, at),
-        ops::SECONDARY_PART => records::part(sfdu::secondary_part(a), out, at),
-        ops::DATA_PART => records::part(sfdu::data_part(a), out, at),
-        ops::READ_HEADERS => records::read_headers(a, f.x, out, at),
-        ops::WRITE_ONE => records::write_one(f, a, b, out, at),
-        ops::TELEMETRY_KEY => line::told(
-            out,
-            at,
-            answers::key(keys::telemetry_key(f.x, f.y, f.z, f.w)),
-            KEY,
-        ),
-        ops::RSR_KEY => line::told(
-            out,
-            at,
-            answers::key(keys::rsr_key(f.x, f.y, f.z, f.w)),
-            KEY,
-        ),
-        ops::WALK => records::stopped(out, at, sfdu_stream::walk(a)),
-        ops::LIST_NUMBERS => lists::list_numbers(f, a, out, at),
-        ops::KEY_PARTS => line::told_of(out, at, answers::parts(keys::parts(f.key)), PARTS),
-        ops::STEP => records::step(a, f.key, out, at),
-        ops::DATE_OF => line::told(out, at, answers::date(dates::date_of(f.x)), DATE),
-        ops::READ_TAPE => tapes::read(a, out, at),
-        ops::WRITE_TAPE => tapes::write(f, a, b, out, at),
+    match f.op {
+        Op::ReadOne => records::read_one(a, out, at),
+        Op::SecondaryPart => records::part(sfdu::secondary_part(a), out, at),
+        Op::DataPart => records::part(sfdu::data_part(a), out, at),
+        Op::ReadHeaders => records::read_headers(a, f.x, out, at),
+        Op::WriteOne => records::write_one(f, a, b, out, at),
+        Op::TelemetryKey => key(keys::telemetry_key(f.x, f.y, f.z, f.w), out, at),
+        Op::RsrKey => key(keys::rsr_key(f.x, f.y, f.z, f.w), out, at),
+        Op::Walk => records::walked(sfdu_stream::walk(a), out, at),
+        Op::ListNumbers => lists::list_numbers(f, a, out, at),
+        Op::KeyParts => line::told(out, at, &answers::parts(keys::parts(f.key)), PARTS),
+        Op::Step => records::step(a, f.key, out, at),
+        Op::DateOf => line::told(out, at, &answers::date(dates::date_of(f.x)), DATE),
+        Op::Unpack => samples::unpack(f, a, out, at),
+        Op::Pack => samples::pack(f, a, out, at),
+        Op::Gain => samples::gain(a, f.x, out, at),
+        Op::ReadTape => tapes::read(a, out, at),
+        Op::WriteTape => tapes::write(f, a, b, out, at),
         _ => at,
     }
+}
+
+fn key(found: Result<u64, Refusal>, out: &mut [u8], at: usize) -> usize {
+    line::told(out, at, &answers::key(found), KEY)
 }

@@ -1,6 +1,5 @@
 // The words of a line. Each function writes its words into a lent slice from index `at` on, with a space behind each, and gives the index behind
 // them. The slice has room for the longest line; a word that has no room is left out.
-use answers::places;
 use refusals::Refusal;
 
 const SPACE: u8 = b' ';
@@ -29,6 +28,7 @@ pub fn letters(out: &mut [u8], at: usize, text: &[u8]) -> usize {
     end + 1
 }
 
+// A fixed array, since there is no heap here, and `io::decimal` is lent room for the longest number.
 pub fn number(out: &mut [u8], at: usize, n: u64) -> usize {
     let mut digits = [0u8; MOST_DIGITS];
     let k = io::decimal(n, &mut digits);
@@ -59,61 +59,57 @@ pub fn maybe(out: &mut [u8], at: usize, n: u64) -> usize {
     number(out, at, n)
 }
 
-// Writes the numbers of a list from index `from` to below `to`.
-pub fn numbers(out: &mut [u8], at: usize, list: &[u64], from: usize, to: usize) -> usize {
+// Writes the numbers of a list.
+pub fn numbers<T: Copy + Into<u64>>(out: &mut [u8], at: usize, list: &[T]) -> usize {
     let mut end = at;
-    for i in from..to {
-        if list.len() <= i {
-            return end;
-        }
-        end = number(out, end, list[i]);
+    for n in list {
+        end = number(out, end, (*n).into());
     }
     end
 }
 
+// Writes a refusal's number.
+pub fn refused(out: &mut [u8], at: usize, why: Refusal) -> usize {
+    number(out, at, u64::from(refusals::number(why)))
+}
+
 // How many numbers of an answer its line has: `accepted` if it is accepted. A refusal up to 12 (field range) has two numbers, any other one.
-pub fn told_count(first: u64, accepted: usize) -> usize {
+fn told_count(first: u64, accepted: usize) -> usize {
     if first == crate::ACCEPTED {
         return accepted;
     }
-    if first <= refusals::number(Refusal::FieldRange) as u64 {
+    if first <= u64::from(refusals::number(Refusal::FieldRange)) {
         return PLACED;
     }
     REFUSED
 }
 
 // Writes the first numbers of an answer; `accepted` of them if it is accepted.
-pub fn told(out: &mut [u8], at: usize, answer: [u64; answers::FEW], accepted: usize) -> usize {
-    let n = told_count(answer[places::REFUSAL], accepted);
-    numbers(out, at, &answer, 0, n)
-}
-
-// The same for an answer with more numbers.
-pub fn told_of(
+pub fn told<const N: usize>(
     out: &mut [u8],
     at: usize,
-    answer: [u64; answers::NUMBERS],
+    answer: &[u64; N],
     accepted: usize,
 ) -> usize {
-    let n = told_count(answer[places::REFUSAL], accepted);
-    numbers(out, at, &answer, 0, n)
+    let Some(first) = answer.first() else {
+        return at;
+    };
+    let n = told_count(*first, accepted);
+    numbers(out, at, crate::first(answer, n))
 }
 
 // The same for an answer whose numbers from index i on can be a none, which is one word.
 pub fn told_or(
     out: &mut [u8],
     at: usize,
-    answer: [u64; answers::FEW],
+    answer: &[u64; answers::FEW],
     accepted: usize,
     i: usize,
     word: &[u8],
 ) -> usize {
-    if answers::FEW <= i {
-        return at;
+    if answer.get(i) != Some(&answers::NONE) {
+        return told(out, at, answer, accepted);
     }
-    if answer[i] == answers::NONE {
-        let end = numbers(out, at, &answer, 0, i);
-        return letters(out, end, word);
-    }
-    told(out, at, answer, accepted)
+    let end = numbers(out, at, crate::first(answer, i));
+    letters(out, end, word)
 }

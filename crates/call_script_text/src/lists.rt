@@ -28,35 +28,9 @@ pub(crate) fn list_numbers(f: Frame, s: &[u8], out: &mut [u8], at: usize) -> usi
         &mut kinds[..z],
         &mut record_numbers[..w],
     );
-    let begun = records::stopped(out, at, walked);
-    let placed = long_numbers(out, begun, &places, x);
-    let measured = long_numbers(out, placed, &lengths, y);
-    let sorted = short_numbers(out, measured, &kinds, z);
-    short_numbers(out, sorted, &record_numbers, w)
-}
-
-// The first n numbers of a list.
-fn long_numbers(out: &mut [u8], at: usize, list: &[u64; MOST_LIST], n: usize) -> usize {
-    let s: &[u64] = list;
-    line::numbers(out, at, s, 0, n)
-}
-
-fn short_numbers(out: &mut [u8], at: usize, list: &[u32; MOST_LIST], n: usize) -> usize {
-    let s: &[u32] = list;
-    narrow(out, at, s, n)
-}
-
-fn narrow(out: &mut [u8], at: usize, list: &[u32], n: usize) -> usize {
-    let mut end = at;
-    for i in 0..n {
-        if list.len() <= i {
-            return end;
-        }
-        end = line::number(out, end, wide(list[i]));
-    }
-    end
-}
-
-fn wide(n: u32) -> u64 {
-    n as u64
+    let begun = records::walked(walked, out, at);
+    let placed = line::numbers(out, begun, &places[..x]);
+    let measured = line::numbers(out, placed, &lengths[..y]);
+    let sorted = line::numbers(out, measured, &kinds[..z]);
+    line::numbers(out, sorted, &record_numbers[..w])
 }

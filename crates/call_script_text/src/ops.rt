@@ -1,85 +1,112 @@
 // The ops of a script, each named after its call. docs/call-script.md says what each takes and what its line has.
-pub const READ_ONE: u32 = 1;
 
-pub const SECONDARY_PART: u32 = 2;
+// The numbers are those of the ops in frames.
+#[derive(Clone, Copy, PartialEq, Eq)]
+pub enum Op {
+    ReadOne = 1,
+    SecondaryPart = 2,
+    DataPart = 3,
+    ReadHeaders = 4,
+    WriteOne = 5,
+    TelemetryKey = 6,
+    RsrKey = 7,
+    Walk = 8,
+    ListNumbers = 9,
+    KeyParts = 10,
+    Step = 11,
+    DateOf = 12,
+    Unpack = 13,
+    Pack = 14,
+    Gain = 15,
+    ReadTape = 16,
+    WriteTape = 17,
 
-pub const DATA_PART: u32 = 3;
+    // The first op on the sheet. It makes the sheet as long as the frame's first run.
+    NewSheet = 19,
+    Fresh = 20,
+    Enrol = 21,
+    Find = 22,
+    Open = 23,
+    Tick = 24,
+    Untick = 25,
+    Save = 26,
+    Drop = 27,
+    RowReport = 28,
+    FirstGap = 29,
+    Strike = 30,
 
-pub const READ_HEADERS: u32 = 4;
+    // This op makes the sheet as long as the frame says.
+    Convert = 31,
+    Replay = 32,
+    Season = 33,
+    Row = 34,
+    Desk = 35,
+    MissingNumbers = 36,
+    Receive = 37,
+    ReplayOn = 38,
 
-pub const WRITE_ONE: u32 = 5;
+    // The first op on the settings. It makes them as long as the frame's first run.
+    NewSettings = 39,
+    MakeEmpty = 40,
+    Add = 41,
+    Ask = 42,
+}
 
-pub const TELEMETRY_KEY: u32 = 6;
+// A number that no op has.
+#[derive(Clone, Copy)]
+pub struct UnknownOp;
 
-pub const RSR_KEY: u32 = 7;
+impl TryFrom<u32> for Op {
+    type Error = UnknownOp;
 
-pub const WALK: u32 = 8;
+    fn try_from(number: u32) -> Result<Op, UnknownOp> {
+        OPS.iter()
+            .find(|op| **op as u32 == number)
+            .copied()
+            .ok_or(UnknownOp)
+    }
+}
 
-pub const LIST_NUMBERS: u32 = 9;
-
-pub const KEY_PARTS: u32 = 10;
-
-pub const STEP: u32 = 11;
-
-pub const DATE_OF: u32 = 12;
-
-pub const UNPACK: u32 = 13;
-
-pub const PACK: u32 = 14;
-
-pub const GAIN: u32 = 15;
-
-pub const READ_TAPE: u32 = 16;
-
-pub const WRITE_TAPE: u32 = 17;
-
-// The first op on the sheet. It makes the sheet as long as the frame's first run.
-pub const NEW_SHEET: u32 = 19;
-
-pub const FRESH: u32 = 20;
-
-pub const ENROL: u32 = 21;
-
-pub const FIND: u32 = 22;
-
-pub const OPEN: u32 = 23;
-
-pub const TICK: u32 = 24;
-
-pub const UNTICK: u32 = 25;
-
-pub const SAVE: u32 = 26;
-
-pub const DROP: u32 = 27;
-
-pub const ROW_REPORT: u32 = 28;
-
-pub const FIRST_GAP: u32 = 29;
-
-pub const STRIKE: u32 = 30;
-
-// This op makes the sheet as long as the frame says.
-pub const CONVERT: u32 = 31;
-
-pub const REPLAY: u32 = 32;
-
-pub const SEASON: u32 = 33;
-
-pub const ROW: u32 = 34;
-
-pub const DESK: u32 = 35;
-
-pub const MISSING_NUMBERS: u32 = 36;
-
-pub const RECEIVE: u32 = 37;
-
-pub const REPLAY_ON: u32 = 38;
-
-// The first op on the settings. It makes them as long as the frame's first run.
-pub const NEW_SETTINGS: u32 = 39;
-
-pub const MAKE_EMPTY: u32 = 40;
-
-pub const ADD: u32 = 41;
-
-pub const ASK: u32 = 42;
+const OPS: [Op; 41] = [
+    Op::ReadOne,
+    Op::SecondaryPart,
+    Op::DataPart,
+    Op::ReadHeaders,
+    Op::WriteOne,
+    Op::TelemetryKey,
+    Op::RsrKey,
+    Op::Walk,
+    Op::ListNumbers,
+    Op::KeyParts,
+    Op::Step,
+    Op::DateOf,
+    Op::Unpack,
+    Op::Pack,
+    Op::Gain,
+    Op::ReadTape,
+    Op::WriteTape,
+    Op::NewSheet,
+    Op::Fresh,
+    Op::Enrol,
+    Op::Find,
+    Op::Open,
+    Op::Tick,
+    Op::Untick,
+    Op::Save,
+    Op::Drop,
+    Op::RowReport,
+    Op::FirstGap,
+    Op::Strike,
+    Op::Convert,
+    Op::Replay,
+    Op::Season,
+    Op::Row,
+    Op::Desk,
+    Op::MissingNumbers,
+    Op::Receive,
+    Op::ReplayOn,
+    Op::NewSettings,
+    Op::MakeEmpty,
+    Op::Add,
+    Op::Ask,
+];

@@ -1,9 +1,12 @@
 // The lines of the calls on records and streams.
+ghost use Rattle.std.specs.Prelude.{◌<◌, ◌≤◌};
+
 use crate::{ACCEPTED, FILL, Frame, MOST_SLICE, crc, line};
-use answers::{places, records};
-use sfdu::{Kind, Primary, Read, nesting};
-use sfdu_stream::{Cursor, Step, Stop, Walked};
-use sfdu_write::Write;
+use answers::{places, records, streams};
+use refusals::Refusal;
+use sfdu::{Primary, Record};
+use sfdu_headers::Headers;
+use sfdu_stream::{Cursor, Walked};
 
 // How many numbers an accepted answer has: read one, and read headers of each kind.
 const RECORD: usize = 7;
@@ -12,54 +15,54 @@ const TELEMETRY: usize = 19;
 
 const RSR: usize = 30;
 
-const BYTE_VALUES: u32 = 256;
-
 pub(crate) fn read_one(s: &[u8], out: &mut [u8], at: usize) -> usize {
-    let found = sfdu::read_one(s);
-    match found {
-        Read::Record {
-            kind,
-            size,
-            primary,
-        } => one(out, at, kind, size, primary),
-        Read::Refused(fault) => line::told(out, at, answers::wrong(fault), 0),
+    match sfdu::read_one(s) {
+        Ok(found) => one(out, at, found),
+        Err(fault) => line::told(out, at, &answers::wrong(fault), 0),
     }
 }
 
-fn one(out: &mut [u8], at: usize, kind: Kind, size: usize, primary: Primary) -> usize {
-    let answer = records::record(kind, size, primary);
-    line::numbers(out, at, &answer, 0, RECORD)
+fn one(out: &mut [u8], at: usize, found: Record) -> usize {
+    line::told(out, at, &records::record(found), RECORD)
 }
 
 pub(crate) fn part(part: &[u8], out: &mut [u8], at: usize) -> usize {
     let end = line::number(out, at, part.len() as u64);
-    line::number(out, end, crc::crc(part) as u64)
+    line::number(out, end, u64::from(crc::crc(part)))
 }
 
+// A telemetry record's uplink band can be a none, and an RSR record's Px/No can be negative.
 pub(crate) fn read_headers(s: &[u8], wanted: u32, out: &mut [u8], at: usize) -> usize {
-    let answer = records::headers(sfdu_headers::read_headers(s, wanted));
-    if answer[places::REFUSAL] != ACCEPTED {
-        let n = line::told_count(answer[places::REFUSAL], 0);
-        return line::numbers(out, at, &answer, 0, n);
+    let found = sfdu_headers::read_headers(s, wanted);
+    let answer = records::headers(found);
+    match found {
+        Ok(Headers::Telemetry(_)) => headers(
+            out,
+            at,
+            &answer,
+            places::TELEMETRY_UPLINK,
+            TELEMETRY,
+            line::maybe,
+        ),
+        Ok(Headers::Rsr(_)) => headers(out, at, &answer, places::RSR_EXPECTED, RSR, line::signed),
+        Err(_) => line::told(out, at, &answer, 0),
     }
-    if answer[places::KIND] == nesting::RSR_NUMBER as u64 {
-        return rsr(out, at, answer);
-    }
-    telemetry(out, at, answer)
 }
 
-// The uplink band can be a none.
-fn telemetry(out: &mut [u8], at: usize, answer: [u64; answers::NUMBERS]) -> usize {
-    let begun = line::numbers(out, at, &answer, 0, places::TELEMETRY_UPLINK);
-    let banded = line::maybe(out, begun, answer[places::TELEMETRY_UPLINK]);
-    line::numbers(out, banded, &answer, places::TELEMETRY_MODE, TELEMETRY)
-}
-
-// Px/No can be negative.
-fn rsr(out: &mut [u8], at: usize, answer: [u64; answers::NUMBERS]) -> usize {
-    let begun = line::numbers(out, at, &answer, 0, places::RSR_EXPECTED);
-    let expected = line::signed(out, begun, answer[places::RSR_EXPECTED]);
-    line::numbers(out, expected, &answer, places::RSR_BANDWIDTH, RSR)
+// Writes the first n numbers of an answer. `write` writes the one at index i.
+fn headers<F: Fn(&mut [u8], usize, u64) -> usize>(
+    out: &mut [u8],
+    at: usize,
+    answer: &[u64; answers::NUMBERS],
+    i: usize,
+    n: usize,
+    write: F,
+) -> usize
+    requires { (i < n) × (n ≤ 32) × F.IsAlwaysCallable write }
+{
+    let begun = line::numbers(out, at, &answer[..i]);
+    let written = write(out, begun, answer[i]);
+    line::numbers(out, written, &answer[i + 1..n])
 }
 
 // The crc covers all bytes that are lent.
@@ -72,82 +75,44 @@ pub(crate) fn write_one(f: Frame, a: &[u8], b: &[u8], out: &mut [u8], at: usize)
     let lent = &mut room[..z];
     let answer = sfdu_write::write_one(f.x, primary_of(f.y), a, b, lent);
     let end = written(out, at, answer);
-    line::number(out, end, crc::crc(lent) as u64)
+    line::number(out, end, u64::from(crc::crc(lent)))
 }
 
-fn written(out: &mut [u8], at: usize, answer: Write) -> usize {
+fn written(out: &mut [u8], at: usize, answer: Result<usize, Refusal>) -> usize {
     match answer {
-        Write::Written(n) => {
-            let end = line::number(out, at, ACCEPTED);
-            line::number(out, end, n as u64)
-        }
-        Write::Refused(why) => line::number(out, at, refusals::number(why) as u64),
+        Ok(n) => line::numbers(out, at, &[ACCEPTED, n as u64]),
+        Err(why) => line::refused(out, at, why),
     }
 }
 
 // The four bytes of a number, highest first, as primary values.
 fn primary_of(y: u32) -> Primary {
-    let mission = y / BYTE_VALUES;
-    let minor = mission / BYTE_VALUES;
-    let major = minor / BYTE_VALUES;
+    let [major, minor, mission, format] = y.to_be_bytes();
     Primary {
-        major: low_byte(major),
-        minor: low_byte(minor),
-        mission: low_byte(mission),
-        format: low_byte(y),
+        major,
+        minor,
+        mission,
+        format,
     }
 }
 
-fn low_byte(n: u32) -> u8 {
-    (n % BYTE_VALUES) as u8
-}
-
-pub fn stopped(out: &mut [u8], at: usize, walked: Walked) -> usize {
-    let stop = walked.stop;
-    let counted = line::number(out, at, walked.count as u64);
-    let placed = line::number(out, counted, walked.place as u64);
-    let stopped = line::number(out, placed, stop_number(stop) as u64);
-    line::number(out, stopped, beside(stop) as u64)
-}
-
-fn stop_number(stop: Stop) -> u32 {
-    match stop {
-        Stop::End => ACCEPTED as u32,
-        Stop::Refused(fault) => {
-            let refusal = fault.refusal;
-            refusals::number(refusal)
-        }
-    }
-}
-
-// The second number of the stop; 0 at the end.
-fn beside(stop: Stop) -> usize {
-    match stop {
-        Stop::End => 0,
-        Stop::Refused(fault) => fault.at,
-    }
+// How many records, the stop place, the stop number and its second number; both 0 at the end.
+pub(crate) fn walked(walked: Walked, out: &mut [u8], at: usize) -> usize {
+    let answer = streams::walked(walked);
+    line::numbers(
+        out,
+        at,
+        &answer[places::WALK_COUNT..places::WALK_SECOND + 1],
+    )
 }
 
 pub(crate) fn step(s: &[u8], place: u64, out: &mut [u8], at: usize) -> usize {
     let cursor = Cursor { at: place as usize };
-    let found = cursor.step(s);
-    match found {
-        Step::Found {
-            kind,
-            size,
-            primary,
-            next,
-        } => {
-            let end = one(out, at, kind, size, primary);
-            line::number(out, end, next.at as u64)
-        }
-        Step::Done(cursor) => {
-            let end = line::letters(out, at, b"done");
-            line::number(out, end, cursor.at as u64)
-        }
-        Step::Refused(fault, cursor) => {
-            let end = line::told(out, at, answers::wrong(fault), 0);
-            line::number(out, end, cursor.at as u64)
-        }
-    }
+    let step = cursor.step(s);
+    let end = match step.found {
+        Ok(Some(found)) => one(out, at, found),
+        Ok(None) => line::letters(out, at, b"done"),
+        Err(fault) => line::told(out, at, &answers::wrong(fault), 0),
+    };
+    line::number(out, end, step.next.at as u64)
 }

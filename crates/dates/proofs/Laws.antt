@@ -3,18 +3,20 @@
 use Prim.Native.Nat.{ℕ, zero, suc, ◌+◌, ◌-◌, ◌<◌, ◌≤◌}
 use native.Mathlib.Nat.{add-zero, le_refl}
 use native.Mathlib.Omega.{arith}
-use mathlib.Core.Path.{◌≡◌, refl, ap}
+use mathlib.Core.Path.{◌≡◌, refl}
 use mathlib.Core.Bool.{Bool, true, false, cond, false≢true}
 use mathlib.Core.List.{[], ◌∷◌}
 use lib.Dec.{leb, ltb}
 use borrow.Author.Tests.{ltb-true, ltb-false, leb-true, leb-false, lt-ltb, le-ltb, le-leb}
 use Rattle.laws.proofs.Bools.{and_split}
 use Rattle.refusals.specs.Judge.{judge}
-use Rattle.refusals.proofs.Laws.{number-injective}
+use Rattle.refusals.specs.Words.{Different}
+use Rattle.refusals.proofs.Words.{answers-differ}
 use Rattle.dates.specs.Calendar.{first_year, last_year, is_leap, year_length, days_of_years, new_year, is_year, is_day, is_date, day_count, date_from, date_of}
 use Rattle.dates.specs.inner.Within.{Within}
 use Rattle.dates.specs.Laws.{BackFromCount, ForthFromBack, EveryCount, RefusedPast, NewYear1958, NewYear3000, Since1958, WordsInjective}
-use Rattle.dates.specs.declared.DateAnswer.TheVariants.{Date, Refused}
+use Rattle.dates.specs.declared.Date.{Date}
+use Rattle.dates.specs.Answers.{values_of}
 
 -- ---- the request's numbers
 
@@ -201,12 +203,15 @@ since-1958 days h = count-from-back (new_year 1958 + days) (omega (arith, new-ye
 
 -- ---- answers
 
+same : (a b c d : ℕ) → a ≡ c → b ≡ d → (λ (x y : Date). x ≡ y) (record { year = a; day = b }) (record { year = c; day = d })
+same a b c d e f = cc
+
+values-differ : Different values_of
+values-differ x y e = same x.year x.day y.year y.day (cc e) (cc e)
+
 -- Different answers have different words.
 pub words-injective : WordsInjective
-words-injective (Date y d) (Date y' d') e = cc
-words-injective (Date y d) (Refused r) e = cc
-words-injective (Refused r) (Date y d) e = cc
-words-injective (Refused r) (Refused s) e = ap Refused (number-injective r s (cc))
+words-injective = answers-differ values_of values-differ
 
 -- ---- worked
 

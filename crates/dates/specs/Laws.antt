@@ -1,7 +1,7 @@
 -- What holds of all dates and day counts. proofs/Laws.antt proves it. Assumes nothing.
 -- The manual, docs/INTERFACE.md: "Dates".
 use Rattle.std.specs.Prelude.{ℕ, ◌+◌, ◌<◌, ◌≤◌, true, [], ◌∷◌, ◌≡◌}
-use Rattle.dates.specs.declared.DateAnswer.{DateAnswer}
+use Rattle.refusals.specs.Words.{Different}
 use Rattle.dates.specs.Calendar.{last_count, new_year, is_date, day_count, date_of}
 use Rattle.dates.specs.Answers.{words_of}
 
@@ -41,4 +41,4 @@ Since1958 = (days : ℕ) → days < 65536 → Dated (new_year 1958 + days)
 
 -- Different answers have different words.
 abbrev pub WordsInjective : Type 0
-WordsInjective = (x y : DateAnswer) → words_of x ≡ words_of y → x ≡ y
+WordsInjective = Different words_of

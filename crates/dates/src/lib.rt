@@ -42,16 +42,11 @@ struct TableYear {
     start: u32,
 }
 
-#[derive(Clone, Copy)]
-pub enum CountAnswer {
-    Day(u32),
-    NotADate,
-}
-
-#[derive(Clone, Copy)]
-pub enum DateAnswer {
-    Date { year: u16, day: u16 },
-    Refused(Refusal),
+// A date: a year and a day of the year, which counts from 1.
+#[derive(Clone, Copy, Debug, PartialEq, Eq)]
+pub struct Date {
+    pub year: u16,
+    pub day: u16,
 }
 
 // The table of new years: entry i is the day count of 1 January of the year 1900 + i.
@@ -111,15 +106,15 @@ fn new_year(year: u16) -> u32
     (year - FIRST_YEAR) as u32 * YEAR_DAYS + leaps
 }
 
-// The day count of a date. It is no public call: the papers give its refusal no number.
-pub fn day_count(year: u16, day: u16) -> CountAnswer
+// The day count of a date, and nothing for what is no date. It is no public call: the papers give its refusal no number.
+pub fn day_count(year: u16, day: u16) -> Option<u32>
     ensures { result ≡ count_of year day }
 {
     if !is_date(year, day) {
-        return CountAnswer::NotADate;
+        return None;
     }
     let count = new_year(year) + day as u32 - 1;
-    CountAnswer::Day(count)
+    Some(count)
 }
 
 // The year 1900 + i and its entry in the table.
@@ -142,27 +137,24 @@ fn year_of(count: u32) -> TableYear
     let table = new_years();
     let years = (count * CYCLE_YEARS + EARLY) / CYCLE_DAYS;
     let i = years as usize;
-    if YEARS <= i {
-        return year_at(&table, i - 1);
+    match table.get(i) {
+        Some(start) if *start <= count => year_at(&table, i),
+        _ => year_at(&table, i - 1),
     }
-    if count < table[i] {
-        return year_at(&table, i - 1);
-    }
-    year_at(&table, i)
 }
 
 // The date of a day count. Refuses a count past the last day of 3000.
-pub fn date_of(count: u32) -> DateAnswer
+pub fn date_of(count: u32) -> Result<Date, Refusal>
     ensures { words_of result ≡ date_of count }
 {
     if LAST_COUNT < count {
-        return DateAnswer::Refused(Refusal::DayCount);
+        return Err(Refusal::DayCount);
     }
     let found = year_of(count);
     let past = count - found.start;
     let day = past as u16 + 1;
-    DateAnswer::Date {
+    Ok(Date {
         year: found.year,
         day,
-    }
+    })
 }

@@ -11,7 +11,7 @@ const MOST_WORDS: usize = 320;
 // What stands between the system's words and the error's number.
 const BEFORE_NUMBER: [u8; 11] = *b" (os error ";
 
-// The words of an error, as far as there is room for them.
+// The words of an error, as far as there is room for them. A fixed array, since a program says why it fails where no memory is left, too.
 #[derive(Drop)]
 struct Words {
     bytes: [u8; MOST_WORDS],
@@ -49,7 +49,7 @@ pub fn say(rt: &HostRuntime, bytes: &[u8]) {
     let _ = rt.stderr().write_all(bytes);
 }
 
-// The first n of the words, without the error's number.
+// The first n of the words, without the error's number. By index, since the words end at n or where the number begins, whichever comes first.
 fn reason(words: &[u8], n: usize) -> &[u8] {
     for i in 0..words.len() {
         if (n <= i) | words[i..].starts_with(&BEFORE_NUMBER) {

@@ -11,8 +11,9 @@ use Rattle.octets.specs.Octets.{part}
 use Rattle.octets.proofs.Laws.{length_part}
 use Rattle.idr.specs.Words.{samples_at, samples_size, record_size}
 use Rattle.idr.specs.Read.{read_rules, accepts, samples_start, samples_part}
-use Rattle.sfdu.specs.declared.Read.{Read}
-use Rattle.sfdu.specs.declared.Read.TheVariants.{Record, Refused}
+use Rattle.std.specs.Prelude.{Result, Ok, Err}
+use Rattle.sfdu.specs.declared.Fault.{Fault}
+use Rattle.sfdu.specs.declared.Record.{Record}
 use Rattle.sfdu.specs.Nesting.{secondary_value_at, secondary_length, data_value_at}
 use Rattle.sfdu.specs.Read.{words_of, primary_words, read_one, secondary_start, secondary_part, data_start, data_part}
 use Rattle.sfdu.proofs.Placed as Placed
@@ -21,23 +22,24 @@ use Rattle.sfdu.proofs.Parts.{room, secondary-room, secondary-start, secondary-p
 use Rattle.answers.specs.Numbers.{given, placed}
 use Rattle.answers.specs.inner.Parts.{secondary_place, data_place, samples_place}
 
-pub secondary-placed : (s : List ℕ) (found : Read) → words_of found ≡ read_one s
+pub secondary-placed : (s : List ℕ) (found : Result Record Fault) → words_of found ≡ read_one s
     → given (secondary_place found) ≡ placed (secondary_start s) (secondary_part s)
-secondary-placed s (Record k n p) e =
-    let f : Found s k n (primary_words p) = record-found s refl e in
-    let long = length_part s secondary_value_at (secondary_length k) (omega (arith, (Placed.placed k).data-at, (secondary-room _ _ _ _ f).1)) in
+secondary-placed s (Ok r) e =
+    let f : Found s r.kind r.size (primary_words r.primary) = record-found s refl e in
+    let long = length_part s secondary_value_at (secondary_length r.kind)
+    (omega (arith, (Placed.placed r.kind).data-at, (secondary-room _ _ _ _ f).1)) in
     rw (secondary-start _ _ _ _ f, secondary-part _ _ _ _ f, long)
-secondary-placed s (Refused f) e = let nothing = no-parts s (refusal-found s {answer = Refused f} {f = f} refl e) in rw (
+secondary-placed s (Err f) e = let nothing = no-parts s (refusal-found s {answer = Err f} {f = f} refl e) in rw (
   nothing.secondary-at,
   nothing.no-secondary,
 )
 
-pub data-placed : (s : List ℕ) (found : Read) → words_of found ≡ read_one s → given (data_place found) ≡ placed (data_start s) (data_part s)
-data-placed s (Record k n p) e =
-    let f : Found s k n (primary_words p) = record-found s refl e in
-    let long = length_part s (data_value_at k) (n - data_value_at k) (omega (arith, (room _ _ _ _ f).0, (room _ _ _ _ f).1)) in
+pub data-placed : (s : List ℕ) (found : Result Record Fault) → words_of found ≡ read_one s → given (data_place found) ≡ placed (data_start s) (data_part s)
+data-placed s (Ok r) e =
+    let f : Found s r.kind r.size (primary_words r.primary) = record-found s refl e in
+    let long = length_part s (data_value_at r.kind) (r.size - data_value_at r.kind) (omega (arith, (room _ _ _ _ f).0, (room _ _ _ _ f).1)) in
     rw (data-start _ _ _ _ f, data-part _ _ _ _ f, long)
-data-placed s (Refused f) e = let nothing = no-parts s (refusal-found s {answer = Refused f} {f = f} refl e) in rw (nothing.data-at, nothing.no-data)
+data-placed s (Err f) e = let nothing = no-parts s (refusal-found s {answer = Err f} {f = f} refl e) in rw (nothing.data-at, nothing.no-data)
 
 -- The offset of a medium band record's samples, and their length.
 record-long : (s : List ℕ) → accepts s ≡ true → length s ≡ record_size

@@ -18,8 +18,5 @@ pub extern "C" fn hernganow_season(sheets: &[u8], answer: &mut [u8]) -> u32
         return write::unwritten();
     }
     let found = ledger_season::season(sheets);
-    let verdict = found.answer;
-    let total = found.total;
-    let gap = found.gap;
-    write::write(answer, seasons::in_all(verdict, found.count, total, gap))
+    write::write(answer, seasons::in_all(found))
 }

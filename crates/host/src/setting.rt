@@ -18,7 +18,7 @@ pub extern "C" fn hernganow_settings_make_empty(settings: &mut [u8], answer: &mu
         return write::unwritten();
     }
     let found = settings::make_empty(settings);
-    write::write_few(answer, setting::answer(found))
+    write::write_few(answer, answers::done(found))
 }
 
 // Adds a setting.
@@ -38,7 +38,7 @@ pub extern "C" fn hernganow_settings_add(
         return write::unwritten();
     }
     let found = settings::add(settings, mission, edition, day, frame);
-    write::write_few(answer, setting::answer(found))
+    write::write_few(answer, answers::done(found))
 }
 
 // The setting of a mission on a day.
@@ -67,5 +67,5 @@ pub extern "C" fn hernganow_is_settings(settings: &[u8], answer: &mut [u8]) -> u
         return write::unwritten();
     }
     let found = settings::is_settings(settings);
-    write::write_few(answer, setting::is_settings(found))
+    write::write_few(answer, answers::test(found))
 }

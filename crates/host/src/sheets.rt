@@ -21,7 +21,7 @@ pub extern "C" fn hernganow_fresh(sheet: &mut [u8], answer: &mut [u8]) -> u32
         return write::unwritten();
     }
     let found = ledger::fresh(sheet);
-    write::write_few(answer, ledgers::answer(found))
+    write::write_few(answer, answers::done(found))
 }
 
 // Enrols a stream.
@@ -33,7 +33,7 @@ pub extern "C" fn hernganow_enrol(sheet: &mut [u8], key: u64, first: u32, answer
         return write::unwritten();
     }
     let found = ledger::enrol(sheet, key, first);
-    write::write_few(answer, ledgers::row(found))
+    write::write_few(answer, ledgers::number(found))
 }
 
 // Finds a stream.
@@ -45,7 +45,7 @@ pub extern "C" fn hernganow_find(sheet: &[u8], key: u64, answer: &mut [u8]) -> u
         return write::unwritten();
     }
     let found = ledger::find(sheet, key);
-    write::write_few(answer, ledgers::row(found))
+    write::write_few(answer, ledgers::number(found))
 }
 
 // Opens a row at a desk.
@@ -57,7 +57,7 @@ pub extern "C" fn hernganow_open(sheet: &mut [u8], desk: u32, row: u32, answer: 
         return write::unwritten();
     }
     let found = ledger::open(sheet, desk, row);
-    write::write_few(answer, ledgers::answer(found))
+    write::write_few(answer, answers::done(found))
 }
 
 // Ticks a number.
@@ -69,7 +69,7 @@ pub extern "C" fn hernganow_tick(sheet: &mut [u8], desk: u32, number: u32, answe
         return write::unwritten();
     }
     let found = ledger::tick(sheet, desk, number);
-    write::write_few(answer, ledgers::answer(found))
+    write::write_few(answer, answers::done(found))
 }
 
 // Unticks a number.
@@ -87,7 +87,7 @@ pub extern "C" fn hernganow_untick(
         return write::unwritten();
     }
     let found = ledger::untick(sheet, desk, number);
-    write::write_few(answer, ledgers::answer(found))
+    write::write_few(answer, answers::done(found))
 }
 
 // Saves a desk's worked copy.
@@ -99,7 +99,7 @@ pub extern "C" fn hernganow_save(sheet: &mut [u8], desk: u32, answer: &mut [u8])
         return write::unwritten();
     }
     let found = ledger::save(sheet, desk);
-    write::write_few(answer, ledgers::answer(found))
+    write::write_few(answer, answers::done(found))
 }
 
 // Drops what a desk has open.
@@ -111,7 +111,7 @@ pub extern "C" fn hernganow_drop(sheet: &mut [u8], desk: u32, answer: &mut [u8])
         return write::unwritten();
     }
     let found = ledger::drop(sheet, desk);
-    write::write_few(answer, ledgers::answer(found))
+    write::write_few(answer, answers::done(found))
 }
 
 // Strikes a row.
@@ -123,7 +123,7 @@ pub extern "C" fn hernganow_strike(sheet: &mut [u8], row: u32, answer: &mut [u8]
         return write::unwritten();
     }
     let found = ledger::strike(sheet, row);
-    write::write_few(answer, ledgers::answer(found))
+    write::write_few(answer, answers::done(found))
 }
 
 // Reports on a row: how many are ticked, how many are missing, and the lowest missing number or none.
@@ -159,7 +159,7 @@ pub extern "C" fn hernganow_convert(old: &[u8], sheet: &mut [u8], answer: &mut [
         return write::unwritten();
     }
     let found = ledger_convert::convert(old, sheet);
-    write::write_few(answer, ledgers::answer(found))
+    write::write_few(answer, answers::done(found))
 }
 
 // Whether the slice is a right sheet: 1 or 0.
@@ -171,7 +171,7 @@ pub extern "C" fn hernganow_is_sheet(sheet: &[u8], answer: &mut [u8]) -> u32
         return write::unwritten();
     }
     let found = ledger::is_sheet(sheet);
-    write::write_few(answer, ledgers::is_sheet(found))
+    write::write_few(answer, answers::test(found))
 }
 
 // The stream of a row: its key and first number.
@@ -225,7 +225,7 @@ pub extern "C" fn hernganow_missing_numbers(
         return write::unwritten();
     }
     let found = ledger_missing::missing_numbers(sheet, row, list);
-    write::write_few(answer, ledgers::missing(found))
+    write::write_few(answer, ledgers::number(found))
 }
 
 // Receives a stream at a desk. Each whole record makes a visit, and its outcome is written into the list.

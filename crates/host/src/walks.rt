@@ -10,6 +10,7 @@ ghost use Rattle.host.specs.Exported.{exported, exported_as};
 
 use crate::write;
 use answers::streams;
+use sfdu::Kind;
 use sfdu_stream::Cursor;
 
 // How many whole records the stream begins with, the stop place, and why the walk stops.
@@ -70,7 +71,7 @@ pub extern "C" fn hernganow_most_records(bytes: u64, answer: &mut [u8]) -> u32
     if answer.len() != answers::ANSWER {
         return write::unwritten();
     }
-    let found = sfdu_stream::most_records(bytes as usize);
+    let found = sfdu_stream::most_records(Kind::Telemetry, bytes as usize);
     write::write_few(answer, answers::count(found as u64))
 }
 
@@ -82,6 +83,6 @@ pub extern "C" fn hernganow_most_rsr_records(bytes: u64, answer: &mut [u8]) -> u
     if answer.len() != answers::ANSWER {
         return write::unwritten();
     }
-    let found = sfdu_stream::most_rsr_records(bytes as usize);
+    let found = sfdu_stream::most_records(Kind::Rsr, bytes as usize);
     write::write_few(answer, answers::count(found as u64))
 }

@@ -13,7 +13,7 @@ use refusals::Refusal;
 // How many bytes a few numbers have.
 const FEW_BYTES: usize = answers::NUMBER * answers::FEW;
 
-// What a call returns if the answer's slice does not have 256 bytes.
+// What a call returns if the answer's slice does not have 256 bytes. A number, since C takes it.
 pub fn unwritten() -> u32
     ensures { result ≡ number_of AnswerLength }
 {
@@ -44,7 +44,7 @@ fn write_numbers(answer: &mut [u8], numbers: &[u64])
     requires { number_size * length numbers.now ≤ length answer.old }
     ensures { answer.new ≡ put answer.old 0 (answer_bytes numbers.now) }
 {
-    for i in 0..numbers.len() {
-        octets::numbers::write_be(answer, answers::NUMBER * i, answers::NUMBER, numbers[i]);
+    for (i, n) in numbers.iter().enumerate() {
+        octets::numbers::write_be(answer, answers::NUMBER * i, answers::NUMBER, *n);
     }
 }

@@ -3,18 +3,17 @@ use Prim.Native.Nat.{ℕ}
 use mathlib.Core.List.{List}
 use mathlib.Core.Path.{◌≡◌, refl, sym, ap}
 use lib.ListN.{get_or, take, drop}
+use Rattle.std.specs.Prelude.{Option, Some, None, Ok, Err}
+use Rattle.refusals.specs.Words.{Different}
 use Rattle.refusals.proofs.Laws.{number-injective, number-positive}
+use Rattle.refusals.proofs.Words.{answers-differ}
 use Rattle.idr.specs.declared.Origin.{Origin}
 use Rattle.idr.specs.declared.Time.{Time}
 use Rattle.idr.specs.declared.Recorder.{Recorder}
 use Rattle.idr.specs.declared.Reduction.{Reduction}
 use Rattle.idr.specs.declared.Status.{Status}
-use Rattle.idr.specs.declared.Count.{Count}
-use Rattle.idr.specs.declared.Count.TheVariants.{Samples, Unknown}
-use Rattle.idr.specs.declared.Read.TheVariants.{Tagged, Untagged, Refused}
-use Rattle.idr.specs.declared.Outcome.TheVariants as outcomes
 use Rattle.idr.specs.Rules.{DifferentOutcomes}
-use Rattle.idr.specs.Read.{origin_words, time_words, recorder_words, reduction_words, status_words, count_words, DifferentReads}
+use Rattle.idr.specs.Read.{origin_words, time_words, recorder_words, reduction_words, status_words, count_words, fields_words, DifferentReads}
 
 -- Word k, and n words from word k on.
 word : (k : ℕ) {a b : List ℕ} → a ≡ b → get_or a k 0 ≡ get_or b k 0
@@ -70,32 +69,30 @@ same-status f g e = λ i. record {
   counter = word 5 e i;
 }
 
-same_count : (a b : Count) → count_words a ≡ count_words b → a ≡ b
-same_count (Samples n) (Samples m) e = ap Samples (word 0 e)
-same_count (Samples n) Unknown e = cc
-same_count Unknown (Samples m) e = cc
-same_count Unknown Unknown e = refl
+same_count : (a b : Option ℕ) → count_words a ≡ count_words b → a ≡ b
+same_count (Some n) (Some m) e = ap Some (word 0 e)
+same_count (Some n) None e = cc
+same_count None (Some m) e = cc
+same_count None None e = refl
+
+same_fields : Different fields_words
+same_fields (Some f) (Some g) e =
+    let origin = same-origin f.origin g.origin (group 0 8 e) in
+    let time = same-time f.time g.time (group 8 5 e) in
+    let recorder = same-recorder f.recorder g.recorder (group 13 6 e) in
+    let reduction = same-reduction f.reduction g.reduction (group 19 8 e) in
+    let status = same-status f.status g.status (group 27 6 e) in
+    let count = same_count f.count g.count (ap (drop 33) e) in
+    λ i. Some (record { origin = origin i; time = time i; recorder = recorder i; reduction = reduction i; status = status i; count = count i })
+same_fields (Some f) None e = cc
+same_fields None (Some g) e = cc
+same_fields None None e = refl
 
 pub same_read : DifferentReads
-same_read (Tagged o t p r q n) (Tagged o' t' p' r' q' n') e =
-    let origin = same-origin o o' (group 1 8 e) in
-    let time = same-time t t' (group 9 5 e) in
-    let recorder = same-recorder p p' (group 14 6 e) in
-    let reduction = same-reduction r r' (group 20 8 e) in
-    let status = same-status q q' (group 28 6 e) in
-    let count = same_count n n' (ap (drop 34) e) in
-    λ i. Tagged (origin i) (time i) (recorder i) (reduction i) (status i) (count i)
-same_read (Tagged o t p r q n) Untagged e = cc
-same_read (Tagged o t p r q n) (Refused s) e = absurd (number-positive s (sym (word 0 e)))
-same_read Untagged (Tagged o t p r q n) e = cc
-same_read Untagged Untagged e = refl
-same_read Untagged (Refused s) e = absurd (number-positive s (sym (word 0 e)))
-same_read (Refused r) (Tagged o t p x q n) e = absurd (number-positive r (word 0 e))
-same_read (Refused r) Untagged e = absurd (number-positive r (word 0 e))
-same_read (Refused r) (Refused s) e = ap Refused (number-injective r s (word 0 e))
+same_read = answers-differ fields_words same_fields
 
 pub same_outcome : DifferentOutcomes
-same_outcome outcomes.Accepted outcomes.Accepted e = refl
-same_outcome outcomes.Accepted (outcomes.Refused s) e = absurd (number-positive s (sym e))
-same_outcome (outcomes.Refused r) outcomes.Accepted e = absurd (number-positive r e)
-same_outcome (outcomes.Refused r) (outcomes.Refused s) e = ap outcomes.Refused (number-injective r s e)
+same_outcome (Ok u) (Ok v) e = refl
+same_outcome (Ok u) (Err s) e = absurd (number-positive s (sym e))
+same_outcome (Err r) (Ok v) e = absurd (number-positive r e)
+same_outcome (Err r) (Err s) e = ap Err (number-injective r s e)

@@ -5,3 +5,4 @@ pub mod Given
 pub mod Judging
 pub mod Worked
 pub mod Answers
+pub mod Ranges

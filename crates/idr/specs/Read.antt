@@ -1,18 +1,16 @@
 -- Document 02, Req 04: the reader's calls on a lent record s. Assumes nothing.
 -- The manual, docs/INTERFACE.md: "Medium band tapes".
-use Rattle.std.specs.Prelude.{◌≡◌, ℕ, Bool, not, cond, ◌&&◌, List, [], ◌∷◌, ◌++◌, eqb, length}
+use Rattle.std.specs.Prelude.{ℕ, Bool, not, cond, ◌&&◌, List, [], ◌∷◌, ◌++◌, eqb, length, Option, Some, None, Result}
+use Rattle.refusals.specs.declared.Refusal.{Refusal}
+use Rattle.refusals.specs.Words.{answer_words, Different}
 use Rattle.refusals.specs.Judge.{Rule, ◌when◌, judge, none_applies}
-use Rattle.refusals.specs.Table.{number_of}
 use Rattle.octets.specs.Octets.{part}
 use Rattle.idr.specs.declared.Origin.{Origin}
 use Rattle.idr.specs.declared.Time.{Time}
 use Rattle.idr.specs.declared.Recorder.{Recorder}
 use Rattle.idr.specs.declared.Reduction.{Reduction}
 use Rattle.idr.specs.declared.Status.{Status}
-use Rattle.idr.specs.declared.Count.{Count}
-use Rattle.idr.specs.declared.Count.TheVariants.{Samples, Unknown}
-use Rattle.idr.specs.declared.Read.{Read}
-use Rattle.idr.specs.declared.Read.TheVariants.{Tagged, Untagged, Refused}
+use Rattle.idr.specs.declared.Tagged.{Tagged}
 use Rattle.idr.specs.Words.{header, header_count, record_size, samples_at, samples_size}
 use Rattle.idr.specs.Fields.{tagged, fields_of}
 use Rattle.idr.specs.Rules.{word_rules}
@@ -37,19 +35,22 @@ reduction_words f =
 abbrev pub status_words : Status → List ℕ
 status_words f = f.day ∷ f.second ∷ f.overflow ∷ f.pps_unsynced ∷ f.bit_slip ∷ f.counter ∷ []
 
-abbrev pub count_words : Count → List ℕ
-count_words (Samples n) = n ∷ []
-count_words Unknown = []
+abbrev pub count_words : Option ℕ → List ℕ
+count_words (Some n) = n ∷ []
+count_words None = []
 
-abbrev pub words_of : Read → List ℕ
-words_of (Tagged origin time recorder reduction status count) =
-    0 ∷ origin_words origin ++ time_words time ++ recorder_words recorder ++ reduction_words reduction ++ status_words status ++ count_words count
-words_of Untagged = 0 ∷ []
-words_of (Refused r) = number_of r ∷ []
+abbrev pub fields_words : Option Tagged → List ℕ
+fields_words None = []
+fields_words (Some f) =
+    origin_words f.origin ++ time_words f.time ++ recorder_words f.recorder ++ reduction_words f.reduction ++ status_words f.status
+    ++ count_words f.count
+
+abbrev pub words_of : Result (Option Tagged) Refusal → List ℕ
+words_of answer = answer_words fields_words answer
 
 -- Different answers have different words.
 abbrev pub DifferentReads : Type 0
-DifferentReads = (a b : Read) → words_of a ≡ words_of b → a ≡ b
+DifferentReads = Different words_of
 
 -- ---- the calls
 

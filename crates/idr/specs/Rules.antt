@@ -1,22 +1,21 @@
 -- Document 02, Req 04: refusals 51 to 54 of the header words w, in order. Assumes nothing.
 -- The manual, docs/INTERFACE.md: "Medium band tapes".
-use Rattle.std.specs.Prelude.{◌≡◌, ℕ, Bool, not, ◌&&◌, List, [], ◌∷◌, eqb, leb}
+use Rattle.std.specs.Prelude.{◌≡◌, ℕ, Bool, not, ◌&&◌, List, [], ◌∷◌, eqb, leb, Result, Ok, Err}
+use Rattle.refusals.specs.declared.Refusal.{Refusal}
 use Rattle.refusals.specs.Judge.{Rule, ◌when◌}
 use Rattle.refusals.specs.Table.{number_of}
 use Rattle.octets.specs.Octets.{all}
-use Rattle.idr.specs.declared.Outcome.{Outcome}
-use Rattle.idr.specs.declared.Outcome.TheVariants.{Accepted, Refused}
 use Rattle.idr.specs.Words.{record_words, word_of}
 use Rattle.idr.specs.Fields.{tagged, digit, digit_count, day, hour, minute, second, micros, playback, sampling, block_stored}
 
 -- The number of an outcome: 0, or the refusal's number.
-abbrev pub outcome_number : Outcome → ℕ
-outcome_number Accepted = 0
-outcome_number (Refused r) = number_of r
+abbrev pub outcome_number : Result Unit Refusal → ℕ
+outcome_number (Ok u) = 0
+outcome_number (Err r) = number_of r
 
 -- Different answers have different numbers.
 abbrev pub DifferentOutcomes : Type 0
-DifferentOutcomes = (a b : Outcome) → outcome_number a ≡ outcome_number b → a ≡ b
+DifferentOutcomes = (a b : Result Unit Refusal) → outcome_number a ≡ outcome_number b → a ≡ b
 
 unfoldable pub are_digits : List ℕ → Bool
 are_digits w = all digit_count (λ k. leb (digit w k) 9)

@@ -1,9 +1,9 @@
 // The fields of the header words (document 001, words 1 to 28).
-ghost use Rattle.std.specs.Prelude.{◌≡◌, ◌<◌, length};
-ghost use Rattle.idr.specs.Words.{header_count};
+ghost use Rattle.std.specs.Prelude.{◌≡◌, ◌∷◌, ◌<◌};
 ghost use Rattle.idr.specs.Fields.{tagged, counted, digit, digit_count, two_digits, playback_rates, sampling_rates, rate_in};
 ghost use Rattle.idr.specs.Fields.{decimation_of, block_stored, origin_of, time_of, recorder_of, reduction_of, status_of, count_of};
-ghost use Rattle.idr.specs.Read.{origin_words, time_words, recorder_words, reduction_words, status_words, count_words, words_of, given_of};
+ghost use Rattle.idr.specs.inner.Listed.{listed};
+ghost use Rattle.idr.specs.Read.{origin_words, time_words, recorder_words, reduction_words, status_words, count_words, fields_words, given_of};
 
 use crate as idr;
 use crate::words;
@@ -30,43 +30,43 @@ const FIRST_RATE: u32 = 75000;
 
 const RATE_STEP: u32 = 12500;
 
+// What a record's fields have for a code that is not listed. Records with such a code and a valid time tag are refused.
+const UNLISTED: u32 = 0;
+
 const MOST_DECIMATION: u16 = 8;
 
 // 2^24. The stored block size is this number less the block size.
 const BLOCK_END: u32 = 16777216;
 
-pub(crate) fn is_tagged(w: &[u16]) -> bool
-    requires { length w.now ≡ header_count }
+pub(crate) fn is_tagged(w: &[u16; idr::HEADER]) -> bool
     ensures { result ≡ tagged w.now }
 {
     words::field(w, 1, 1, 1) == 1
 }
 
-fn is_counted(w: &[u16]) -> bool
-    requires { length w.now ≡ header_count }
+fn is_counted(w: &[u16; idr::HEADER]) -> bool
     ensures { result ≡ counted w.now }
 {
     words::field(w, 1, 4, 4) == 1
 }
 
 // Digit k of the time tag; k counts from 0.
-pub(crate) fn digit_at(w: &[u16], k: usize) -> u16
-    requires { (length w.now ≡ header_count) × (k < digit_count) }
+pub(crate) fn digit_at(w: &[u16; idr::HEADER], k: usize) -> u16
+    requires { k < digit_count }
     ensures { (result ≡ digit w.now k) × (result < 16) }
 {
     let before = k % DIGITS * DIGIT_BITS;
     words::field(w, TIME_WORD + k / DIGITS, before + 1, before + DIGIT_BITS)
 }
 
-fn two_digits(w: &[u16], k: usize) -> u16
-    requires { (length w.now ≡ header_count) × (k < 8) }
+fn two_digits(w: &[u16; idr::HEADER], k: usize) -> u16
+    requires { k < 8 }
     ensures { (result ≡ two_digits w.now k) × (result < 256) }
 {
     digit_at(w, k) * 10 + digit_at(w, k + 1)
 }
 
-pub(crate) fn time_of(w: &[u16]) -> idr::Time
-    requires { length w.now ≡ header_count }
+pub(crate) fn time_of(w: &[u16; idr::HEADER]) -> idr::Time
     ensures { time_words result ≡ time_of w.now }
 {
     idr::Time {
@@ -79,29 +79,29 @@ pub(crate) fn time_of(w: &[u16]) -> idr::Time
 }
 
 // The playback rates are the sampling rates of the slowest tape speed.
-pub(crate) fn playback_rate(code: u16) -> u32
+pub(crate) fn playback_rate(code: u16) -> Option<u32>
     requires { code < 32 }
-    ensures { result ≡ rate_in playback_rates code }
+    ensures { result ≡ listed (rate_in playback_rates code) }
 {
     if code % SPEEDS != 0 {
-        return 0;
+        return None;
     }
     sampling_rate(code)
 }
 
-pub(crate) fn sampling_rate(code: u16) -> u32
+pub(crate) fn sampling_rate(code: u16) -> Option<u32>
     requires { code < 32 }
-    ensures { result ≡ rate_in sampling_rates code }
+    ensures { result ≡ listed (rate_in sampling_rates code) }
 {
     let choice = (code / SPEEDS) as u32;
     let speed = (code % SPEEDS) as u32;
     if LAST_CHOICE < choice {
-        return 0;
+        return None;
     }
     if LAST_SPEED < speed {
-        return 0;
+        return None;
     }
-    (FIRST_RATE - RATE_STEP * choice) << speed
+    Some((FIRST_RATE - RATE_STEP * choice) << speed)
 }
 
 fn decimation(code: u16) -> u16
@@ -112,15 +112,13 @@ fn decimation(code: u16) -> u16
 }
 
 // The block size as stored, in 24 bits.
-pub(crate) fn block_stored(w: &[u16]) -> u32
-    requires { length w.now ≡ header_count }
+pub(crate) fn block_stored(w: &[u16; idr::HEADER]) -> u32
     ensures { (result ≡ block_stored w.now) × (result < 16777216) }
 {
     words::long(words::field(w, 12, 9, 16), w[12])
 }
 
-fn origin_of(w: &[u16]) -> idr::Origin
-    requires { length w.now ≡ header_count }
+fn origin_of(w: &[u16; idr::HEADER]) -> idr::Origin
     ensures { origin_words result ≡ origin_of w.now }
 {
     idr::Origin {
@@ -135,8 +133,7 @@ fn origin_of(w: &[u16]) -> idr::Origin
     }
 }
 
-fn recorder_of(w: &[u16]) -> idr::Recorder
-    requires { length w.now ≡ header_count }
+fn recorder_of(w: &[u16; idr::HEADER]) -> idr::Recorder
     ensures { recorder_words result ≡ recorder_of w.now }
 {
     idr::Recorder {
@@ -149,13 +146,12 @@ fn recorder_of(w: &[u16]) -> idr::Recorder
     }
 }
 
-fn reduction_of(w: &[u16]) -> idr::Reduction
-    requires { length w.now ≡ header_count }
+fn reduction_of(w: &[u16; idr::HEADER]) -> idr::Reduction
     ensures { reduction_words result ≡ reduction_of w.now }
 {
     idr::Reduction {
-        playback: playback_rate(words::field(w, 10, 12, 16)),
-        sampling: sampling_rate(words::field(w, 11, 12, 16)),
+        playback: playback_rate(words::field(w, 10, 12, 16)).unwrap_or(UNLISTED),
+        sampling: sampling_rate(words::field(w, 11, 12, 16)).unwrap_or(UNLISTED),
         bypass: words::field(w, 12, 1, 1),
         decimation: decimation(words::field(w, 12, 2, 4)),
         pps_track: words::field(w, 12, 5, 5),
@@ -165,8 +161,7 @@ fn reduction_of(w: &[u16]) -> idr::Reduction
     }
 }
 
-fn status_of(w: &[u16]) -> idr::Status
-    requires { length w.now ≡ header_count }
+fn status_of(w: &[u16; idr::HEADER]) -> idr::Status
     ensures { status_words result ≡ status_of w.now }
 {
     idr::Status {
@@ -179,30 +174,25 @@ fn status_of(w: &[u16]) -> idr::Status
     }
 }
 
-fn count_of(w: &[u16]) -> idr::Count
-    requires { length w.now ≡ header_count }
+fn count_of(w: &[u16; idr::HEADER]) -> Option<u32>
     ensures { count_words result ≡ count_of w.now }
 {
-    if is_counted(w) {
-        return idr::Count::Samples(words::long(w[26], w[27]));
-    }
-    idr::Count::Unknown
+    is_counted(w).then_some(words::long(w[26], w[27]))
 }
 
 // The answer for header words that are accepted.
-pub(crate) fn given(w: &[u16]) -> idr::Read
-    requires { length w.now ≡ header_count }
-    ensures { words_of result ≡ given_of w.now }
+pub(crate) fn given(w: &[u16; idr::HEADER]) -> Option<idr::Tagged>
+    ensures { 0 ∷ fields_words result ≡ given_of w.now }
 {
     if !is_tagged(w) {
-        return idr::Read::Untagged;
+        return None;
     }
-    idr::Read::Tagged {
+    Some(idr::Tagged {
         origin: origin_of(w),
         time: time_of(w),
         recorder: recorder_of(w),
         reduction: reduction_of(w),
         status: status_of(w),
         count: count_of(w),
-    }
+    })
 }

@@ -1,48 +1,31 @@
 // The reader's calls on a record.
-ghost use Rattle.std.specs.Prelude.{[], ◌∷◌, ◌≡◌, ◌+◌, length};
-ghost use Rattle.refusals.specs.Judge.{judge, verdict};
-ghost use Rattle.idr.specs.Words.{header_count};
-ghost use Rattle.idr.specs.Rules.{outcome_number, word_rules};
-ghost use Rattle.idr.specs.Read.{words_of, read_rules, given_of, read_record, samples_start, samples_part, read_words};
+ghost use Rattle.std.specs.Prelude.{[], ◌∷◌, ◌≡◌, ◌+◌};
+ghost use Rattle.idr.specs.Rules.{outcome_number};
+ghost use Rattle.idr.specs.Read.{words_of, read_record, samples_start, samples_part, read_words};
+ghost use Rattle.idr.specs.inner.Accepted.{IsHeader};
 
 use crate as idr;
-use crate::{Outcome, Read, fields, rules, words};
+use crate::{Tagged, fields, rules, words};
 use refusals::Refusal;
 
-// Reads the fields of a record.
-pub fn read_record(s: &[u8]) -> Read
+// Reads the fields of a record: none if its time tag is not valid.
+pub fn read_record(s: &[u8]) -> Result<Option<Tagged>, Refusal>
     ensures { words_of result ≡ read_record s.now }
 {
-    if s.len() != idr::RECORD {
-        return Read::Refused(Refusal::TapeLengths);
-    }
-    let mut w = [0u16; idr::HEADER];
-    words::fill(s, &mut w);
-    read_header(&w)
+    let w = accepted_words(s)?;
+    Ok(fields::given(&w))
 }
 
-// Reads the fields of a record from its header words.
-fn read_header(w: &[u16]) -> Read
-    requires { length w.now ≡ header_count }
-    ensures { words_of result ≡ judge (λ n. n ∷ []) (word_rules w.now) (given_of w.now) }
-{
-    let judged = rules::judge_words(w);
-    match judged {
-        Outcome::Accepted => fields::given(w),
-        Outcome::Refused(r) => Read::Refused(r),
-    }
-}
-
-// Whether the record is accepted, or else the refusal.
-fn judge_record(s: &[u8]) -> Outcome
-    ensures { outcome_number result ≡ verdict (read_rules s.now) }
+// The header words of a record, if it is accepted.
+fn accepted_words(s: &[u8]) -> Result<[u16; idr::HEADER], Refusal>
+    ensures { IsHeader s.now result }
 {
     if s.len() != idr::RECORD {
-        return Outcome::Refused(Refusal::TapeLengths);
+        return Err(Refusal::TapeLengths);
     }
-    let mut w = [0u16; idr::HEADER];
-    words::fill(s, &mut w);
-    rules::judge_words(&w)
+    let w = words::header(s);
+    rules::judge_words(&w)?;
+    Ok(w)
 }
 
 // The samples: that part of the record itself. If the record is refused, the empty part at its start.
@@ -50,26 +33,21 @@ pub fn samples(s: &[u8]) -> &[u8]
     ensures { (result.now ≡ samples_part s.now) × (result.ref_ptr.0 ≡ s.entry.ref_ptr.0)
         × (result.ref_ptr.1 ≡ s.entry.ref_ptr.1 + samples_start s.now) }
 {
-    let judged = judge_record(s);
-    match judged {
-        Outcome::Accepted => &s[idr::SAMPLES_AT..idr::RECORD],
-        Outcome::Refused(_) => &s[0..0],
+    let accepted = accepted_words(s);
+    match accepted {
+        Ok(_) => &s[idr::SAMPLES_AT..idr::RECORD],
+        Err(_) => &s[0..0],
     }
 }
 
 // Copies the header words of a record into a lent list of 28. A refusal leaves the list unchanged.
-pub fn read_words(s: &[u8], list: &mut [u16]) -> Outcome
+pub fn read_words(s: &[u8], list: &mut [u16]) -> Result<(), Refusal>
     ensures { (outcome_number result ∷ [], list.new) ≡ read_words s.now list.old }
 {
     if list.len() != idr::HEADER {
-        return Outcome::Refused(Refusal::TapeLengths);
+        return Err(Refusal::TapeLengths);
     }
-    let judged = judge_record(s);
-    match judged {
-        Outcome::Accepted => {
-            words::fill(s, list);
-            return Outcome::Accepted;
-        }
-        Outcome::Refused(r) => Outcome::Refused(r),
-    }
+    let w = accepted_words(s)?;
+    list.copy_from_slice(&w);
+    Ok(())
 }

@@ -1,12 +1,11 @@
 // The refusals of header words, in order. The reader and the writer use them.
-ghost use Rattle.std.specs.Prelude.{◌≡◌, length};
+ghost use Rattle.std.specs.Prelude.{◌≡◌};
 ghost use Rattle.refusals.specs.Judge.{verdict};
-ghost use Rattle.idr.specs.Words.{header_count};
 ghost use Rattle.idr.specs.Rules.{outcome_number, are_digits, is_clock, is_time, are_rates, is_block, word_rules};
 ghost use Rattle.idr.specs.inner.Lent.{lent_rules};
 
 use crate as idr;
-use crate::{Outcome, Time, fields, words};
+use crate::{Time, fields, words};
 use refusals::Refusal;
 
 // The index of the length word (word 3), and the value it must have.
@@ -30,55 +29,47 @@ const LAST_MICRO: u32 = 999999;
 const LEAST_BLOCK: u32 = 8388608;
 
 // Tests header words that a caller lends: how many they are, and then the rules.
-pub fn judge(w: &[u16]) -> Outcome
+pub fn judge(w: &[u16]) -> Result<(), Refusal>
     ensures { outcome_number result ≡ verdict (lent_rules w.now) }
 {
-    if w.len() != idr::HEADER {
-        return Outcome::Refused(Refusal::TapeLengths);
-    }
-    judge_words(w)
+    let Ok(words) = <&[u16; idr::HEADER]>::try_from(w) else {
+        return Err(Refusal::TapeLengths);
+    };
+    judge_words(words)
 }
 
 // Tests the rules of header words.
-pub(crate) fn judge_words(w: &[u16]) -> Outcome
-    requires { length w.now ≡ header_count }
+pub(crate) fn judge_words(w: &[u16; idr::HEADER]) -> Result<(), Refusal>
     ensures { outcome_number result ≡ verdict (word_rules w.now) }
 {
     if w[LENGTH_WORD] != RECORD_WORDS {
-        return Outcome::Refused(Refusal::TapeLengthWord);
+        return Err(Refusal::TapeLengthWord);
     }
     if !fields::is_tagged(w) {
-        return Outcome::Accepted;
+        return Ok(());
     }
     if !is_time(w) {
-        return Outcome::Refused(Refusal::TapeTime);
+        return Err(Refusal::TapeTime);
     }
     if !are_rates(w) {
-        return Outcome::Refused(Refusal::TapeRate);
+        return Err(Refusal::TapeRate);
     }
     if !is_block(w) {
-        return Outcome::Refused(Refusal::TapeBlock);
+        return Err(Refusal::TapeBlock);
     }
-    Outcome::Accepted
+    Ok(())
 }
 
-fn is_time(w: &[u16]) -> bool
-    requires { length w.now ≡ header_count }
+fn is_time(w: &[u16; idr::HEADER]) -> bool
     ensures { result ≡ is_time w.now }
 {
     are_digits(w) & is_clock(fields::time_of(w))
 }
 
-fn are_digits(w: &[u16]) -> bool
-    requires { length w.now ≡ header_count }
+fn are_digits(w: &[u16; idr::HEADER]) -> bool
     ensures { result ≡ are_digits w.now }
 {
-    for k in 0..TIME_DIGITS {
-        if 9 < fields::digit_at(w, k) {
-            return false;
-        }
-    }
-    true
+    (0..TIME_DIGITS).all(|k| fields::digit_at(w, k) <= 9)
 }
 
 fn is_clock(t: Time) -> bool
@@ -93,16 +84,14 @@ fn is_clock(t: Time) -> bool
 }
 
 // Whether both rate codes are listed.
-fn are_rates(w: &[u16]) -> bool
-    requires { length w.now ≡ header_count }
+fn are_rates(w: &[u16; idr::HEADER]) -> bool
     ensures { result ≡ are_rates w.now }
 {
-    (fields::playback_rate(words::field(w, 10, 12, 16)) != 0)
-        & (fields::sampling_rate(words::field(w, 11, 12, 16)) != 0)
+    fields::playback_rate(words::field(w, 10, 12, 16)).is_some()
+        & fields::sampling_rate(words::field(w, 11, 12, 16)).is_some()
 }
 
-fn is_block(w: &[u16]) -> bool
-    requires { length w.now ≡ header_count }
+fn is_block(w: &[u16; idr::HEADER]) -> bool
     ensures { result ≡ is_block w.now }
 {
     LEAST_BLOCK <= fields::block_stored(w)

@@ -20,8 +20,8 @@ fn bits_of(x: u16, first: usize, last: usize) -> u16
 }
 
 // Bits `first` to `last` of word k. Words count from 1.
-pub(crate) fn field(w: &[u16], k: usize, first: usize, last: usize) -> u16
-    requires { (1 ≤ k) × (k ≤ length w.now) × (1 ≤ first) × (first ≤ last) × (last ≤ word_bits) }
+pub(crate) fn field(w: &[u16; idr::HEADER], k: usize, first: usize, last: usize) -> u16
+    requires { (1 ≤ k) × (k ≤ header_count) × (1 ≤ first) × (first ≤ last) × (last ≤ word_bits) }
     ensures { (result ≡ field_of w.now k first last) × (result < 2 ^ (last + 1 - first)) }
 {
     bits_of(w[k - 1], first, last)
@@ -33,12 +33,14 @@ pub(crate) fn long(high: u16, low: u16) -> u32
     high as u32 * UPPER + low as u32
 }
 
-// Fills a list with the header words of a record.
-pub(crate) fn fill(s: &[u8], w: &mut [u16])
-    requires { (samples_at ≤ length s.now) × (length w.old ≡ header_count) }
-    ensures { w.new ≡ header s.now }
+// The header words of a record.
+pub(crate) fn header(s: &[u8]) -> [u16; idr::HEADER]
+    requires { samples_at ≤ length s.now }
+    ensures { result ≡ header s.now }
 {
-    for i in 0..idr::HEADER {
-        w[i] = numbers::read_u16(s, i * idr::WORD);
+    let mut w = [0; idr::HEADER];
+    for (i, word) in w.iter_mut().enumerate() {
+        *word = numbers::read_u16(s, i * idr::WORD);
     }
+    w
 }

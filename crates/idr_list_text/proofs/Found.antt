@@ -12,13 +12,8 @@ use Rattle.refusals.specs.Table.{number_of}
 use Rattle.refusals.proofs.Judged.{Outcome, none, first, outcome, none-judge, first-judge}
 use Rattle.refusals.proofs.Laws.{number-positive}
 use Rattle.octets.proofs.Laws.{Bytes, number_lt}
-use Rattle.idr.specs.declared.Read.TheVariants.{Tagged, Untagged, Refused}
-use Rattle.idr.specs.declared.Origin.{Origin}
-use Rattle.idr.specs.declared.Time.{Time}
-use Rattle.idr.specs.declared.Recorder.{Recorder}
-use Rattle.idr.specs.declared.Reduction.{Reduction}
-use Rattle.idr.specs.declared.Status.{Status}
-use Rattle.idr.specs.declared.Count.{Count}
+use Rattle.std.specs.Prelude.{Some, None, Ok, Err}
+use Rattle.idr.specs.declared.Tagged.{Tagged}
 use Rattle.idr.specs.Words.{header_count, header, bits, field_of}
 use Rattle.idr.specs.Fields.{tagged, fields_of, day, hour, minute, second, micros, playback, sampling, decimation_of}
 use Rattle.idr.specs.Read.{words_of, read_rules, given_of, read_record, accepts, read_words}
@@ -43,50 +38,49 @@ pub record Says (s : List ℕ) (place : ℕ) (b : Bool) (t : List ℕ) : Type 0 
 
 -- ---- tagged
 
-module _ (s : List ℕ) (place : ℕ) (o : Origin) (t : Time) (p : Recorder) (r : Reduction) (q : Status) (n : Count)
-    (e : words_of (Tagged o t p r q n) ≡ read_record s) where
+module _ (s : List ℕ) (place : ℕ) (f : Tagged) (e : words_of (Ok (Some f)) ≡ read_record s) where
   is-tagged : tagged (header s) ≡ true
   is-tagged = by (tagged (header s)) refl
     where
       by : (b : Bool) → tagged (header s) ≡ b → b ≡ true
       by true h = refl
-      by false h = let f : words_of (Tagged o t p r q n) ≡ 0 ∷ [] = rw h at (is-given s _ e) in cc
+      by false h = let g : words_of (Ok (Some f)) ≡ 0 ∷ [] = rw h at (is-given s _ e) in cc
 
-  fields-are : words_of (Tagged o t p r q n) ≡ 0 ∷ fields_of (header s)
+  fields-are : words_of (Ok (Some f)) ≡ 0 ∷ fields_of (header s)
   fields-are = rw is-tagged at (is-given s _ e)
 
   -- field k of the answer, behind its 0
-  field_is : (k : ℕ) → get_or (words_of (Tagged o t p r q n)) k 0 ≡ get_or (0 ∷ fields_of (header s)) k 0
+  field_is : (k : ℕ) → get_or (words_of (Ok (Some f))) k 0 ≡ get_or (0 ∷ fields_of (header s)) k 0
   field_is k = ap (λ (l : List ℕ). get_or l k 0) fields-are
 
-  time-is : time_text t.day t.hour t.minute t.second t.micros
+  time-is : time_text f.time.day f.time.hour f.time.minute f.time.second f.time.micros
       ≡ time_text (day (header s)) (hour (header s)) (minute (header s)) (second (header s)) (micros (header s))
   time-is =
-      let d : t.day ≡ day (header s) = field_is 9 in
-      let h : t.hour ≡ hour (header s) = field_is 10 in
-      let m : t.minute ≡ minute (header s) = field_is 11 in
-      let c : t.second ≡ second (header s) = field_is 12 in
-      let u : t.micros ≡ micros (header s) = field_is 13 in
+      let d : f.time.day ≡ day (header s) = field_is 9 in
+      let h : f.time.hour ≡ hour (header s) = field_is 10 in
+      let m : f.time.minute ≡ minute (header s) = field_is 11 in
+      let c : f.time.second ≡ second (header s) = field_is 12 in
+      let u : f.time.micros ≡ micros (header s) = field_is 13 in
       rw (d, h, m, c, u)
 
-  reduction-is : reduction_text r.playback r.sampling r.decimation
+  reduction-is : reduction_text f.reduction.playback f.reduction.sampling f.reduction.decimation
       ≡ reduction_text (playback (header s)) (sampling (header s)) (decimation_of (field_of (header s) 12 2 4))
   reduction-is =
-      let b : r.playback ≡ playback (header s) = field_is 20 in
-      let a : r.sampling ≡ sampling (header s) = field_is 21 in
-      let x : r.decimation ≡ decimation_of (field_of (header s) 12 2 4) = field_is 23 in
+      let b : f.reduction.playback ≡ playback (header s) = field_is 20 in
+      let a : f.reduction.sampling ≡ sampling (header s) = field_is 21 in
+      let x : f.reduction.decimation ≡ decimation_of (field_of (header s) 12 2 4) = field_is 23 in
       rw (b, a, x)
 
   pub tagged-says : Says s place true
       (source place (header s)
-      ++ time_text t.day t.hour t.minute t.second t.micros
-      ++ reduction_text r.playback r.sampling r.decimation)
+      ++ time_text f.time.day f.time.hour f.time.minute f.time.second f.time.micros
+      ++ reduction_text f.reduction.playback f.reduction.sampling f.reduction.decimation)
   unfolding line_of line
   tagged-says = record { taken = is-accepted s _ e; text = rw (is-accepted s _ e, is-tagged, time-is, reduction-is, append_assoc) }
 
 -- ---- not tagged
 
-module _ (s : List ℕ) (place : ℕ) (e : words_of Untagged ≡ read_record s) where
+module _ (s : List ℕ) (place : ℕ) (e : words_of (Ok None) ≡ read_record s) where
   is-untagged : tagged (header s) ≡ false
   is-untagged = by (tagged (header s)) refl
     where
@@ -100,7 +94,7 @@ module _ (s : List ℕ) (place : ℕ) (e : words_of Untagged ≡ read_record s) 
 
 -- ---- refused
 
-module _ (s : List ℕ) (place : ℕ) (r : Refusal) (e : words_of (Refused r) ≡ read_record s) where
+module _ (s : List ℕ) (place : ℕ) (r : Refusal) (e : words_of (Err r) ≡ read_record s) where
   pub refused-number : number_of r ≡ verdict (read_rules s)
   unfolding read_record
   refused-number = by (outcome (read_rules s))

@@ -1,25 +1,17 @@
 // The lines of a listing. Each function writes its text into a lent slice from index `at` on, and gives the index behind it.
 ghost use Rattle.std.specs.Prelude.{◌≡◌, ◌+◌, ◌≤◌, length};
+ghost use Rattle.refusals.specs.Table.{number_of};
 ghost use Rattle.text.specs.Text.{Puts};
 ghost use Rattle.idr_list_text.specs.Text.{heading, origin_text, clock, time_text, reduction_text, untagged_text, why, last_line};
 ghost use Rattle.idr_list_text.specs.Text.{most_line};
 ghost use Rattle.idr_list_text.specs.Run.{of_tapes};
 ghost use Rattle.streaming.specs.Run.{begun};
+ghost use Rattle.idr_list_text.specs.inner.Lists.{number_told};
 ghost use Rattle.idr_list_text.specs.inner.Room.{most_why, most_origin, most_time, most_reduction};
 
 use idr::{Reduction, Time};
+use refusals::Refusal;
 use streaming::State;
-
-// The refusals that a listing can end with, by number; 0 is the tape's end.
-const END: u32 = 0;
-
-const LENGTHS: u32 = 50;
-
-const LENGTH_WORD: u32 = 51;
-
-const TIME: u32 = 52;
-
-const RATE: u32 = 53;
 
 const ZERO: u8 = b'0';
 
@@ -124,35 +116,47 @@ pub(crate) fn put_untagged(out: &mut [u8], at: usize) -> usize
 }
 
 // Writes the last line: the stop place, the stop number, and what it means.
-pub(crate) fn put_last(out: &mut [u8], at: usize, place: u64, number: u32) -> usize
+pub(crate) fn put_last(out: &mut [u8], at: usize, place: u64, stop: Option<Refusal>) -> usize
     requires { at + most_line ≤ length out.old }
-    ensures puts { Puts out.old out.new at result (last_line place number) }
+    ensures puts { Puts out.old out.new at result (last_line place (number_told stop)) }
     ensures upper_bound { result ≤ at + most_line }
 {
     let a = text::put_numeral(out, at, place, text::SPACE);
-    let b = text::put_numeral(out, a, number as u64, text::SPACE);
-    put_why(out, b, number)
+    let b = text::put_numeral(out, a, number(stop) as u64, text::SPACE);
+    text::put_text(out, b, words(stop))
 }
 
-fn put_why(out: &mut [u8], at: usize, number: u32) -> usize
-    requires { at + most_why ≤ length out.old }
-    ensures puts { Puts out.old out.new at result (why number) }
-    ensures upper_bound { result ≤ at + most_why }
+// The stop number; 0 at the tape's end.
+// A number, since the last line has it, and `last_line` of specs/Text.antt is of numbers.
+fn number(stop: Option<Refusal>) -> u32
+    ensures { result ≡ number_told stop }
 {
-    if number == END {
-        return text::put_text(out, at, b"end of tape\n");
+    match stop {
+        None => 0,
+        Some(refusal) => refusals::number(refusal),
     }
-    if number == LENGTHS {
-        return text::put_text(out, at, b"not a whole record\n");
+}
+
+// What the stop number means.
+fn words(stop: Option<Refusal>) -> &'static [u8]
+    ensures value { result.now ≡ why (number_told stop) }
+    ensures upper_bound { length result.now ≤ most_why }
+{
+    match stop {
+        None => b"end of tape\n",
+        Some(refusal) => meaning(refusal),
     }
-    if number == LENGTH_WORD {
-        return text::put_text(out, at, b"length word not 2528\n");
+}
+
+fn meaning(refusal: Refusal) -> &'static [u8]
+    ensures value { result.now ≡ why (number_of refusal) }
+    ensures upper_bound { length result.now ≤ most_why }
+{
+    match refusal {
+        Refusal::TapeLengths => b"not a whole record\n",
+        Refusal::TapeLengthWord => b"length word not 2528\n",
+        Refusal::TapeTime => b"not a time\n",
+        Refusal::TapeRate => b"rate not listed\n",
+        _ => b"block size zero or positive\n",
     }
-    if number == TIME {
-        return text::put_text(out, at, b"not a time\n");
-    }
-    if number == RATE {
-        return text::put_text(out, at, b"rate not listed\n");
-    }
-    text::put_text(out, at, b"block size zero or positive\n")
 }

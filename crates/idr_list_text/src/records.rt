@@ -10,10 +10,9 @@ ghost use Rattle.idr_list_text.specs.Text.{source, most_line};
 ghost use Rattle.idr_list_text.specs.inner.Room.{most_origin};
 ghost use Rattle.idr_list_text.specs.Listing.{stop_number};
 ghost use Rattle.idr_list_text.specs.Run.{of_tapes};
-ghost use Rattle.idr_list_text.specs.inner.Lists.{ListsOne, Ready};
+ghost use Rattle.idr_list_text.specs.inner.Lists.{number_told, ListsOne, Ready};
 
 use crate::{Listed, lines};
-use idr::Read;
 use refusals::Refusal;
 use streaming::State;
 
@@ -56,41 +55,34 @@ fn list_record(r: &[u8], place: u64, out: &mut [u8], at: usize) -> Listed
     ensures lists_one { ListsOne r.now place out.old out.new at result }
     ensures end_bound { result.end ≤ at + most_line }
 {
-    let read = idr::read_record(r);
-    match read {
-        Read::Tagged {
-            origin: _,
-            time,
-            recorder: _,
-            reduction,
-            status: _,
-            count: _,
-        } => {
+    match idr::read_record(r) {
+        Ok(Some(tagged)) => {
             let a = put_source(out, at, place, r);
-            let b = lines::put_time(out, a, time);
-            let end = lines::put_reduction(out, b, reduction);
-            return Listed { end, done: false };
+            let b = lines::put_time(out, a, tagged.time);
+            let end = lines::put_reduction(out, b, tagged.reduction);
+            Listed { end, done: false }
         }
-        Read::Untagged => {
+        Ok(None) => {
             let a = put_source(out, at, place, r);
             let end = lines::put_untagged(out, a);
-            return Listed { end, done: false };
+            Listed { end, done: false }
         }
-        Read::Refused(why) => {
-            let end = lines::put_last(out, at, place, stop_number(r, why));
-            return Listed { end, done: true };
+        Err(why) => {
+            let end = lines::put_last(out, at, place, stop(r, why));
+            Listed { end, done: true }
         }
     }
 }
 
-// Writes the fields that every record has.
+// Writes the fields that every record has. A fixed array, since the text crates use no heap, and a record has 28 header words.
 fn put_source(out: &mut [u8], at: usize, place: u64, r: &[u8]) -> usize
     requires { (at + most_origin ≤ length out.old) × (accepts r.now ≡ true) }
     ensures puts { Puts out.old out.new at result (source place (header r.now)) }
     ensures upper_bound { result ≤ at + most_origin }
 {
     let mut w = [0u16; idr::HEADER];
-    idr::read_words(r, &mut w);
+    // The reader accepts the record, so its words are copied.
+    let _ = idr::read_words(r, &mut w);
     lines::put_origin(
         out,
         at,
@@ -102,13 +94,13 @@ fn put_source(out: &mut [u8], at: usize, place: u64, r: &[u8]) -> usize
     )
 }
 
-// The stop number; 0 if nothing of the tape is left.
-fn stop_number(r: &[u8], why: Refusal) -> u32
+// Why the tape stops: for nothing if nothing of it is left.
+fn stop(r: &[u8], why: Refusal) -> Option<Refusal>
     requires { number_of why ≡ verdict (read_rules r.now) }
-    ensures { result ≡ stop_number r.now }
+    ensures { number_told result ≡ stop_number r.now }
 {
-    if r.len() == 0 {
-        return 0;
+    if r.is_empty() {
+        return None;
     }
-    refusals::number(why)
+    Some(why)
 }

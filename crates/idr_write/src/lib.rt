@@ -8,31 +8,25 @@ ghost use Rattle.idr.specs.Words.{header_count, samples_at, samples_size, record
 ghost use Rattle.idr.specs.Rules.{outcome_number};
 ghost use Rattle.idr_write.specs.Write.{word_bytes, write_record};
 
-use idr::Outcome;
 use octets::numbers;
 use refusals::Refusal;
 
 // Writes the record that has these header words and samples. A refusal leaves `out` unchanged.
-pub fn write_record(words: &[u16], samples: &[u8], out: &mut [u8]) -> Outcome
+pub fn write_record(words: &[u16], samples: &[u8], out: &mut [u8]) -> Result<(), Refusal>
     ensures { (outcome_number result ∷ [], out.new) ≡ write_record words.now samples.now out.old }
 {
     if out.len() != idr::RECORD {
-        return Outcome::Refused(Refusal::TapeLengths);
+        return Err(Refusal::TapeLengths);
     }
     if words.len() != idr::HEADER {
-        return Outcome::Refused(Refusal::TapeLengths);
+        return Err(Refusal::TapeLengths);
     }
     if samples.len() != idr::SAMPLES {
-        return Outcome::Refused(Refusal::TapeLengths);
+        return Err(Refusal::TapeLengths);
     }
-    let judged = idr::judge(words);
-    match judged {
-        Outcome::Accepted => {
-            write_whole(words, samples, out);
-            return Outcome::Accepted;
-        }
-        Outcome::Refused(r) => Outcome::Refused(r),
-    }
+    idr::judge(words)?;
+    write_whole(words, samples, out);
+    Ok(())
 }
 
 fn write_whole(words: &[u16], samples: &[u8], out: &mut [u8])
@@ -47,13 +41,7 @@ fn write_words(words: &[u16], out: &mut [u8])
     requires { (length words.now ≡ header_count) × (samples_at ≤ length out.old) }
     ensures { out.new ≡ put out.old 0 (word_bytes words.now) }
 {
-    for i in 0..idr::HEADER {
-        numbers::write_be(out, i * idr::WORD, idr::WORD, wide(words[i]));
+    for (i, word) in words.iter().enumerate() {
+        numbers::write_be(out, i * idr::WORD, idr::WORD, u64::from(*word));
     }
-}
-
-fn wide(x: u16) -> u64
-    ensures { result ≡ x }
-{
-    x as u64
 }

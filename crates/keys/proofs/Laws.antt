@@ -7,15 +7,20 @@ use mathlib.Core.Bool.{Bool, true, false, not, ◌&&◌, ◌||◌, false≢true}
 use mathlib.Core.Logic.{◌≢◌}
 use mathlib.Core.List.{List, [], ◌∷◌}
 use lib.Dec.{leb, ltb}
-use borrow.Author.Tests.{ltb-true, ltb-false, lt-ltb, le-ltb, le-leb, not-false}
+use borrow.Author.Tests.{ltb-true, ltb-false, lt-ltb, le-ltb, le-leb}
+use Rattle.std.specs.Prelude.{Result}
+use Rattle.std.specs.Result.{IsErrAnd}
+use Rattle.std.proofs.lemmas.Result.{err_from_is_err_and}
+use Rattle.refusals.specs.declared.Refusal.{Refusal}
+use Rattle.refusals.specs.declared.Refusal.TheVariants.{BadKey}
 use Rattle.laws.proofs.Bools.{and_split}
 use Rattle.refusals.specs.Judge.{◌when◌, judge}
-use Rattle.refusals.proofs.Laws.{number-injective}
 use Rattle.keys.specs.Key.{rsr_start, rsr_end, valid_key, telemetry_key, rsr_key, made, telemetry_key_call, rsr_key_call}
 use Rattle.keys.specs.Key.{telemetry_kind, telemetry_parts, rsr_kind, rsr_parts, parts_call}
-use Rattle.keys.specs.declared.KeyAnswer.TheVariants.{Key, Refused}
-use Rattle.keys.specs.declared.KeyParts.TheVariants as P
-use Rattle.keys.specs.Words.{DifferentKeys, DifferentParts}
+use Rattle.refusals.specs.Words.{one_word, Different}
+use Rattle.refusals.proofs.Words.{answers-differ, one-differs}
+use Rattle.keys.specs.declared.KeyParts.TheVariants.{Telemetry, Rsr}
+use Rattle.keys.specs.Words.{words_of, values_of, DifferentKeys, DifferentParts}
 use Rattle.keys.specs.Stream.{Stream, telemetry, rsr, key_call, stream_words, PartsAreStream, RefusedIsNoStream}
 use Rattle.keys.specs.Laws.{NamesOne, MadeValid, Named, ValidNamed}
 
@@ -35,18 +40,15 @@ below a m b n c o d p e =
     let x = and_split (ltb a m) (ltb b n) y.0 in
     record { one = ltb-true a m x.0; two = ltb-true b n x.1; three = ltb-true c o y.1; four = ltb-true d p z.1 }
 
--- What is known of four numbers that were found to fit.
-pub fit_all : (a m b n c o d p : ℕ) (fit : Bool) → fit ≡ (ltb a m && ltb b n && ltb c o && ltb d p) → not fit ≡ false → Below a m b n c o d p
-fit_all a m b n c o d p fit e t = below a m b n c o d p (sym e ∙ not-false fit t)
-
--- What a key call answers, by whether they do.
-pub refuses : (fits fit : Bool) (key : ℕ) → fit ≡ fits → not fit ≡ true → 22 ∷ [] ≡ made ((22 when not fits) ∷ []) key
+-- A `?` hands on the refusal of a number that does not fit.
+pub refuses : (answer : Result ℕ Refusal) {why : Refusal} → IsErrAnd answer (λ given. given ≡ why) → why ≡ BadKey → (fits : Bool) (key : ℕ)
+    → fits ≡ false → words_of answer ≡ made ((22 when not fits) ∷ []) key
 unfolding judge
-refuses fits fit key e t = rw (← e, t)
+refuses answer h e fits key not-all = let given = err_from_is_err_and answer h in rw (given.1, given.2, e, not-all) refl
 
-pub makes : (fits fit : Bool) (key formula : ℕ) → fit ≡ fits → not fit ≡ false → key ≡ formula → 0 ∷ key ∷ [] ≡ made ((22 when not fits) ∷ []) formula
+pub makes : (fits : Bool) (key formula : ℕ) → fits ≡ true → key ≡ formula → 0 ∷ key ∷ [] ≡ made ((22 when not fits) ∷ []) formula
 unfolding judge
-makes fits fit key formula e t same = rw (← e, t, same)
+makes fits key formula all same = rw (all, same) refl
 
 pub fitting : (a m b n c o d p : ℕ) → Below a m b n c o d p → (ltb a m && ltb b n && ltb c o && ltb d p) ≡ true
 fitting a m b n c o d p w = rw (lt-ltb a m w.one, lt-ltb b n w.two, lt-ltb c o w.three, lt-ltb d p w.four)
@@ -261,18 +263,13 @@ refused-is-no-stream key = (none, refused)
 
 -- Different answers have different words.
 pub words-injective : DifferentKeys
-words-injective (Key k) (Key l) e = cc
-words-injective (Key k) (Refused r) e = cc
-words-injective (Refused r) (Key k) e = cc
-words-injective (Refused r) (Refused s) e = ap Refused (number-injective r s (cc))
+words-injective = answers-differ one_word one-differs
+
+values-differ : Different values_of
+values-differ (Telemetry a b c d) (Telemetry a' b' c' d') e = cc
+values-differ (Rsr a b c d) (Rsr a' b' c' d') e = cc
+values-differ (Telemetry a b c d) (Rsr a' b' c' d') e = cc
+values-differ (Rsr a b c d) (Telemetry a' b' c' d') e = cc
 
 pub parts-injective : DifferentParts
-parts-injective (P.Telemetry a b c d) (P.Telemetry a' b' c' d') e = cc
-parts-injective (P.Rsr a b c d) (P.Rsr a' b' c' d') e = cc
-parts-injective (P.Telemetry a b c d) (P.Rsr a' b' c' d') e = cc
-parts-injective (P.Rsr a b c d) (P.Telemetry a' b' c' d') e = cc
-parts-injective (P.Telemetry a b c d) (P.Refused r) e = cc
-parts-injective (P.Rsr a b c d) (P.Refused r) e = cc
-parts-injective (P.Refused r) (P.Telemetry a b c d) e = cc
-parts-injective (P.Refused r) (P.Rsr a b c d) e = cc
-parts-injective (P.Refused r) (P.Refused s) e = ap P.Refused (number-injective r s (cc))
+parts-injective = answers-differ values_of values-differ

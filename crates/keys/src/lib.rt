@@ -2,11 +2,12 @@
 
 #![tactic(auto)]
 
-ghost use Rattle.std.specs.Prelude.{◌≡◌, ◌&&◌, ◌∷◌, ◌<◌, ◌^◌, ltb};
+ghost use Rattle.std.specs.Prelude.{◌≡◌, ◌∷◌, ◌<◌, ◌≤◌, ◌^◌, MatchResult};
+ghost use Rattle.refusals.specs.declared.Refusal.TheVariants.{BadKey};
 ghost use Rattle.keys.specs.Key.{valid_key, telemetry_key, rsr_key, telemetry_key_call, rsr_key_call, parts_call};
 ghost use Rattle.keys.specs.Key.{rsr_start, telemetry_kind, telemetry_parts, rsr_kind, rsr_parts};
 ghost use Rattle.keys.specs.Numbers.{is_number};
-ghost use Rattle.keys.specs.Words.{words_of, parts_words};
+ghost use Rattle.keys.specs.Words.{words_of, parts_words, values_of};
 
 use refusals::Refusal;
 
@@ -34,12 +35,6 @@ const RSR_END: u64 = RSR_START + AT_32;
 // How many record numbers an RSR stream has. A telemetry stream has 2^32.
 pub const RSR_NUMBERS: u32 = LIMIT_16;
 
-#[derive(Clone, Copy)]
-pub enum KeyAnswer {
-    Key(u64),
-    Refused(Refusal),
-}
-
 // The parts of a key: its four numbers, in the order of the call that makes it.
 #[derive(Clone, Copy)]
 pub enum KeyParts {
@@ -55,49 +50,32 @@ pub enum KeyParts {
         receiver: u32,
         subchannel: u32,
     },
-    Refused(Refusal),
 }
 
-// Whether two numbers each lie below their limits.
-fn both_fit(a: u32, alimit: u32, b: u32, blimit: u32) -> bool
-    ensures { result ≡ (ltb a alimit && ltb b blimit) }
+// The number, if it lies below the limit of its field; otherwise refuses it.
+fn below(n: u32, limit: u32) -> Result<u32, Refusal>
+    ensures { MatchResult result (λ m. (m ≡ n) × (n < limit)) (λ why. (why ≡ BadKey) × (limit ≤ n)) }
 {
-    if alimit <= a {
-        return false;
+    if limit <= n {
+        return Err(Refusal::BadKey);
     }
-    b < blimit
-}
-
-// Whether four numbers each lie below their limits.
-fn all_fit(
-    a: u32,
-    alimit: u32,
-    b: u32,
-    blimit: u32,
-    c: u32,
-    climit: u32,
-    d: u32,
-    dlimit: u32,
-) -> bool
-    ensures { result ≡ (ltb a alimit && ltb b blimit && ltb c climit && ltb d dlimit) }
-{
-    if !both_fit(a, alimit, b, blimit) {
-        return false;
-    }
-    both_fit(c, climit, d, dlimit)
+    Ok(n)
 }
 
 // The key of a telemetry stream. Refuses a number that does not fit its field.
-pub fn telemetry_key(spacecraft: u32, source: u32, equipment: u32, stream: u32) -> KeyAnswer
+pub fn telemetry_key(
+    spacecraft: u32,
+    source: u32,
+    equipment: u32,
+    stream: u32,
+) -> Result<u64, Refusal>
     ensures { words_of result ≡ telemetry_key_call spacecraft source equipment stream }
 {
-    let fit = all_fit(
-        spacecraft, LIMIT_10, source, LIMIT_8, equipment, LIMIT_16, stream, LIMIT_8,
-    );
-    if !fit {
-        return KeyAnswer::Refused(Refusal::BadKey);
-    }
-    KeyAnswer::Key(telemetry_key_of(
+    let spacecraft = below(spacecraft, LIMIT_10)?;
+    let source = below(source, LIMIT_8)?;
+    let equipment = below(equipment, LIMIT_16)?;
+    let stream = below(stream, LIMIT_8)?;
+    Ok(telemetry_key_of(
         spacecraft as u16,
         source as u8,
         equipment as u16,
@@ -114,16 +92,19 @@ pub fn telemetry_key_of(spacecraft: u16, source: u8, equipment: u16, stream: u8)
 }
 
 // The key of an RSR stream. Refuses a number that does not fit its field.
-pub fn rsr_key(spacecraft: u32, station: u32, receiver: u32, subchannel: u32) -> KeyAnswer
+pub fn rsr_key(
+    spacecraft: u32,
+    station: u32,
+    receiver: u32,
+    subchannel: u32,
+) -> Result<u64, Refusal>
     ensures { words_of result ≡ rsr_key_call spacecraft station receiver subchannel }
 {
-    let fit = all_fit(
-        spacecraft, LIMIT_8, station, LIMIT_8, receiver, LIMIT_8, subchannel, LIMIT_8,
-    );
-    if !fit {
-        return KeyAnswer::Refused(Refusal::BadKey);
-    }
-    KeyAnswer::Key(rsr_key_of(
+    let spacecraft = below(spacecraft, LIMIT_8)?;
+    let station = below(station, LIMIT_8)?;
+    let receiver = below(receiver, LIMIT_8)?;
+    let subchannel = below(subchannel, LIMIT_8)?;
+    Ok(rsr_key_of(
         spacecraft as u8,
         station as u8,
         receiver as u8,
@@ -162,21 +143,21 @@ pub fn is_number(key: u64, n: u32) -> bool
 }
 
 // The parts of a key: its kind and its four numbers.
-pub fn parts(key: u64) -> KeyParts
+pub fn parts(key: u64) -> Result<KeyParts, Refusal>
     ensures { parts_words result ≡ parts_call key }
 {
     if RSR_END <= key {
-        return KeyParts::Refused(Refusal::BadKey);
+        return Err(Refusal::BadKey);
     }
     if key < RSR_START {
-        return telemetry_parts(key);
+        return Ok(telemetry_parts(key));
     }
-    rsr_parts(key - RSR_START)
+    Ok(rsr_parts(key - RSR_START))
 }
 
 fn telemetry_parts(key: u64) -> KeyParts
     requires { key < rsr_start }
-    ensures { parts_words result ≡ 0 ∷ telemetry_kind ∷ telemetry_parts key }
+    ensures { values_of result ≡ telemetry_kind ∷ telemetry_parts key }
 {
     KeyParts::Telemetry {
         spacecraft: (key / AT_32) as u32,
@@ -189,7 +170,7 @@ fn telemetry_parts(key: u64) -> KeyParts
 // The parts of the RSR key RSR_START + above.
 fn rsr_parts(above: u64) -> KeyParts
     requires { above < 2 ^ 32 }
-    ensures { parts_words result ≡ 0 ∷ rsr_kind ∷ rsr_parts above }
+    ensures { values_of result ≡ rsr_kind ∷ rsr_parts above }
 {
     KeyParts::Rsr {
         spacecraft: (above / AT_24) as u32,

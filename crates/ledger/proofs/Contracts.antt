@@ -6,7 +6,7 @@ use Rattle.laws.proofs.Keeps.{Keeps}
 use Rattle.ledger_model.specs.Step.{Find, RowReport, FirstGap, RowStream, DeskState, Unsaved}
 use Rattle.ledger_model.specs.Step.{Enrol, Ask, Open, Tick, Untick, Save, Drop, Strike}
 use Rattle.ledger_sheet.specs.Words.{answer_words}
-use Rattle.ledger_sheet.specs.declared.Answer.TheVariants as A
+use Rattle.std.specs.Prelude.{Ok}
 use Rattle.ledger_layout.specs.Layout.{fresh_on}
 use Rattle.ledger_layout.specs.Demand3.{answer_of, row_answer_of, report_answer_of, gap_answer_of, stream_answer_of, desk_answer_of, unsaved_answer_of}
 use Rattle.ledger.specs.Demand3.{MadeFresh, Promised, enrolled, found, reported, gapped, row_told, desk_told, unsaved_told}
@@ -41,7 +41,7 @@ use Rattle.ledger.proofs.unsaved.Reads as unsaved
 use Rattle.ledger.proofs.unsaved.Kinds as unsaved-kinds
 
 pub fresh_keeps : Keeps 1 fresh-kinds.ps fresh-kinds.r fresh.Asked fresh.Learnt
-    (λ κs a r e. ((answer_words r, e.0.now) ≡ fresh_on a.0.now) × (r ≡ A.Done → MadeFresh a.0.now e.0.now))
+    (λ κs a r e. ((answer_words r, e.0.now) ≡ fresh_on a.0.now) × (r ≡ Ok tt → MadeFresh a.0.now e.0.now))
 fresh_keeps = record { asks_nothing = λ κs a. tt; gives = λ κs a r e fits h. (h, λ done. rw done at h) }
 
 pub enrol-keeps : Keeps 1 enrol-kinds.ps enrol-kinds.r enrol.Asked enrol.Learnt

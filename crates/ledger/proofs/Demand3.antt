@@ -13,27 +13,26 @@ use Rattle.ledger_sheet.specs.Outcome.{Outcome}
 use Rattle.ledger_layout.specs.Bytes.{fresh_sheet}
 use Rattle.ledger_layout.specs.Layout.{layout, fresh_on}
 use Rattle.ledger_layout.specs.inner.Demand3 as Layout
-use Rattle.ledger_layout.proofs.Demand3.{answer-meets, row-answer-meets, report-answer-meets, gap-answer-meets}
-use Rattle.ledger_layout.proofs.Demand3.{stream-answer-meets, desk-answer-meets, unsaved-answer-meets, demand3}
+use Rattle.ledger_layout.proofs.Demand3.{answer-meets, demand3}
 use Rattle.ledger_layout.proofs.Sheets.{fresh-layout}
 use Rattle.ledger.specs.Demand3.{MadeFresh, Promised, enrolled, found, reported, gapped, row_told, desk_told, unsaved_told}
 use Rattle.ledger.specs.Demand3.{opened, ticked, unticked, saved, dropped, struck, Demand3, EveryDemand3}
 
 -- each contract's equation is the promise that the claim asks for
 pub meets : {c : Call} {s t : List ℕ} {a : Answer} → Promised c s a t → Layout.Meets c s a t
-meets (enrolled r e) = row-answer-meets _ _ r _ e
-meets (found r e) = row-answer-meets _ _ r _ e
-meets (reported r e) = report-answer-meets _ _ r _ e
-meets (gapped r e) = gap-answer-meets _ _ r _ e
-meets (row_told r e) = stream-answer-meets _ _ r _ e
-meets (desk_told r e) = desk-answer-meets _ _ r _ e
-meets (unsaved_told r e) = unsaved-answer-meets _ _ r _ e
-meets (opened r e) = answer-meets _ _ r _ e
-meets (ticked r e) = answer-meets _ _ r _ e
-meets (unticked r e) = answer-meets _ _ r _ e
-meets (saved r e) = answer-meets _ _ r _ e
-meets (dropped r e) = answer-meets _ _ r _ e
-meets (struck r e) = answer-meets _ _ r _ e
+meets (enrolled r e) = answer-meets _ _ _ r _ e
+meets (found r e) = answer-meets _ _ _ r _ e
+meets (reported r e) = answer-meets _ _ _ r _ e
+meets (gapped r e) = answer-meets _ _ _ r _ e
+meets (row_told r e) = answer-meets _ _ _ r _ e
+meets (desk_told r e) = answer-meets _ _ _ r _ e
+meets (unsaved_told r e) = answer-meets _ _ _ r _ e
+meets (opened r e) = answer-meets _ _ _ r _ e
+meets (ticked r e) = answer-meets _ _ _ r _ e
+meets (unticked r e) = answer-meets _ _ _ r _ e
+meets (saved r e) = answer-meets _ _ _ r _ e
+meets (dropped r e) = answer-meets _ _ _ r _ e
+meets (struck r e) = answer-meets _ _ _ r _ e
 
 chain-meets : {s t : List ℕ} {log : List Entry} → Chain Promised s log t → Chain Layout.Meets s log t
 chain-meets stop = stop

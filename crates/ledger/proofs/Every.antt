@@ -24,13 +24,7 @@ use Rattle.ledger_model.proofs.Counts.{least-none}
 use Rattle.ledger_model.proofs.Outcome.{outcome}
 use Rattle.ledger_model.proofs.WellFormed.{well-formed, fresh-well-formed}
 use Rattle.ledger_sheet.specs.Words as Words
-use Rattle.ledger_sheet.specs.declared.Answer.TheVariants as A
-use Rattle.ledger_sheet.specs.declared.RowAnswer.TheVariants as R
-use Rattle.ledger_sheet.specs.declared.ReportAnswer.TheVariants as Report
-use Rattle.ledger_sheet.specs.declared.GapAnswer.TheVariants as G
-use Rattle.ledger_sheet.specs.declared.StreamAnswer.TheVariants as S
-use Rattle.ledger_sheet.specs.declared.DeskAnswer.TheVariants as D
-use Rattle.ledger_sheet.specs.declared.UnsavedAnswer.TheVariants as U
+use Rattle.std.specs.Prelude.{None, Some, Ok, Err}
 use Rattle.ledger_layout.specs.Layout.{layout, call, on_sheet}
 use Rattle.ledger_layout.specs.Demand3.{answer_of, row_answer_of, report_answer_of, gap_answer_of, stream_answer_of, desk_answer_of, unsaved_answer_of}
 use Rattle.ledger_layout.proofs.Sheets.{fresh-layout, on-layout, asking-stays}
@@ -88,23 +82,23 @@ plain : (c : Call) (b : Book) → (effect c b).answer ≡ done → Told answer_o
 plain c b e = by (case c b)
   where
     by : Case c b → Told answer_of Words.answer_words (step c b).answer
-    by (accepts n s) = rw (s, e) (record { value = A.Done; stands = refl; says = refl })
-    by (refuses q s) = rw s (record { value = A.Refused q; stands = refl; says = refl })
+    by (accepts n s) = rw (s, e) (record { value = Ok tt; stands = refl; says = refl })
+    by (refuses q s) = rw s (record { value = Err q; stands = refl; says = refl })
 
 at-row : (c : Call) (b : Book) (r : ℕ) → (effect c b).answer ≡ at_row r → Told row_answer_of Words.row_words (step c b).answer
 at-row c b r e = by (case c b)
   where
     by : Case c b → Told row_answer_of Words.row_words (step c b).answer
-    by (accepts n s) = rw (s, e) (record { value = R.Row r; stands = refl; says = refl })
-    by (refuses q s) = rw s (record { value = R.Refused q; stands = refl; says = refl })
+    by (accepts n s) = rw (s, e) (record { value = Ok r; stands = refl; says = refl })
+    by (refuses q s) = rw s (record { value = Err q; stands = refl; says = refl })
 
 report-told : (key first : ℕ) (ticks : Positions) (o : Option ℕ) → least (missing ticks) ≡ o
     → Told report_answer_of Words.report_answer_words (gave (asked (RowReport 0) (record { places = row key first ticks ∷ []; desks = [] })))
 unfolding asked
 report-told key first ticks none e =
-    rw (e, least-none (missing ticks) e) (record { value = Report.Whole (size ticks); stands = refl; says = refl })
+    rw (e, least-none (missing ticks) e) (record { value = Ok (record { ticked = size ticks; gaps = None }); stands = refl; says = refl })
 report-told key first ticks (some i) e =
-    rw e (record { value = Report.Gaps (size ticks) (size (missing ticks)) (position_number key first i); stands = refl; says = refl })
+    rw e (record { value = Ok (record { ticked = size ticks; gaps = Some (record { missing = size (missing ticks); lowest = position_number key first i }) }); stands = refl; says = refl })
 
 report : (r : ℕ) (b : Book) → Told report_answer_of Words.report_answer_words (step (Ask (RowReport r)) b).answer
 unfolding refusals effect asked
@@ -116,18 +110,18 @@ report r b = by (case (Ask (RowReport r)) b)
 
     by : Case (Ask (RowReport r)) b → Told report_answer_of Words.report_answer_words (step (Ask (RowReport r)) b).answer
     by (accepts n s) = rw s (there (place b r) refl n.0)
-    by (refuses q s) = rw s (record { value = Report.Refused q; stands = refl; says = refl })
+    by (refuses q s) = rw s (record { value = Err q; stands = refl; says = refl })
 
 gap-told : (r : ℕ) (ps : List Place) → Told gap_answer_of Words.gap_words (gave (first_gap_from r ps))
 unfolding first_gap_from
-gap-told r [] = record { value = G.Nothing; stands = refl; says = refl }
+gap-told r [] = record { value = Ok None; stands = refl; says = refl }
 gap-told r (free ∷ ps) = gap-told (suc r) ps
 gap-told r (row key first ticks ∷ ps) = by (least (missing ticks)) refl (gap-told (suc r) ps)
   where
     by : (o : Option ℕ) → least (missing ticks) ≡ o → Told gap_answer_of Words.gap_words (gave (first_gap_from (suc r) ps))
         → Told gap_answer_of Words.gap_words (gave (first_gap_from r (row key first ticks ∷ ps)))
     by none e later = rw e later
-    by (some i) e later = rw e (record { value = G.Gap (position_number key first i) r; stands = refl; says = refl })
+    by (some i) e later = rw e (record { value = Ok (Some (record { number = position_number key first i; row = r })); stands = refl; says = refl })
 
 gap : (b : Book) → Told gap_answer_of Words.gap_words (step (Ask FirstGap) b).answer
 unfolding effect asked
@@ -135,7 +129,7 @@ gap b = by (case (Ask FirstGap) b)
   where
     by : Case (Ask FirstGap) b → Told gap_answer_of Words.gap_words (step (Ask FirstGap) b).answer
     by (accepts n s) = rw s (gap-told 0 b.places)
-    by (refuses q s) = rw s (record { value = G.Refused q; stands = refl; says = refl })
+    by (refuses q s) = rw s (record { value = Err q; stands = refl; says = refl })
 
 row-stream : (r : ℕ) (b : Book) → Told stream_answer_of Words.stream_words (step (Ask (RowStream r)) b).answer
 unfolding refusals effect asked
@@ -143,31 +137,31 @@ row-stream r b = by (case (Ask (RowStream r)) b)
   where
     there : (p : Place) → is_free p ≡ false → Told stream_answer_of Words.stream_words (gave (place_stream p))
     there free n = absurd (true≢false n)
-    there (row key first ticks) n = record { value = S.Stream key first; stands = refl; says = refl }
+    there (row key first ticks) n = record { value = Ok (record { key = key; first = first }); stands = refl; says = refl }
 
     by : Case (Ask (RowStream r)) b → Told stream_answer_of Words.stream_words (step (Ask (RowStream r)) b).answer
     by (accepts n s) = rw s (there (place b r) n.0)
-    by (refuses q s) = rw s (record { value = S.Refused q; stands = refl; says = refl })
+    by (refuses q s) = rw s (record { value = Err q; stands = refl; says = refl })
 
 desk-state : (d : ℕ) (b : Book) → Told desk_answer_of Words.desk_words (step (Ask (DeskState d)) b).answer
 unfolding effect asked
 desk-state d b = by (case (Ask (DeskState d)) b)
   where
     there : (x : Desk) → Told desk_answer_of Words.desk_words (gave (desk_state b.places x))
-    there closed = record { value = D.Closed; stands = refl; says = refl }
-    there (working r as_opened worked) = record { value = D.Working r (not (same (ticks_of (place b r)) as_opened)); stands = refl; says = refl }
+    there closed = record { value = Ok None; stands = refl; says = refl }
+    there (working r as_opened worked) = record { value = Ok (Some (record { row = r; stale = not (same (ticks_of (place b r)) as_opened) })); stands = refl; says = refl }
 
     by : Case (Ask (DeskState d)) b → Told desk_answer_of Words.desk_words (step (Ask (DeskState d)) b).answer
     by (accepts n s) = rw s (there (desk b d))
-    by (refuses q s) = rw s (record { value = D.Refused q; stands = refl; says = refl })
+    by (refuses q s) = rw s (record { value = Err q; stands = refl; says = refl })
 
 unsaved : (d : ℕ) (b : Book) → Told unsaved_answer_of Words.unsaved_words (step (Ask (Unsaved d)) b).answer
 unfolding effect asked
 unsaved d b = by (case (Ask (Unsaved d)) b)
   where
     by : Case (Ask (Unsaved d)) b → Told unsaved_answer_of Words.unsaved_words (step (Ask (Unsaved d)) b).answer
-    by (accepts n s) = rw s (record { value = U.Unsaved _ _; stands = refl; says = refl })
-    by (refuses q s) = rw s (record { value = U.Refused q; stands = refl; says = refl })
+    by (accepts n s) = rw s (record { value = Ok (record { ticks = _; unticks = _ }); stands = refl; says = refl })
+    by (refuses q s) = rw s (record { value = Err q; stands = refl; says = refl })
 
 -- ---- the model's call keeps the contract
 

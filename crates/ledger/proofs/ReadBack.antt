@@ -18,7 +18,7 @@ use Rattle.octets.proofs.Laws.{Bytes}
 use Rattle.ledger_sheet.specs.Sheet.{ticks_at, ticks_size, row_size, row_at, right}
 use Rattle.ledger_changes.specs.inner.Rows.{blank_ticks, row_value_at, blank_row}
 use Rattle.ledger_sheet.specs.Words.{row_words}
-use Rattle.ledger_sheet.specs.declared.RowAnswer.TheVariants as R
+use Rattle.std.specs.Prelude.{Ok}
 use Rattle.ledger_layout.specs.Layout.{place_bytes, layout, book_of, call, on_sheet}
 use Rattle.ledger_layout.proofs.RowBytes.{row-ticks}
 use Rattle.ledger_layout.proofs.Parts.{part-within}
@@ -40,7 +40,7 @@ blank-there b ok r key first e =
     ∙ ap (λ (x : List ℕ). part x ticks_at ticks_size) bytes ∙ row-ticks key first (replicate ticks_size 0) (length-replicate {A = ℕ} ticks_size 0) in
     rw (says.key-is, says.first-is, ticks)
 
-pub enrol-reads-back : (s t : List ℕ) (key first r : ℕ) → Bytes s → (row_words (R.Row r), t) ≡ on_sheet (call (Enrol key first)) s
+pub enrol-reads-back : (s t : List ℕ) (key first r : ℕ) → Bytes s → (row_words (Ok r), t) ≡ on_sheet (call (Enrol key first)) s
     → row_value_at t (row_at r) ≡ blank_row key first
 unfolding on_sheet
 enrol-reads-back s t key first r bytes e = by (right s) refl

@@ -14,27 +14,24 @@ ghost use Rattle.ledger_layout.specs.Layout.{call, on_sheet, fresh_on};
 use ledger_changes::desks;
 use ledger_judged as judged;
 use ledger_judged::verdicts;
-use ledger_judged::verdicts::Verdict;
 use ledger_layout::lookup;
 use ledger_sheet as sheet;
-use ledger_sheet::{
-    Answer, DeskAnswer, GapAnswer, ReportAnswer, RowAnswer, StreamAnswer, UnsavedAnswer, right,
-};
+use ledger_sheet::{Gap, Report, Stream, Working, right};
 use refusals::Refusal;
 
 // Makes the slice a fresh sheet. Tests only its length.
-pub fn fresh(s: &mut [u8]) -> Answer
+pub fn fresh(s: &mut [u8]) -> Result<(), Refusal>
     ensures { (answer_words result, s.new) ≡ fresh_on s.old }
 {
     if s.len() != sheet::SHEET {
-        return Answer::Refused(Refusal::NotSheet);
+        return Err(Refusal::NotSheet);
     }
     desks::make_fresh(s);
-    Answer::Done
+    Ok(())
 }
 
 // Enrols a stream in the lowest free row, with no ticks. Answers the row.
-pub fn enrol(s: &mut [u8], key: u64, first: u32) -> RowAnswer
+pub fn enrol(s: &mut [u8], key: u64, first: u32) -> Result<u32, Refusal>
     ensures { (row_words result, s.new) ≡ on_sheet (call (Enrol key first)) s.old }
 {
     let fine = right::is_sheet(s);
@@ -42,14 +39,14 @@ pub fn enrol(s: &mut [u8], key: u64, first: u32) -> RowAnswer
 }
 
 // Finds a stream. Answers its row.
-pub fn find(s: &[u8], key: u64) -> RowAnswer
+pub fn find(s: &[u8], key: u64) -> Result<u32, Refusal>
     ensures { (row_words result, s.now) ≡ on_sheet (call (Ask (Find key))) s.now }
 {
     judged::find(s, right::is_sheet(s), key)
 }
 
 // Opens a row at a desk: the desk gets two copies of it.
-pub fn open(s: &mut [u8], desk: u32, row: u32) -> Answer
+pub fn open(s: &mut [u8], desk: u32, row: u32) -> Result<(), Refusal>
     ensures { (answer_words result, s.new) ≡ on_sheet (call (Open desk row)) s.old }
 {
     let fine = right::is_sheet(s);
@@ -57,37 +54,37 @@ pub fn open(s: &mut [u8], desk: u32, row: u32) -> Answer
 }
 
 // Ticks a number in the desk's worked copy.
-pub fn tick(s: &mut [u8], desk: u32, number: u32) -> Answer
+pub fn tick(s: &mut [u8], desk: u32, number: u32) -> Result<(), Refusal>
     ensures { (answer_words result, s.new) ≡ on_sheet (call (Tick desk number)) s.old }
 {
     mark(s, desk, number, true)
 }
 
-// Unticks a number in the desk's worked copy.
-pub fn untick(s: &mut [u8], desk: u32, number: u32) -> Answer
+// Unticks a number in the desk's worked copy. Twice, since the papers name both calls; `mark` has what they share.
+pub fn untick(s: &mut [u8], desk: u32, number: u32) -> Result<(), Refusal>
     ensures { (answer_words result, s.new) ≡ on_sheet (call (Untick desk number)) s.old }
 {
     mark(s, desk, number, false)
 }
 
 // Ticks a number if `on` is true, else unticks it.
-fn mark(s: &mut [u8], desk: u32, number: u32, on: bool) -> Answer
+fn mark(s: &mut [u8], desk: u32, number: u32, on: bool) -> Result<(), Refusal>
     ensures { (answer_words result, s.new) ≡ on_sheet (call (Mark on desk number)) s.old }
 {
     let fine = right::is_sheet(s);
     judged::mark(s, fine, desk, number, on)
 }
 
-// Drops what the desk has open: the desk is closed, and nothing is saved.
-pub fn drop(s: &mut [u8], desk: u32) -> Answer
+// Drops what the desk has open: the desk is closed, and nothing is saved. Drop, save and strike stand apart, since each has a promise of its own.
+pub fn drop(s: &mut [u8], desk: u32) -> Result<(), Refusal>
     ensures { (answer_words result, s.new) ≡ on_sheet (call (Drop desk)) s.old }
 {
     let fine = right::is_sheet(s);
     judged::drop(s, fine, desk)
 }
 
-// Saves the desk's worked copy into its row, if the row is still as the desk opened it.
-pub fn save(s: &mut [u8], desk: u32) -> Answer
+// Saves the desk's worked copy into its row, if the row is still as the desk opened it. (Apart from drop and strike, since its promise is its own.)
+pub fn save(s: &mut [u8], desk: u32) -> Result<(), Refusal>
     ensures { (answer_words result, s.new) ≡ on_sheet (call (Save desk)) s.old }
 {
     let fine = right::is_sheet(s);
@@ -95,7 +92,7 @@ pub fn save(s: &mut [u8], desk: u32) -> Answer
 }
 
 // Strikes a row that no desk has open. Its place is free again.
-pub fn strike(s: &mut [u8], row: u32) -> Answer
+pub fn strike(s: &mut [u8], row: u32) -> Result<(), Refusal>
     ensures { (answer_words result, s.new) ≡ on_sheet (call (Strike row)) s.old }
 {
     let fine = right::is_sheet(s);
@@ -103,24 +100,21 @@ pub fn strike(s: &mut [u8], row: u32) -> Answer
 }
 
 // Answers how many numbers of a row are ticked, how many are missing, and the lowest missing one.
-pub fn row_report(s: &[u8], row: u32) -> ReportAnswer
+pub fn row_report(s: &[u8], row: u32) -> Result<Report, Refusal>
     ensures { (report_answer_words result, s.now) ≡ on_sheet (call (Ask (RowReport row))) s.now }
 {
-    let verdict = verdicts::row_verdict(s, right::is_sheet(s), row);
-    if let Verdict::Refused(why) = verdict {
-        return ReportAnswer::Refused(why);
-    }
-    ledger_counts::row_report(s, row as usize)
+    verdicts::row_verdict(s, right::is_sheet(s), row)?;
+    Ok(ledger_counts::row_report(s, row as usize))
 }
 
 // Answers the first missing number and its row.
-pub fn first_gap(s: &[u8]) -> GapAnswer
+pub fn first_gap(s: &[u8]) -> Result<Option<Gap>, Refusal>
     ensures { (gap_words result, s.now) ≡ on_sheet (call (Ask FirstGap)) s.now }
 {
-    if !right::is_sheet(s) {
-        return GapAnswer::Refused(Refusal::NotSheet);
+    if right::is_sheet(s) {
+        return Ok(ledger_counts::first_gap(s));
     }
-    ledger_counts::first_gap(s)
+    Err(Refusal::NotSheet)
 }
 
 // Whether the slice is a right sheet.
@@ -131,51 +125,42 @@ pub fn is_sheet(s: &[u8]) -> bool
 }
 
 // Answers a row's stream: its key and its first number.
-pub fn row(s: &[u8], row: u32) -> StreamAnswer
+pub fn row(s: &[u8], row: u32) -> Result<Stream, Refusal>
     ensures { (stream_words result, s.now) ≡ on_sheet (call (Ask (RowStream row))) s.now }
 {
-    let verdict = verdicts::row_verdict(s, right::is_sheet(s), row);
-    if let Verdict::Refused(why) = verdict {
-        return StreamAnswer::Refused(why);
-    }
+    verdicts::row_verdict(s, right::is_sheet(s), row)?;
     let a = sheet::row_at(row as usize);
-    StreamAnswer::Stream {
+    Ok(Stream {
         key: right::key_at(s, a),
         first: right::first_at(s, a),
-    }
+    })
 }
 
 // Answers whether a desk is closed, or else its row and whether a save would be stale now.
-pub fn desk(s: &[u8], desk: u32) -> DeskAnswer
+pub fn desk(s: &[u8], desk: u32) -> Result<Option<Working>, Refusal>
     ensures { (desk_words result, s.now) ≡ on_sheet (call (Ask (DeskState desk))) s.now }
 {
-    let verdict = verdicts::desk_number_verdict(right::is_sheet(s), desk);
-    if let Verdict::Refused(why) = verdict {
-        return DeskAnswer::Refused(why);
-    }
+    verdicts::desk_number_verdict(right::is_sheet(s), desk)?;
     let d = desk as usize;
-    if lookup::is_closed(s, d) {
-        return DeskAnswer::Closed;
-    }
-    DeskAnswer::Working {
-        row: lookup::desk_row(s, d) as u32,
+    let Some(row) = lookup::open_row(s, d) else {
+        return Ok(None);
+    };
+    Ok(Some(Working {
+        row: row as u32,
         stale: !desks::is_current(s, d),
-    }
+    }))
 }
 
 // Answers how many ticks and unticks a desk has not saved.
-pub fn unsaved(s: &[u8], desk: u32) -> UnsavedAnswer
+pub fn unsaved(s: &[u8], desk: u32) -> Result<sheet::Unsaved, Refusal>
     ensures { (unsaved_words result, s.now) ≡ on_sheet (call (Ask (Unsaved desk))) s.now }
 {
-    let verdict = verdicts::desk_verdict(s, right::is_sheet(s), desk);
-    if let Verdict::Refused(why) = verdict {
-        return UnsavedAnswer::Refused(why);
-    }
+    verdicts::desk_verdict(s, right::is_sheet(s), desk)?;
     let a = sheet::desk_at(desk as usize);
     let opened = a + sheet::OPENED_AT;
     let worked = a + sheet::WORKED_AT;
-    UnsavedAnswer::Unsaved {
+    Ok(sheet::Unsaved {
         ticks: ledger_counts::ticked_beyond(s, worked, opened),
         unticks: ledger_counts::ticked_beyond(s, opened, worked),
-    }
+    })
 }

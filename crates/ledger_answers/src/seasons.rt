@@ -7,26 +7,30 @@ ghost use Rattle.ledger_answers.specs.Seasons.{in_all_count};
 ghost use Rattle.ledger_answers.specs.inner.Seasons.{in_all_words};
 
 use answers::{NONE, NUMBERS, places};
-use ledger_season::{SeasonGap, SheetCounts};
-use ledger_sheet::Answer;
+use ledger_season::{SeasonGap, SeasonReport, SheetCounts};
+use refusals::Refusal;
 
-pub fn in_all(answer: Answer, count: u32, total: SheetCounts, gap: SeasonGap) -> [u64; NUMBERS]
-    ensures { Numbers result (with_none in_all_count (in_all_words answer count total gap)) }
+pub fn in_all(answer: Result<SeasonReport, Refusal>) -> [u64; NUMBERS]
+    ensures { Numbers result (with_none in_all_count (in_all_words answer)) }
 {
     match answer {
-        Answer::Done => counted(count, total, gap),
-        Answer::Refused(why) => answers::refused_alone(why),
+        Ok(report) => counted(report.count, report.total, report.gap),
+        Err(why) => answers::all(answers::refused(why)),
     }
 }
 
-fn counted(count: u32, total: SheetCounts, gap: SeasonGap) -> [u64; NUMBERS]
+fn counted(count: u32, total: SheetCounts, gap: Option<SeasonGap>) -> [u64; NUMBERS]
     ensures { Numbers result (with_none in_all_count (0 ∷ count ∷ counts_words total ++ or_further gap [])) }
 {
     match gap {
-        SeasonGap::Nothing => with_gap(count, total, NONE, NONE, NONE),
-        SeasonGap::Gap { sheet, row, number } => {
-            with_gap(count, total, sheet as u64, row as u64, number as u64)
-        }
+        None => with_gap(count, total, NONE, NONE, NONE),
+        Some(gap) => with_gap(
+            count,
+            total,
+            gap.sheet as u64,
+            gap.row as u64,
+            gap.number as u64,
+        ),
     }
 }
 

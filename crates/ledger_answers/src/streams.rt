@@ -7,14 +7,15 @@ ghost use Rattle.answers.specs.inner.Numbers.{Numbers};
 
 use answers::NUMBERS;
 use ledger_receive::Received;
-use sfdu_stream::{Stop, Walked};
+use refusals::Refusal;
+use sfdu_stream::Walked;
 
-pub fn received(answer: Received) -> [u64; NUMBERS]
+pub fn received(answer: Result<Received, Refusal>) -> [u64; NUMBERS]
     ensures { Numbers result (plain (received_words answer)) }
 {
     match answer {
-        Received::Records { walked, ticked } => handled(walked, ticked),
-        Received::Refused(why) => answers::refused_alone(why),
+        Ok(received) => handled(received.walked, received.ticked),
+        Err(why) => answers::all(answers::refused(why)),
     }
 }
 
@@ -24,18 +25,14 @@ fn handled(walked: Walked, ticked: usize) -> [u64; NUMBERS]
 {
     let count = walked.count as u64;
     let place = walked.place as u64;
-    let stop = walked.stop;
-    match stop {
-        Stop::End => answers::five(count, place, 0, 0, ticked as u64),
-        Stop::Refused(fault) => {
-            let why = fault.refusal;
-            answers::five(
-                count,
-                place,
-                refusals::number(why) as u64,
-                fault.at as u64,
-                ticked as u64,
-            )
-        }
+    match walked.stop {
+        Ok(()) => answers::five(count, place, 0, 0, ticked as u64),
+        Err(fault) => answers::five(
+            count,
+            place,
+            refusals::number(fault.refusal) as u64,
+            fault.at as u64,
+            ticked as u64,
+        ),
     }
 }

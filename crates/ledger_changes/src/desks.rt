@@ -10,8 +10,8 @@ ghost use Rattle.ledger_layout.specs.Layout.{layout, book_of, call, laid_out};
 ghost use Rattle.ledger_changes.specs.inner.Books.{opened, is_current, stored};
 ghost use Rattle.ledger_sheet.specs.Words.{answer_words};
 
+use ledger_layout::lookup;
 use ledger_sheet as sheet;
-use ledger_sheet::Answer;
 use octets::numbers;
 use refusals::Refusal;
 
@@ -48,6 +48,8 @@ fn write_header(s: &mut [u8], used: u64)
 }
 
 // Opens a row at desk d: both copies become the row.
+// Said in each, since each call leaves another sheet than it was lent: a struct that holds a right sheet would hold a `&mut [u8]`, with the invariant on
+// its bytes broken between two writes. And a desk's number is used once in each: a type for it would be built where its one test is made, and opened here.
 pub fn open_desk(s: &mut [u8], d: usize, row: usize)
     requires { IsSheet s.old × (d < desk_count) × (row < row_count) }
     ensures { s.new ≡ layout (opened d row (book_of s.old)) }
@@ -69,18 +71,19 @@ pub fn clear_desk(s: &mut [u8], d: usize)
     octets::clear(s, sheet::desk_at(d), sheet::DESK);
 }
 
+// Said in each, since it speaks of the sheet's bytes as they are at the call: no type of the desk's number says that.
 // Saves desk d. If its row is still as opened, the row becomes the worked copy. In any case the desk is closed.
-pub fn save_desk(s: &mut [u8], d: usize) -> Answer
+pub fn save_desk(s: &mut [u8], d: usize) -> Result<(), Refusal>
     requires { IsSheet s.old × (d < desk_count) × (is_open (desk (book_of s.old) d) ≡ true) }
     ensures { (answer_words result, s.new) ≡ laid_out (call (Save d) (book_of s.old)) }
 {
     if !is_current(s, d) {
         clear_desk(s, d);
-        return Answer::Refused(Refusal::Stale);
+        return Err(Refusal::Stale);
     }
     store(s, d);
     clear_desk(s, d);
-    Answer::Done
+    Ok(())
 }
 
 // Whether the row that desk d has open equals the opened copy.
@@ -88,7 +91,7 @@ pub fn is_current(s: &[u8], d: usize) -> bool
     requires { IsSheet s.now × (d < desk_count) × (is_open (desk (book_of s.now) d) ≡ true) }
     ensures { result ≡ is_current d (book_of s.now) }
 {
-    let row = sheet::row_at(ledger_layout::lookup::desk_row(s, d));
+    let row = sheet::row_at(lookup::open_row(s, d).unwrap());
     octets::is_same(s, row, s, sheet::desk_at(d) + sheet::OPENED_AT, sheet::ROW)
 }
 
@@ -97,6 +100,6 @@ fn store(s: &mut [u8], d: usize)
     requires { IsSheet s.old × (d < desk_count) × (is_open (desk (book_of s.old) d) ≡ true) }
     ensures { s.new ≡ layout (stored d (book_of s.old)) }
 {
-    let row = sheet::row_at(ledger_layout::lookup::desk_row(s, d));
+    let row = sheet::row_at(lookup::open_row(s, d).unwrap());
     octets::copy(s, sheet::desk_at(d) + sheet::WORKED_AT, row, sheet::ROW);
 }

@@ -40,31 +40,19 @@ fn read_ticks(s: &[u8], a: usize) -> [u8; sheet::TICKS]
     ensures { result ≡ part s.now a ticks_size }
 {
     let mut ticks = [0u8; sheet::TICKS];
-    for i in 0..sheet::TICKS {
-        ticks[i] = s[a + i];
-    }
+    ticks.copy_from_slice(&s[a..a + sheet::TICKS]);
     ticks
 }
 
 // Writes a row at offset a.
 pub fn write_row(s: &mut [u8], a: usize, row: Row)
-    requires { (a + row_size ≤ length s.old) × (length row.ticks ≡ ticks_size) }
+    requires { a + row_size ≤ length s.old }
     ensures { s.new ≡ put s.old a (row_bytes row.key row.first row.ticks) }
 {
-    let ticks = row.ticks;
     numbers::write_be(s, a, sheet::USED_WORD, sheet::USED);
     numbers::write_be(s, a + sheet::KEY_AT, sheet::KEY, row.key);
     numbers::write_be(s, a + sheet::FIRST_AT, sheet::FIRST, row.first as u64);
-    write_ticks(s, a + sheet::TICKS_AT, &ticks);
-}
-
-fn write_ticks(s: &mut [u8], a: usize, ticks: &[u8])
-    requires { (a + ticks_size ≤ length s.old) × (length ticks.now ≡ ticks_size) }
-    ensures { s.new ≡ put s.old a ticks.now }
-{
-    for i in 0..sheet::TICKS {
-        s[a + i] = ticks[i];
-    }
+    octets::copy_in(&row.ticks, s, a + sheet::TICKS_AT);
 }
 
 // Enrols a stream in the lowest free row, and gives the row.
@@ -73,7 +61,7 @@ pub fn enrol_row(s: &mut [u8], key: u64, first: u32) -> u32
     ensures lowest { result ≡ lowest_free (book_of s.old).places }
     ensures enrolled { s.new ≡ layout (put_place result (row key first no_ticks) (book_of s.old)) }
 {
-    let row = ledger_layout::lookup::free_row(s);
+    let row = ledger_layout::lookup::free_row(s).unwrap();
     let used = right::rows_used(s) as u64;
     write_row(s, sheet::row_at(row), blank_row(key, first));
     numbers::write_be(s, sheet::USED_AT, sheet::NUMBER, used + 1);

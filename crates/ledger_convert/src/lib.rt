@@ -18,25 +18,26 @@ ghost use Rattle.ledger_convert.specs.inner.Laid.{Laid};
 
 use ledger_changes::{desks, rows};
 use ledger_sheet as sheet;
-use ledger_sheet::{Answer, Row};
+use ledger_sheet::Row;
 use octets::numbers;
 use refusals::Refusal;
 
 // Makes a new sheet from an old one, with the same places and open desks. Refuses if `old` is not a right old sheet or `new` does not have a sheet's
 // length; then it writes nothing.
-pub fn convert(old: &[u8], new: &mut [u8]) -> Answer
+pub fn convert(old: &[u8], new: &mut [u8]) -> Result<(), Refusal>
     ensures { (answer_words result, new.new) ≡ convert_on old.now new.old }
 {
     if new.len() != sheet::SHEET {
-        return Answer::Refused(Refusal::NotSheet);
+        return Err(Refusal::NotSheet);
     }
     if !old::is_old_sheet(old) {
-        return Answer::Refused(Refusal::NotSheet);
+        return Err(Refusal::NotSheet);
     }
     lay_out(old, new);
-    Answer::Done
+    Ok(())
 }
 
+// Said in each, since `convert` finds it once of a lent slice: a type around the slice would be built there and taken apart at each read.
 fn lay_out(old: &[u8], new: &mut [u8])
     requires { (length new.old ≡ sheet_size) × (Old.right old.now ≡ true) }
     ensures { new.new ≡ layout (old_book_of old.now) }
@@ -54,6 +55,7 @@ fn write_rows(old: &[u8], new: &mut [u8], used: usize)
     requires laid { Laid old.now new.old 0 0 }
     ensures { Laid old.now new.new row_count 0 }
 {
+    // By index, since row i stands at one offset in the old sheet and at another in the new one.
     for i in 0..used {
         let row = old::read_row(old, old::row_at(i));
         rows::write_row(new, sheet::row_at(i), row);
@@ -66,6 +68,7 @@ fn write_desks(old: &[u8], new: &mut [u8])
     requires laid { Laid old.now new.old row_count 0 }
     ensures { Laid old.now new.new row_count desk_count }
 {
+    // By index, since desk d stands at one offset in the old sheet and at another in the new one.
     for d in 0..sheet::DESKS {
         let from = old::desk_at(d);
         if old[from] != sheet::CLOSED {
@@ -77,6 +80,7 @@ fn write_desks(old: &[u8], new: &mut [u8])
 }
 
 // Writes desk d as an open one.
+// Said in each, since a desk is told by its number, as in ledger_sheet: a type for the number would be made anew at each turn of a loop.
 fn write_desk(new: &mut [u8], d: usize, row: u8, opened: Row, worked: Row)
     requires sized { (length new.old ≡ sheet_size) × (d < desk_count) }
     requires ticks { (length opened.ticks ≡ ticks_size) × (length worked.ticks ≡ ticks_size) }

@@ -84,6 +84,7 @@ pub fn rows_used(s: &[u8]) -> usize
 }
 
 // The key of the row, or the copy of a row, at offset a.
+// Said in each, since each function reads at an offset that a row or a desk's copy can have: a slice per row would be cut anew for each field.
 fn key_at(s: &[u8], a: usize) -> u64
     requires { a + row_size ≤ length s.now }
     ensures { result ≡ key_at s.now a }
@@ -109,21 +110,24 @@ pub fn read_row(s: &[u8], a: usize) -> Row
 }
 
 // Whether the used rows have valid keys, all different, and first numbers of their streams. Each key is read once.
+// Said in each, since it is known of a lent slice after its header is read: a type around the slice would be built once and taken apart at each read.
 fn are_rows(s: &[u8]) -> bool
     requires { Sized s.now }
     ensures { result ≡ (valid_keys s.now && different_keys s.now && first_numbers s.now) }
 {
     let used = rows_used(s);
+    // A fixed array, since the library allocates nothing: an old sheet has at most 32 keys.
     let mut keys = [0u64; sheet::ROWS];
     let mut valid = true;
     let mut different = true;
     let mut numbers = true;
+    // By index, since row i is read at an offset that comes from i, and its key is compared with the i keys before it.
     for i in 0..used {
         let row = row_at(i);
         let key = key_at(s, row);
         valid &= keys::valid(key);
         numbers &= keys::is_number(key, first_at(s, row));
-        different &= right::is_other(&keys, i, key);
+        different &= !keys[..i].contains(&key);
         keys[i] = key;
     }
     valid & different & numbers
@@ -131,12 +135,14 @@ fn are_rows(s: &[u8]) -> bool
 
 // Whether the unused rows are zero and each desk is right. The desks follow the unused rows, so these and the closed desks up to the next open one
 // are tested as one range of zeros.
+// Twice, since `are_desks` of ledger_sheet has other sizes and another test of an open desk: a function for both would take three numbers and a closure.
 fn is_rest(s: &[u8]) -> bool
     requires { Sized s.now }
     ensures { result ≡ (unused_zero s.now && all desk_count (desk_right s.now)) }
 {
     let mut right = true;
     let mut zeros = row_at(rows_used(s));
+    // By index, since each turn reads at three places of one slice: the desk, the zeros before it, and the row that it names.
     for d in 0..sheet::DESKS {
         let desk = desk_at(d);
         if s[desk] != sheet::CLOSED {
@@ -149,6 +155,7 @@ fn is_rest(s: &[u8]) -> bool
 }
 
 // Whether an open desk is right: its first byte is 1, its two zeros are zero, its row is used, and both copies have that row's key and first number.
+// Twice, since in ledger_sheet a row is used by its flag, here by the count, and four offsets and sizes differ: a function for both would take them all.
 fn is_open_desk(s: &[u8], d: usize) -> bool
     requires sized { Sized s.now }
     requires not_closed { (d < desk_count) × (desk_byte s.now d ≡ 0 → ⊥) }

@@ -16,9 +16,10 @@ use Rattle.octets.specs.Lists.{table}
 use Rattle.ledger_sheet.specs.Sheet.{row_count, row_at, is_used, key_at, first_number_at}
 use Rattle.ledger_layout.specs.Layout.{place_in, book_of}
 use Rattle.ledger_layout.specs.Ticks.{ticked_at, ticks_in}
-use Rattle.ledger_layout.specs.inner.Scans.{lowest}
+use Rattle.std.specs.Prelude.{None, Some}
+use Rattle.ledger_layout.specs.inner.Scans.{lowest, lowest_below}
 use Rattle.ledger_counts.specs.inner.Counts.{past_highest, number_at_position, report_words}
-use Rattle.ledger_layout.proofs.Scans.{Each, lowest-holds, lowest-fails}
+use Rattle.ledger_layout.proofs.Scans.{Each, lowest-holds, lowest-fails, below-is, below-not}
 use Rattle.ledger_counts.proofs.Highest.{top_of}
 use Rattle.ledger_counts.proofs.Missing.{missing-count, missing-lowest, missing-none}
 
@@ -71,33 +72,48 @@ module _ (s : List ℕ) (a : ℕ) where
 -- the first gap of n rows from row i on, of which the free ones are passed
 gap_in : List ℕ → ℕ → Option ℕ → List ℕ → List ℕ
 gap_in s i none rest = rest
-gap_in s i (some at) rest = 0 ∷ number_at_position s (row_at i) at ∷ i ∷ []
+gap_in s i (some at) rest = number_at_position s (row_at i) at ∷ i ∷ []
 
 pub gap_from : List ℕ → ℕ → ℕ → List ℕ
 unfolding gap_in
-gap_from s i zero = 0 ∷ []
+gap_from s i zero = []
 gap_from s i (suc n) = cond (is_used s i) (gap_in s i (least (missing (ticks_in s (row_at i)))) (gap_from s (suc i) n)) (gap_from s (suc i) n)
 
-gap-table : (s : List ℕ) (n i : ℕ) (p : ℕ → Place) → ((k : ℕ) → p k ≡ place_in s (i + k)) → gap_from s i n ≡ 0 ∷ first_gap_from i (table n p)
+gap-table : (s : List ℕ) (n i : ℕ) (p : ℕ → Place) → ((k : ℕ) → p k ≡ place_in s (i + k)) → gap_from s i n ≡ first_gap_from i (table n p)
 unfolding gap_in gap_from table first_gap_from place_in
 gap-table s zero i p h = refl
 gap-table s (suc n) i p h =
     let later = table n (λ k. p (suc k)) in
-    let rest : gap_from s (suc i) n ≡ 0 ∷ first_gap_from (suc i) later =
+    let rest : gap_from s (suc i) n ≡ first_gap_from (suc i) later =
     gap-table s n (suc i) (λ k. p (suc k)) (λ k. h (suc k) ∙ ap (place_in s) (add-suc i k ∙ sym (suc-add i k))) in
     let here : p 0 ≡ place_in s i = h 0 ∙ ap (place_in s) (add-zero i) in
     rw (rest, here) (by (is_used s i) (least (missing (ticks_in s (row_at i)))) refl (first_gap_from (suc i) later) later refl)
   where
     by : (t : Bool) (o : Option ℕ) → least (missing (ticks_in s (row_at i))) ≡ o → (rest : List ℕ) (later : List Place) → first_gap_from (suc i) later ≡ rest
-        → cond t (gap_in s i o (0 ∷ rest)) (0 ∷ rest)
-        ≡ 0 ∷ first_gap_from i (cond t (row (key_at s (row_at i)) (first_number_at s (row_at i)) (ticks_in s (row_at i))) free ∷ later)
+        → cond t (gap_in s i o rest) rest
+        ≡ first_gap_from i (cond t (row (key_at s (row_at i)) (first_number_at s (row_at i)) (ticks_in s (row_at i))) free ∷ later)
     by true none e rest later q = rw (e, q)
     by true (some at) e rest later q = rw e
     by false o e rest later q = rw q
 
-pub gap-on : (s : List ℕ) → gap_from s 0 row_count ≡ 0 ∷ first_gap_from 0 (book_of s).places
+pub gap-on : (s : List ℕ) → gap_from s 0 row_count ≡ first_gap_from 0 (book_of s).places
 unfolding book_of
 gap-on s = gap-table s row_count 0 (place_in s) (λ k. ap (place_in s) (sym (zero-add k)))
+
+-- what a search for an unticked position below n says, where it finds none, and where it finds one
+module _ (s : List ℕ) (a n : ℕ) where
+  pub none-unticked : lowest_below n (λ i. not (ticked_at s a i)) ≡ None → Each true (ticked_at s a) n
+  none-unticked e j l = not-false _ (lowest-fails n (unticked s a) j (omega (arith, below-not n (unticked s a) e)))
+
+  pub some-unticked : {i : ℕ} → lowest_below n (λ i. not (ticked_at s a i)) ≡ Some i
+      → (i < n) × Each true (ticked_at s a) i × (ticked_at s a i ≡ false)
+  some-unticked {i} e =
+      let at = below-is n (unticked s a) e in
+      let within : lowest n (unticked s a) < n = omega (arith, at.0, at.1) in (
+        at.1,
+        λ j q. not-false _ (lowest-fails n (unticked s a) j (omega (arith, at.0))),
+        rw at.0 (not-true _ (lowest-holds n (unticked s a) within)),
+      )
 
 -- the end of the ticks of row i, 0 where it is free
 abbrev pub row_end : List ℕ → ℕ → ℕ
@@ -125,15 +141,15 @@ module _ (s : List ℕ) (i u : ℕ) (l : i < u) where
 
   -- an unticked position below its end is the gap
   pub gap_here : (at : ℕ) → at < row_end s i → Each true (ticked_at s (row_at i)) at → ticked_at s (row_at i) at ≡ false
-      → gap_from s i (u - i) ≡ 0 ∷ number_at_position s (row_at i) at ∷ i ∷ []
+      → gap_from s i (u - i) ≡ number_at_position s (row_at i) at ∷ i ∷ []
   unfolding gap_in gap_from
   gap_here at = by (is_used s i) refl
     where
       by : (b : Bool) → is_used s i ≡ b → at < row_end s i → Each true (ticked_at s (row_at i)) at → ticked_at s (row_at i) at ≡ false
-          → gap_from s i (u - i) ≡ 0 ∷ number_at_position s (row_at i) at ∷ i ∷ []
+          → gap_from s i (u - i) ≡ number_at_position s (row_at i) at ∷ i ∷ []
       by true e b h n = rw (left, e, row-gap s (row_at i) at (rw e at b) h n)
       by false e b h n = absurd (omega (arith, rw e at b))
 
-pub gap-none : (s : List ℕ) (i : ℕ) → gap_from s i 0 ≡ 0 ∷ []
+pub gap-none : (s : List ℕ) (i : ℕ) → gap_from s i 0 ≡ []
 unfolding gap_from
 gap-none s i = refl

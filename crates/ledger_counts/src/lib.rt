@@ -2,20 +2,20 @@
 
 #![tactic(auto)]
 
-ghost use Rattle.std.specs.Prelude.{◌≡◌, true, not, cond, ◌∷◌, ◌+◌, ◌≤◌, ◌<◌, length};
+ghost use Rattle.std.specs.Prelude.{◌≡◌, true, not, cond, ◌∷◌, ◌+◌, ◌≤◌, ◌<◌, length, IfSome};
 ghost use Rattle.ledger_model.specs.Counts.{first_gap_from};
 ghost use Rattle.ledger_layout.specs.Layout.{book_of};
 ghost use Rattle.std.specs.Int.Count.{ones};
 ghost use Rattle.ledger_model.specs.Positions.{row_length, minus, size};
 ghost use Rattle.ledger_sheet.specs.Sheet.{sheet_size, row_size, row_count, row_at, is_used};
 ghost use Rattle.ledger_layout.specs.Ticks.{ticked_at, ticks_in};
-ghost use Rattle.ledger_layout.specs.inner.Scans.{lowest};
+ghost use Rattle.ledger_layout.specs.inner.Scans.{lowest_below};
 ghost use Rattle.ledger_counts.specs.inner.Counts.{past_highest, number_at_position, report_words};
-ghost use Rattle.ledger_sheet.specs.Words.{report_answer_words, gap_words};
+ghost use Rattle.ledger_sheet.specs.Words.{report_values, gap_values};
 ghost use Rattle.ledger_counts.specs.inner.Blocks.{block_bits, block_count, last_block_at, IsBlock, TickedFrom, StartsAt};
 
 use ledger_sheet as sheet;
-use ledger_sheet::{GapAnswer, ReportAnswer, right};
+use ledger_sheet::{Gap, Gaps, Report, right};
 use octets::numbers;
 
 // A block of ticks: its length in bytes, its positions, and how many blocks a row has.
@@ -36,6 +36,8 @@ const FULL: u64 = !0;
 const POSITIONS: usize = BLOCK_BITS * BLOCKS;
 
 // The ticks of the 64 positions from 64 k on as one number: bit i is position 64 k + i. LLVM makes this one load.
+// Said in each, since the contracts speak of the sheet's bytes and a row's offset (`ticked_at s.now a`): with the row's bytes as an array every caller
+// would prove that these are the sheet's from that offset on.
 pub fn tick_block(s: &[u8], a: usize, k: usize) -> u64
     requires { (a + row_size ≤ length s.now) × (k < block_count) }
     ensures { IsBlock s.now a k result }
@@ -63,6 +65,7 @@ pub fn ticked_count(s: &[u8], a: usize) -> u32
     ensures { result ≡ size (ticks_in s.now a) }
 {
     let mut count: u32 = 0;
+    // By index, since a block is read by its number, as in every count here.
     for b in 0..GROUPS {
         let k = GROUP * b;
         let first = tick_block(s, a, k);
@@ -80,6 +83,7 @@ pub fn ticked_beyond(s: &[u8], a: usize, b: usize) -> u32
     ensures { result ≡ size (minus (ticks_in s.now a) (ticks_in s.now b)) }
 {
     let mut count: u32 = 0;
+    // By index, since each turn reads two places of one slice.
     for k in 0..BLOCKS {
         count += u64::count_ones(tick_block(s, a, k) & !tick_block(s, b, k));
     }
@@ -92,6 +96,7 @@ fn is_full_between(s: &[u8], a: usize) -> bool
     ensures { result ≡ true → TickedFrom s.now a block_bits last_block_at }
 {
     let mut all = FULL;
+    // By index, since the first and the last block are left out, and a block is read by its number.
     for k in 1..BLOCKS - 1 {
         all &= tick_block(s, a, k);
     }
@@ -99,26 +104,26 @@ fn is_full_between(s: &[u8], a: usize) -> bool
 }
 
 // The position from which all positions of the row at offset a are ticked, if it is in the first block and none below it is ticked. Such a row needs
-// no counting. For other rows, 1,024.
-fn ticks_start(s: &[u8], a: usize) -> usize
+// no counting.
+fn ticks_start(s: &[u8], a: usize) -> Option<usize>
     requires { a + row_size ≤ length s.now }
-    ensures { result < row_length → StartsAt s.now a result }
+    ensures { IfSome result (λ i. (i < row_length) × StartsAt s.now a i) }
 {
     if tick_block(s, a, BLOCKS - 1) != FULL {
-        return POSITIONS;
+        return None;
     }
     if !is_full_between(s, a) {
-        return POSITIONS;
+        return None;
     }
     let block = tick_block(s, a, 0);
     if block == 0 {
-        return POSITIONS;
+        return None;
     }
     let start = u64::trailing_zeros(block);
     if block >> start != FULL >> start {
-        return POSITIONS;
+        return None;
     }
-    start as usize
+    Some(start as usize)
 }
 
 // One more than the highest ticked position of the row at offset a; 0 if none is ticked. Unticked positions below it are missing.
@@ -126,33 +131,33 @@ pub fn ticks_end(s: &[u8], a: usize) -> usize
     requires { a + row_size ≤ length s.now }
     ensures { result ≡ past_highest row_length (ticked_at s.now a) }
 {
-    let mut blocks = BLOCKS;
-    while 0 < blocks {
-        let block = tick_block(s, a, blocks - 1);
+    // By index, since the block's number gives the position.
+    for k in (0..BLOCKS).rev() {
+        let block = tick_block(s, a, k);
         if block != 0 {
-            return BLOCK_BITS * blocks - u64::leading_zeros(block) as usize;
+            return BLOCK_BITS * (k + 1) - u64::leading_zeros(block) as usize;
         }
-        blocks -= 1;
     }
     0
 }
 
-// The lowest unticked position below `end` of the row at offset a; `end` if there is none.
-fn lowest_unticked(s: &[u8], a: usize, end: usize) -> usize
+// The lowest unticked position below `end` of the row at offset a.
+fn lowest_unticked(s: &[u8], a: usize, end: usize) -> Option<usize>
     requires { (a + row_size ≤ length s.now) × (end ≤ row_length) }
-    ensures { result ≡ lowest end (λ i. not (ticked_at s.now a i)) }
+    ensures { result ≡ lowest_below end (λ i. not (ticked_at s.now a i)) }
 {
+    // By index, since the block's number gives the position.
     for k in 0..BLOCKS {
         let unticked = !tick_block(s, a, k);
         if unticked != 0 {
             let at = BLOCK_BITS * k + u64::trailing_zeros(unticked) as usize;
             if at < end {
-                return at;
+                return Some(at);
             }
-            return end;
+            return None;
         }
     }
-    end
+    None
 }
 
 // The number at position i of the row at offset a.
@@ -166,76 +171,85 @@ pub fn number_in(s: &[u8], a: usize, i: usize) -> u32
 }
 
 // The report of the row at offset a. If no position below the end is missing, nothing needs counting.
-fn counted_report(s: &[u8], a: usize) -> ReportAnswer
+fn counted_report(s: &[u8], a: usize) -> Report
     requires { a + row_size ≤ length s.now }
-    ensures { report_answer_words result ≡ report_words s.now a }
+    ensures { 0 ∷ report_values result ≡ report_words s.now a }
 {
     let end = ticks_end(s, a);
     if end == 0 {
-        return ReportAnswer::Whole { ticked: 0 };
+        return Report {
+            ticked: 0,
+            gaps: None,
+        };
     }
-    let at = lowest_unticked(s, a, end);
-    if at >= end {
-        return ReportAnswer::Whole { ticked: end as u32 };
-    }
+    let Some(at) = lowest_unticked(s, a, end) else {
+        return Report {
+            ticked: end as u32,
+            gaps: None,
+        };
+    };
     let ticked = ticked_count(s, a);
-    ReportAnswer::Gaps {
-        ticked,
+    let gaps = Gaps {
         missing: end as u32 - ticked,
         lowest: number_in(s, a, at),
+    };
+    Report {
+        ticked,
+        gaps: Some(gaps),
     }
 }
 
 // The report of a row. Most rows lack no position, or only some at the start.
-pub fn row_report(s: &[u8], row: usize) -> ReportAnswer
+// Said in each, since who reads a sheet that a caller lends calls these with a slice, and would have to make it an array first.
+pub fn row_report(s: &[u8], row: usize) -> Report
     requires { (length s.now ≡ sheet_size) × (row < row_count) }
-    ensures { report_answer_words result ≡ report_words s.now (row_at row) }
+    ensures { 0 ∷ report_values result ≡ report_words s.now (row_at row) }
 {
     let a = sheet::row_at(row);
-    let start = ticks_start(s, a);
-    if start >= POSITIONS {
+    let Some(start) = ticks_start(s, a) else {
         return counted_report(s, a);
-    }
+    };
     let ticked = (POSITIONS - start) as u32;
     if start == 0 {
-        return ReportAnswer::Whole { ticked };
+        return Report { ticked, gaps: None };
     }
-    ReportAnswer::Gaps {
-        ticked,
+    let gaps = Gaps {
         missing: start as u32,
         lowest: number_in(s, a, 0),
+    };
+    Report {
+        ticked,
+        gaps: Some(gaps),
     }
 }
 
-// The end of the ticks of a row; 0 if the place is free.
-fn row_end(s: &[u8], row: usize) -> usize
+// The lowest missing position of a row; none, too, if the place is free.
+fn row_gap(s: &[u8], row: usize) -> Option<usize>
     requires { (length s.now ≡ sheet_size) × (row < row_count) }
-    ensures { result ≡ cond (is_used s.now row) (past_highest row_length (ticked_at s.now (row_at row))) 0 }
+    ensures { result ≡ lowest_below (cond (is_used s.now row) (past_highest row_length (ticked_at s.now (row_at row))) 0)
+        (λ i. not (ticked_at s.now (row_at row) i)) }
 {
     if !right::is_used(s, row) {
-        return 0;
+        return None;
     }
-    ticks_end(s, sheet::row_at(row))
+    let a = sheet::row_at(row);
+    let end = ticks_end(s, a);
+    lowest_unticked(s, a, end)
 }
 
 // The first missing number and its row. Goes through the rows in order, and through each row's positions in order.
-pub fn first_gap(s: &[u8]) -> GapAnswer
+pub fn first_gap(s: &[u8]) -> Option<Gap>
     requires { length s.now ≡ sheet_size }
-    ensures { gap_words result ≡ 0 ∷ first_gap_from 0 (book_of s.now).places }
+    ensures { gap_values result ≡ first_gap_from 0 (book_of s.now).places }
 {
-    let mut gap = GapAnswer::Nothing;
-    'rows: for row in 0..sheet::ROWS {
-        let a = sheet::row_at(row);
-        let end = row_end(s, row);
-        for i in 0..end {
-            if !ledger_layout::lookup::is_ticked(s, a, i) {
-                gap = GapAnswer::Gap {
-                    number: number_in(s, a, i),
-                    row: row as u32,
-                };
-                break 'rows;
-            }
+    // By index, since the row's number is in the answer.
+    for row in 0..sheet::ROWS {
+        if let Some(i) = row_gap(s, row) {
+            return Some(Gap {
+                number: number_in(s, sheet::row_at(row), i),
+                row: row as u32,
+            });
         }
     }
-    gap
+    None
 }

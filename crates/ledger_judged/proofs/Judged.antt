@@ -2,11 +2,13 @@
 -- functions on a right sheet require is true. Assumes nothing.
 use Prim.Native.Nat.{ℕ, ◌<◌}
 use native.Mathlib.Omega.{arith}
-use mathlib.Core.Bool.{Bool, true, false, not}
+use mathlib.Core.Bool.{Bool, true, false, not, false≢true}
 use mathlib.Core.List.{List, [], ◌∷◌, ◌++◌}
 use mathlib.Core.Path.{◌≡◌, refl, sym, ap, ◌∙◌}
 use lib.Dec.{eqb, lit<}
 use borrow.Author.Tests.{not-false}
+use Rattle.std.specs.Prelude.{Result, Ok, Err}
+use Rattle.std.specs.Result.{IsErr, IsErrAnd}
 use Rattle.refusals.specs.declared.Refusal.{Refusal}
 use Rattle.refusals.specs.Table.{number_of}
 use Rattle.refusals.specs.Judge.{Rule, ◌when◌, judge, verdict}
@@ -22,20 +24,15 @@ use Rattle.ledger_layout.specs.Layout.{layout, book_of, call, on_sheet}
 use Rattle.ledger_layout.specs.inner.Rules.{rules_on, IsSheet}
 use Rattle.ledger_layout.proofs.Rules.{refused-on, accepted-on, answered-on, given-has}
 use Rattle.ledger_layout.proofs.Rules as Rules
-use Rattle.ledger_judged.specs.declared.verdicts.Verdict.{Verdict}
-use Rattle.ledger_judged.specs.declared.verdicts.Verdict.TheVariants as Case
-use Rattle.ledger_judged.specs.inner.Verdicts.{verdict_number}
 
--- the number that a verdict gives, or 0
-module _ (rows : List (Rule ℕ)) {v : Verdict} (e : verdict_number v ≡ verdict rows) where
-  number_is : (q : Refusal) → v ≡ Case.Refused q → number_of q ≡ verdict rows
-  number_is q g = sym (ap verdict_number g) ∙ e
+-- where the verdict is 0, no rule holds
+none-holds : (rows : List (Rule ℕ)) → 0 ≡ verdict rows → Numbered rows → NoneHolds rows
+none-holds rows e n = verdict-none rows n (sym e)
 
-  none_is : v ≡ Case.Fine → verdict rows ≡ 0
-  none_is g = sym (sym (ap verdict_number g) ∙ e)
-
-  none-holds : Numbered rows → v ≡ Case.Fine → NoneHolds rows
-  none-holds n g = verdict-none rows n (none_is g)
+-- what `?` hands on is the refusal that it met
+pub handed : {A E : Type 0} {r : Result A E} {q : E} → IsErr r × IsErrAnd r (λ e. e ≡ q) → r ≡ Err q
+handed {r = Ok x} h = absurd (false≢true h.0)
+handed {r = Err e} h = ap Err h.1
 
 -- ---- the two rules that a call begins with: the sheet's, and that of the key, the desk or the row that it names
 
@@ -51,21 +48,22 @@ pub record Begun (s : List ℕ) (rule : Rule ℕ) : Type 0 where
   pub passed : holds rule ≡ false
   pub rest : (more : List (Rule ℕ)) → verdict ((20 when not (right s)) ∷ rule ∷ more) ≡ verdict more
 
-module _ (s : List ℕ) {fine : Bool} (is : fine ≡ right s) (rule : Rule ℕ) {v : Verdict} (e : verdict_number v ≡ verdict ((20 when not fine) ∷ rule ∷ [])) where
-  pub begun : 0 < given rule → v ≡ Case.Fine → Begun s rule
+module _ (s : List ℕ) {fine : Bool} (is : fine ≡ right s) (rule : Rule ℕ) where
+  pub begun : 0 < given rule → 0 ≡ verdict ((20 when not fine) ∷ rule ∷ []) → Begun s rule
   unfolding judge
-  begun p g = by rule e p
+  begun p e = by rule e p
     where
-      by : (rule : Rule ℕ) → verdict_number v ≡ verdict ((20 when not fine) ∷ rule ∷ []) → 0 < given rule → Begun s rule
+      by : (rule : Rule ℕ) → 0 ≡ verdict ((20 when not fine) ∷ rule ∷ []) → 0 < given rule → Begun s rule
       by (n when c) e p =
-          let h = none-holds ((20 when not fine) ∷ (n when c) ∷ []) e (omega arith, (p, tt)) g in
+          let h = none-holds ((20 when not fine) ∷ (n when c) ∷ []) e (omega arith, (p, tt)) in
           let r = sym is ∙ not-false fine h.0 in
           record { is-sheet = (r, (right-parts s r).long); passed = h.1.0; rest = λ more. rw (r, h.1.0) }
 
   -- a refusal by these two is one by the whole list
-  pub refused-first : (q : Refusal) → v ≡ Case.Refused q → (more : List (Rule ℕ)) → verdict_number v ≡ verdict ((20 when not (right s)) ∷ rule ∷ more)
+  pub refused-first : (q : Refusal) → number_of q ≡ verdict ((20 when not fine) ∷ rule ∷ []) → (more : List (Rule ℕ))
+      → number_of q ≡ verdict ((20 when not (right s)) ∷ rule ∷ more)
   unfolding judge
-  refused-first q g more = rw (← is) (e ∙ by fine rule (λ z. number-positive q (number_is ((20 when not fine) ∷ rule ∷ []) e q g ∙ z)))
+  refused-first q e more = rw (← is) (e ∙ by fine rule (λ z. number-positive q (e ∙ z)))
     where
       by : (r : Bool) (rule : Rule ℕ) → (verdict ((20 when not r) ∷ rule ∷ []) ≡ 0 → ⊥)
           → verdict ((20 when not r) ∷ rule ∷ []) ≡ verdict ((20 when not r) ∷ rule ∷ more)
@@ -106,36 +104,34 @@ numbered (Save d) b = (lit< tt, (lit< tt, (lit< tt, tt)))
 numbered (Drop d) b = (lit< tt, (lit< tt, tt))
 numbered (Strike r) b = (lit< tt, (lit< tt, tt))
 
-module _ (c : Call) (s : List ℕ) {v : Verdict} (e : verdict_number v ≡ verdict (rules_on c s)) where
+module _ (c : Call) (s : List ℕ) where
   -- refused: the answer is the refusal, and the sheet stays
-  pub refused-is : Bytes s → ((number : ℕ) → after_refusal number c (book_of s) ≡ book_of s) → (q : Refusal) → v ≡ Case.Refused q
+  pub refused-is : Bytes s → ((number : ℕ) → after_refusal number c (book_of s) ≡ book_of s) → (q : Refusal) → number_of q ≡ verdict (rules_on c s)
       → (number_of q ∷ [], s) ≡ on_sheet (call c) s
-  refused-is bytes stays q g = refused-on c s bytes (number_of q) (number_is (rules_on c s) e q g) (number-positive q) (stays (number_of q))
+  refused-is bytes stays q e = refused-on c s bytes (number_of q) e (number-positive q) (stays (number_of q))
 
   -- accepted: the call has its effect
-  pub accepted-is : v ≡ Case.Fine → (answer_words (effect c (book_of s)).answer, layout (effect c (book_of s)).book) ≡ on_sheet (call c) s
-  accepted-is g = accepted-on c s (none_is (rules_on c s) e g)
+  pub accepted-is : 0 ≡ verdict (rules_on c s) → (answer_words (effect c (book_of s)).answer, layout (effect c (book_of s)).book) ≡ on_sheet (call c) s
+  accepted-is e = accepted-on c s (sym e)
 
   -- and the sheet is right, and no rule of the model's holds
-  pub fine-is : v ≡ Case.Fine → IsSheet s × NoneHolds (refusals c (book_of s))
-  fine-is g =
-      let h = none-holds (rules_on c s) e (lit< tt, numbered c (book_of s)) g in
+  pub fine-is : 0 ≡ verdict (rules_on c s) → IsSheet s × NoneHolds (refusals c (book_of s))
+  fine-is e =
+      let h = none-holds (rules_on c s) e (lit< tt, numbered c (book_of s)) in
       let r = not-false (right s) h.0 in
       ((r, (right-parts s r).long), h.1)
 
 -- a question is answered
-pub answered-is : (q : Question) (s : List ℕ) → Bytes s → {v : Verdict} → verdict_number v ≡ verdict (rules_on (Ask q) s) → v ≡ Case.Fine
-    → (0 ∷ asked q (book_of s), s) ≡ on_sheet (call (Ask q)) s
-answered-is q s bytes e g = answered-on q s bytes (fine-is (Ask q) s e g).0.0 (none_is (rules_on (Ask q) s) e g)
+pub answered-is : (q : Question) (s : List ℕ) → Bytes s → 0 ≡ verdict (rules_on (Ask q) s) → (0 ∷ asked q (book_of s), s) ≡ on_sheet (call (Ask q)) s
+answered-is q s bytes e = answered-on q s bytes (fine-is (Ask q) s e).0.0 (sym e)
 
 -- a call whose rules begin with those of a drop, and of whose refusals 31 alone changes the book
 pub begun-refused : (c : Call) (d : ℕ) (s : List ℕ) (more : List (Rule ℕ)) → Bytes s → refusals c (book_of s) ≡ refusals (Drop d) (book_of s) ++ more
-    → ((number : ℕ) → eqb number 31 ≡ false → after_refusal number c (book_of s) ≡ book_of s) → {v : Verdict} → verdict_number v ≡ verdict (rules_on (Drop d) s)
-    → (q : Refusal) → v ≡ Case.Refused q → (number_of q ∷ [], s) ≡ on_sheet (call c) s
+    → ((number : ℕ) → eqb number 31 ≡ false → after_refusal number c (book_of s) ≡ book_of s)
+    → (q : Refusal) → number_of q ≡ verdict (rules_on (Drop d) s) → (number_of q ∷ [], s) ≡ on_sheet (call c) s
 unfolding refusals
-begun-refused c d s more bytes begins stays {v} e q g =
+begun-refused c d s more bytes begins stays q number =
     let drops = rules_on (Drop d) s in
-    let number = number_is drops e q g in
     let other = given-has (λ (n : ℕ). eqb n 31 ≡ false) drops (refl, (refl, (refl, tt))) number (number-positive q) in
     let first : number_of q ≡ verdict (drops ++ more) = Rules.refused-first drops more number (number-positive q) in
     let all : number_of q ≡ verdict (rules_on c s) = first ∙ ap (λ rules. verdict ((20 when not (right s)) ∷ rules)) (sym begins) in

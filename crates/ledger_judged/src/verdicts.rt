@@ -2,137 +2,105 @@
 // is right. Each call first tests 20, and then the key, the desk or the row that it names.
 ghost use Rattle.std.specs.Prelude.{◌≡◌};
 ghost use Rattle.refusals.specs.Judge.{verdict};
-ghost use Rattle.ledger_model.specs.Step.{Enrol, Ask, Find, RowReport, Open, Drop, Strike};
+ghost use Rattle.ledger_model.specs.Step.{Enrol, Ask, RowReport, Open, Drop, Strike};
 ghost use Rattle.ledger_sheet.specs.Sheet.{right};
 ghost use Rattle.ledger_layout.specs.inner.Rules.{rules_on};
 ghost use Rattle.ledger_judged.specs.inner.Verdicts.{key_rules, desk_number_rules, verdict_number};
 
+use ledger_layout::lookup;
 use ledger_sheet as sheet;
 use refusals::Refusal;
 
-// The verdict on a call: it is accepted, or refused.
-#[derive(Clone, Copy)]
-pub enum Verdict {
-    Fine,
-    Refused(Refusal),
-}
-
 // The refusals of a call that names a key: 20, 22.
-fn key_verdict(fine: bool, key: u64) -> Verdict
+pub(crate) fn key_verdict(fine: bool, key: u64) -> Result<(), Refusal>
     ensures { verdict_number result ≡ verdict (key_rules fine key) }
 {
     if !fine {
-        return Verdict::Refused(Refusal::NotSheet);
+        return Err(Refusal::NotSheet);
     }
     if !keys::valid(key) {
-        return Verdict::Refused(Refusal::BadKey);
+        return Err(Refusal::BadKey);
     }
-    Verdict::Fine
+    Ok(())
 }
 
-pub fn enrol_verdict(s: &[u8], fine: bool, key: u64, first: u32) -> Verdict
+pub fn enrol_verdict(s: &[u8], fine: bool, key: u64, first: u32) -> Result<(), Refusal>
     requires { fine ≡ right s.now }
     ensures { verdict_number result ≡ verdict (rules_on (Enrol key first) s.now) }
 {
-    let judged = key_verdict(fine, key);
-    if let Verdict::Refused(_) = judged {
-        return judged;
-    }
+    key_verdict(fine, key)?;
     if !keys::is_number(key, first) {
-        return Verdict::Refused(Refusal::FirstNumber);
+        return Err(Refusal::FirstNumber);
     }
-    if ledger_layout::lookup::has_key(s, key) {
-        return Verdict::Refused(Refusal::AlreadyEnrolled);
+    if lookup::has_key(s, key) {
+        return Err(Refusal::AlreadyEnrolled);
     }
-    if ledger_layout::lookup::free_row(s) == sheet::ROWS {
-        return Verdict::Refused(Refusal::LedgerFull);
+    if lookup::free_row(s).is_none() {
+        return Err(Refusal::LedgerFull);
     }
-    Verdict::Fine
-}
-
-pub fn find_verdict(s: &[u8], fine: bool, key: u64) -> Verdict
-    requires { fine ≡ right s.now }
-    ensures { verdict_number result ≡ verdict (rules_on (Ask (Find key)) s.now) }
-{
-    let judged = key_verdict(fine, key);
-    if let Verdict::Refused(_) = judged {
-        return judged;
-    }
-    if !ledger_layout::lookup::has_key(s, key) {
-        return Verdict::Refused(Refusal::NoRow);
-    }
-    Verdict::Fine
+    Ok(())
 }
 
 // The refusals of a call that names a desk: 20, 21. The question `desk` has only these.
-pub fn desk_number_verdict(fine: bool, desk: u32) -> Verdict
+pub fn desk_number_verdict(fine: bool, desk: u32) -> Result<(), Refusal>
     ensures { verdict_number result ≡ verdict (desk_number_rules fine desk) }
 {
     if !fine {
-        return Verdict::Refused(Refusal::NotSheet);
+        return Err(Refusal::NotSheet);
     }
     if desk as usize >= sheet::DESKS {
-        return Verdict::Refused(Refusal::NoDesk);
+        return Err(Refusal::NoDesk);
     }
-    Verdict::Fine
+    Ok(())
 }
 
-pub fn open_verdict(s: &[u8], fine: bool, desk: u32, row: u32) -> Verdict
+pub fn open_verdict(s: &[u8], fine: bool, desk: u32, row: u32) -> Result<(), Refusal>
     requires { fine ≡ right s.now }
     ensures { verdict_number result ≡ verdict (rules_on (Open desk row) s.now) }
 {
-    let judged = desk_number_verdict(fine, desk);
-    if let Verdict::Refused(_) = judged {
-        return judged;
+    desk_number_verdict(fine, desk)?;
+    if !lookup::is_row(s, row as usize) {
+        return Err(Refusal::NoRow);
     }
-    if !ledger_layout::lookup::is_row(s, row as usize) {
-        return Verdict::Refused(Refusal::NoRow);
+    if !lookup::is_closed(s, desk as usize) {
+        return Err(Refusal::DeskOpen);
     }
-    if !ledger_layout::lookup::is_closed(s, desk as usize) {
-        return Verdict::Refused(Refusal::DeskOpen);
-    }
-    Verdict::Fine
+    Ok(())
 }
 
 // The refusals of a call by a desk that must have a row open. A drop has only these; a tick, an untick and a save begin with them.
-pub fn desk_verdict(s: &[u8], fine: bool, desk: u32) -> Verdict
+pub fn desk_verdict(s: &[u8], fine: bool, desk: u32) -> Result<(), Refusal>
     requires { fine ≡ right s.now }
     ensures { verdict_number result ≡ verdict (rules_on (Drop desk) s.now) }
 {
-    let judged = desk_number_verdict(fine, desk);
-    if let Verdict::Refused(_) = judged {
-        return judged;
+    desk_number_verdict(fine, desk)?;
+    if lookup::is_closed(s, desk as usize) {
+        return Err(Refusal::DeskClosed);
     }
-    if ledger_layout::lookup::is_closed(s, desk as usize) {
-        return Verdict::Refused(Refusal::DeskClosed);
-    }
-    Verdict::Fine
+    Ok(())
 }
 
 // The refusals of a call that names a row: 20, 25. Row report has only these.
-pub fn row_verdict(s: &[u8], fine: bool, row: u32) -> Verdict
+pub fn row_verdict(s: &[u8], fine: bool, row: u32) -> Result<(), Refusal>
     requires { fine ≡ right s.now }
     ensures { verdict_number result ≡ verdict (rules_on (Ask (RowReport row)) s.now) }
 {
     if !fine {
-        return Verdict::Refused(Refusal::NotSheet);
+        return Err(Refusal::NotSheet);
     }
-    if !ledger_layout::lookup::is_row(s, row as usize) {
-        return Verdict::Refused(Refusal::NoRow);
+    if !lookup::is_row(s, row as usize) {
+        return Err(Refusal::NoRow);
     }
-    Verdict::Fine
+    Ok(())
 }
 
-pub fn strike_verdict(s: &[u8], fine: bool, row: u32) -> Verdict
+pub fn strike_verdict(s: &[u8], fine: bool, row: u32) -> Result<(), Refusal>
     requires { fine ≡ right s.now }
     ensures { verdict_number result ≡ verdict (rules_on (Strike row) s.now) }
 {
-    let judged = row_verdict(s, fine, row);
-    if let Verdict::Refused(_) = judged {
-        return judged;
+    row_verdict(s, fine, row)?;
+    if !lookup::is_idle(s, row as usize) {
+        return Err(Refusal::RowOpen);
     }
-    if !ledger_layout::lookup::is_idle(s, row as usize) {
-        return Verdict::Refused(Refusal::RowOpen);
-    }
-    Verdict::Fine
+    Ok(())
 }

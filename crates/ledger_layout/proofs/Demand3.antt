@@ -7,31 +7,18 @@ use Rattle.refusals.specs.Table.{number_of}
 use Rattle.refusals.proofs.Laws.{number-positive}
 use mathlib.Core.Bool.{false≢true}
 use Rattle.ledger_model.specs.Book.{Book, idle}
-use Rattle.ledger_model.specs.Step.{Call, Answer, gave, done, at_row, refused, step, Entry, call_of, book_after}
+use Rattle.ledger_model.specs.Step.{Call, Answer, gave, refused, step, Entry, call_of, book_after}
 use Rattle.ledger_model.specs.WellFormed.{WellFormed}
 use Rattle.ledger_model.specs.Chain.{Chain}
 use Rattle.ledger_model.proofs.WellFormed.{run-well-formed}
 use Rattle.ledger_model.proofs.Laws.{Proper, words-injective, step-proper}
 use Rattle.ledger_model.proofs.Claim.{chain-claim}
 use Rattle.ledger_layout.specs.Bytes.{fresh_sheet}
-use Rattle.ledger_sheet.specs.Words as Words
-use Rattle.ledger_sheet.specs.declared.Answer as sheet
-use Rattle.ledger_sheet.specs.declared.Answer.TheVariants as A
-use Rattle.ledger_sheet.specs.declared.RowAnswer.{RowAnswer}
-use Rattle.ledger_sheet.specs.declared.RowAnswer.TheVariants as R
-use Rattle.ledger_sheet.specs.declared.ReportAnswer.{ReportAnswer}
-use Rattle.ledger_sheet.specs.declared.ReportAnswer.TheVariants as Report
-use Rattle.ledger_sheet.specs.declared.GapAnswer.{GapAnswer}
-use Rattle.ledger_sheet.specs.declared.GapAnswer.TheVariants as G
-use Rattle.ledger_sheet.specs.declared.StreamAnswer.{StreamAnswer}
-use Rattle.ledger_sheet.specs.declared.StreamAnswer.TheVariants as S
-use Rattle.ledger_sheet.specs.declared.DeskAnswer.{DeskAnswer}
-use Rattle.ledger_sheet.specs.declared.DeskAnswer.TheVariants as D
-use Rattle.ledger_sheet.specs.declared.UnsavedAnswer.{UnsavedAnswer}
-use Rattle.ledger_sheet.specs.declared.UnsavedAnswer.TheVariants as U
+use Rattle.std.specs.Prelude.{Result, Ok, Err}
+use Rattle.refusals.specs.declared.Refusal.{Refusal}
+use Rattle.refusals.specs.Words as Words
 use Rattle.ledger_layout.specs.Layout.{layout, call, on_sheet}
-use Rattle.ledger_layout.specs.Demand3.{answer_of, row_answer_of, report_answer_of, gap_answer_of, stream_answer_of, desk_answer_of, unsaved_answer_of}
-use Rattle.ledger_layout.specs.Demand3.{header_and_rows}
+use Rattle.ledger_layout.specs.Demand3.{told_of, header_and_rows}
 use Rattle.ledger_layout.specs.inner.Demand3.{Meets, MetCalls}
 use Rattle.ledger_layout.proofs.Places.{shape, front-part}
 use Rattle.ledger_layout.proofs.Sheets.{fresh-layout, on-layout}
@@ -54,40 +41,11 @@ improper : (a : Answer) → Proper a → a ≢ refused 0
 improper (gave words) h e = false≢true cc
 improper (refused number) h e = h (cc)
 
--- What a contract says, with the answer as the function's enum.
-pub answer-meets : (c : Call) (s : List ℕ) (r : sheet.Answer) (t : List ℕ) → (Words.answer_words r, t) ≡ on_sheet (call c) s → Meets c s (answer_of r) t
-answer-meets c s A.Done t e = (improper done tt, e)
-answer-meets c s (A.Refused q) t e = (improper (refused (number_of q)) (number-positive q), e)
-
-pub row-answer-meets : (c : Call) (s : List ℕ) (r : RowAnswer) (t : List ℕ) → (Words.row_words r, t) ≡ on_sheet (call c) s → Meets c s (row_answer_of r) t
-row-answer-meets c s (R.Row row) t e = (improper (at_row row) tt, e)
-row-answer-meets c s (R.Refused q) t e = (improper (refused (number_of q)) (number-positive q), e)
-
-pub report-answer-meets : (c : Call) (s : List ℕ) (r : ReportAnswer) (t : List ℕ) → (Words.report_answer_words r, t) ≡ on_sheet (call c) s
-    → Meets c s (report_answer_of r) t
-report-answer-meets c s (Report.Whole ticked) t e = (improper (gave _) tt, e)
-report-answer-meets c s (Report.Gaps ticked missing lowest) t e = (improper (gave _) tt, e)
-report-answer-meets c s (Report.Refused q) t e = (improper (refused (number_of q)) (number-positive q), e)
-
-pub gap-answer-meets : (c : Call) (s : List ℕ) (r : GapAnswer) (t : List ℕ) → (Words.gap_words r, t) ≡ on_sheet (call c) s → Meets c s (gap_answer_of r) t
-gap-answer-meets c s G.Nothing t e = (improper (gave _) tt, e)
-gap-answer-meets c s (G.Gap number row) t e = (improper (gave _) tt, e)
-gap-answer-meets c s (G.Refused q) t e = (improper (refused (number_of q)) (number-positive q), e)
-
-pub stream-answer-meets : (c : Call) (s : List ℕ) (r : StreamAnswer) (t : List ℕ) → (Words.stream_words r, t) ≡ on_sheet (call c) s
-    → Meets c s (stream_answer_of r) t
-stream-answer-meets c s (S.Stream key first) t e = (improper (gave _) tt, e)
-stream-answer-meets c s (S.Refused q) t e = (improper (refused (number_of q)) (number-positive q), e)
-
-pub desk-answer-meets : (c : Call) (s : List ℕ) (r : DeskAnswer) (t : List ℕ) → (Words.desk_words r, t) ≡ on_sheet (call c) s → Meets c s (desk_answer_of r) t
-desk-answer-meets c s D.Closed t e = (improper (gave _) tt, e)
-desk-answer-meets c s (D.Working row stale) t e = (improper (gave _) tt, e)
-desk-answer-meets c s (D.Refused q) t e = (improper (refused (number_of q)) (number-positive q), e)
-
-pub unsaved-answer-meets : (c : Call) (s : List ℕ) (r : UnsavedAnswer) (t : List ℕ) → (Words.unsaved_words r, t) ≡ on_sheet (call c) s
-    → Meets c s (unsaved_answer_of r) t
-unsaved-answer-meets c s (U.Unsaved ticks unticks) t e = (improper (gave _) tt, e)
-unsaved-answer-meets c s (U.Refused q) t e = (improper (refused (number_of q)) (number-positive q), e)
+-- What a contract says, with the answer as the function's result.
+pub answer-meets : {A : Type 0} (values : A → List ℕ) (c : Call) (s : List ℕ) (r : Result A Refusal) (t : List ℕ)
+    → (Words.answer_words values r, t) ≡ on_sheet (call c) s → Meets c s (told_of values r) t
+answer-meets values c s (Ok x) t e = (improper (gave (values x)) tt, e)
+answer-meets values c s (Err q) t e = (improper (refused (number_of q)) (number-positive q), e)
 
 -- ---- the theorem
 

@@ -1,27 +1,23 @@
 // Reads a sheet: the row with a key, a free row, a desk's row, a tick. Changes nothing.
 ghost use Rattle.std.specs.Prelude.{◌≡◌, not, ◌+◌, ◌≤◌, ◌<◌, ◌^◌, length};
 ghost use Rattle.ledger_model.specs.Positions.{row_length};
-ghost use Rattle.ledger_model.specs.Book.{place, desk, is_free, is_open, place_of, has_key, place_with, lowest_free, any_has_open};
+ghost use Rattle.ledger_model.specs.Book.{place, desk, is_free, is_open, has_key, place_with, lowest_free, any_has_open};
 ghost use Rattle.ledger_sheet.specs.Sheet.{row_size, row_count, byte_bits, desk_count};
 ghost use Rattle.ledger_layout.specs.inner.Rules.{IsSheet};
 ghost use Rattle.ledger_layout.specs.Layout.{book_of};
 ghost use Rattle.ledger_layout.specs.Ticks.{ticked_at};
-ghost use Rattle.ledger_layout.specs.inner.Scans.{is_row_of};
+ghost use Rattle.ledger_layout.specs.inner.Scans.{is_row_of, found, opened_row};
 
 use ledger_sheet as sheet;
 use ledger_sheet::right;
 
-// The used row with the key; 32 if there is none.
-pub fn find_row(s: &[u8], key: u64) -> usize
+// The used row with the key.
+// Said in each, since a struct that holds a right sheet would be made anew by each caller: `ledger_judged` and `ledger_changes` hold a slice, some `&mut`.
+pub fn find_row(s: &[u8], key: u64) -> Option<usize>
     requires { IsSheet s.now }
-    ensures { result ≡ place_with key (book_of s.now).places }
+    ensures { result ≡ found (place_with key (book_of s.now).places) }
 {
-    for i in 0..sheet::ROWS {
-        if is_row_of(s, key, i) {
-            return i;
-        }
-    }
-    sheet::ROWS
+    (0..sheet::ROWS).find(|i| is_row_of(s, key, *i))
 }
 
 // Whether row i is used and has the key.
@@ -40,20 +36,15 @@ pub fn has_key(s: &[u8], key: u64) -> bool
     requires { IsSheet s.now }
     ensures { result ≡ has_key key (book_of s.now).places }
 {
-    find_row(s, key) < sheet::ROWS
+    find_row(s, key).is_some()
 }
 
-// The lowest free row; 32 if there is none.
-pub fn free_row(s: &[u8]) -> usize
+// The lowest free row.
+pub fn free_row(s: &[u8]) -> Option<usize>
     requires { IsSheet s.now }
-    ensures { result ≡ lowest_free (book_of s.now).places }
+    ensures { result ≡ found (lowest_free (book_of s.now).places) }
 {
-    for i in 0..sheet::ROWS {
-        if !right::is_used(s, i) {
-            return i;
-        }
-    }
-    sheet::ROWS
+    (0..sheet::ROWS).find(|i| !right::is_used(s, *i))
 }
 
 // Whether there is a row with this number. A free place is no row.
@@ -77,19 +68,18 @@ pub fn is_idle(s: &[u8], row: usize) -> bool
     requires { IsSheet s.now }
     ensures { result ≡ not (any_has_open row (book_of s.now).desks) }
 {
-    let mut idle = true;
-    for d in 0..sheet::DESKS {
-        idle &= is_closed(s, d) | (desk_row(s, d) != row);
-    }
-    idle
+    (0..sheet::DESKS).all(|d| open_row(s, d) != Some(row))
 }
 
-// The row that desk d has open; 0 if it is closed.
-pub fn desk_row(s: &[u8], d: usize) -> usize
+// The row that desk d has open.
+pub fn open_row(s: &[u8], d: usize) -> Option<usize>
     requires { IsSheet s.now × (d < desk_count) }
-    ensures { result ≡ place_of (desk (book_of s.now) d) }
+    ensures { result ≡ opened_row (desk (book_of s.now) d) }
 {
-    s[sheet::desk_at(d) + sheet::DESK_ROW_AT] as usize
+    if is_closed(s, d) {
+        return None;
+    }
+    Some(s[sheet::desk_at(d) + sheet::DESK_ROW_AT] as usize)
 }
 
 // Whether position i of the row or copy at offset a is ticked.

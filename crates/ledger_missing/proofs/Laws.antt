@@ -8,7 +8,8 @@ use mathlib.Core.List.{List, [], ◌∷◌}
 use borrow.Author.Tests.{le-ltb}
 use lib.ListN.{length}
 use Rattle.refusals.specs.Judge.{judge}
-use Rattle.refusals.proofs.Laws.{number-injective, number-positive}
+use Rattle.refusals.specs.Words.{one_word}
+use Rattle.refusals.proofs.Words.{answers-differ, one-differs}
 use Rattle.ledger_model.specs.Book.{Place, free, row, Book, place, is_free}
 use Rattle.ledger_model.specs.Counts.{place_report}
 use Rattle.ledger_model.specs.WellFormed.{PlaceOk}
@@ -17,15 +18,11 @@ use Rattle.ledger_model.proofs.Missing.{as-reported, exactly-missing, long-enoug
 use Rattle.ledger_sheet.specs.Sheet.{right}
 use Rattle.ledger_layout.specs.Layout.{book_of, call, on_sheet}
 use Rattle.ledger_layout.proofs.Read.{book-fine}
-use Rattle.ledger_missing.specs.declared.MissingAnswer.TheVariants.{Count, Refused}
 use Rattle.ledger_missing.specs.Missing.{DifferentMissing, missing_of, missing_on}
 use Rattle.ledger_missing.specs.Laws.{MissingList, EveryMissingList, NeverTooShort}
 
 pub different-missing : DifferentMissing
-different-missing (Count m) (Count n) e = cc
-different-missing (Count m) (Refused r) e = absurd (number-positive r (cc))
-different-missing (Refused r) (Count m) e = absurd (number-positive r (cc))
-different-missing (Refused r) (Refused q) e = ap Refused (number-injective r q (cc))
+different-missing = answers-differ one_word one-differs
 
 -- The words of a row report on a row that there is.
 report-words : (b : Book) (i : ℕ) → is_free (place b i) ≡ false → (call (Ask (RowReport i)) b).0 ≡ 0 ∷ place_report (place b i)

@@ -1,23 +1,21 @@
 -- The missing list: what the call answers, and the lent list after it. Assumes nothing.
 -- The manual, docs/INTERFACE.md: "Calls on the ledger".
-use Rattle.std.specs.Prelude.{ℕ, ◌≡◌, not, List, [], ◌∷◌, ◌++◌, ltb, length, drop}
+use Rattle.std.specs.Prelude.{ℕ, not, List, [], ◌∷◌, ◌++◌, ltb, length, drop, Result}
+use Rattle.refusals.specs.declared.Refusal.{Refusal}
+use Rattle.refusals.specs.Words.{answer_words, one_word, Different}
 use Rattle.refusals.specs.Judge.{Rule, ◌when◌, judge}
-use Rattle.refusals.specs.Table.{number_of}
 use Rattle.ledger_model.specs.Book.{place, is_free}
 use Rattle.ledger_model.specs.Missing.{missing_numbers}
 use Rattle.ledger_sheet.specs.Sheet.{right}
 use Rattle.ledger_layout.specs.Layout.{book_of}
-use Rattle.ledger_missing.specs.declared.MissingAnswer.{MissingAnswer}
-use Rattle.ledger_missing.specs.declared.MissingAnswer.TheVariants.{Count, Refused}
 
 -- The words of an answer: 0 and the count, or the refusal's number.
-abbrev pub missing_words : MissingAnswer → List ℕ
-missing_words (Count n) = 0 ∷ n ∷ []
-missing_words (Refused r) = number_of r ∷ []
+abbrev pub missing_words : Result ℕ Refusal → List ℕ
+missing_words answer = answer_words one_word answer
 
 -- Different answers have different words.
 abbrev pub DifferentMissing : Type 0
-DifferentMissing = (a b : MissingAnswer) → missing_words a ≡ missing_words b → a ≡ b
+DifferentMissing = Different missing_words
 
 -- A list whose first elements become xs; the others are unchanged.
 abbrev pub fills : List ℕ → List ℕ → List ℕ

@@ -16,17 +16,9 @@ ghost use Rattle.ledger_missing.specs.inner.Gaps.{gaps_in, numbers_at, Stored, l
 
 use ledger_counts as counts;
 use ledger_judged::verdicts;
-use ledger_judged::verdicts::Verdict;
 use ledger_sheet as sheet;
 use ledger_sheet::right;
 use refusals::Refusal;
-
-// How many numbers are missing, or a refusal.
-#[derive(Clone, Copy)]
-pub enum MissingAnswer {
-    Count(u32),
-    Refused(Refusal),
-}
 
 // The unticked positions below `end` in block k of the row at offset a. Bit i is position 64 k + i.
 fn unticked_block(s: &[u8], a: usize, k: usize, end: usize) -> u64
@@ -50,6 +42,7 @@ fn put_block(list: &mut [u32], from: usize, key: u64, first: u32, base: usize, b
 {
     let mut left = block;
     let mut at = from;
+    // By index, since the list is written from an index that is handed on from block to block, and no iterator of std gives the set bits of a word.
     while left != 0 {
         let i = base + u64::trailing_zeros(left) as usize;
         list[at] = ledger_model::number_at(key, first, i as u32);
@@ -68,6 +61,7 @@ fn put_gaps(s: &[u8], a: usize, end: usize, list: &mut [u32])
     let first = right::first_at(s, a);
     let mut at = 0;
     let mut k = 0;
+    // By index, since each turn takes the block's number, and the index in the list at which the block before it ended.
     while counts::BLOCK_BITS * k < end {
         let block = unticked_block(s, a, k, end);
         at = put_block(list, at, key, first, counts::BLOCK_BITS * k, block);
@@ -76,7 +70,7 @@ fn put_gaps(s: &[u8], a: usize, end: usize, list: &mut [u32])
 }
 
 // The missing list of a row that exists. Below the end of the ticks, all unticked positions are missing: their count is the end less the ticks.
-fn list_missing(s: &[u8], row: usize, list: &mut [u32]) -> MissingAnswer
+fn list_missing(s: &[u8], row: usize, list: &mut [u32]) -> Result<u32, Refusal>
     requires { IsSheet s.now × (is_free (place (book_of s.now) row) ≡ false) }
     ensures { (missing_words result, list.new) ≡ listed (missing_of s.now row) list.old }
 {
@@ -84,19 +78,16 @@ fn list_missing(s: &[u8], row: usize, list: &mut [u32]) -> MissingAnswer
     let end = counts::ticks_end(s, a);
     let count = end - counts::ticked_count(s, a) as usize;
     if list.len() < count {
-        return MissingAnswer::Refused(Refusal::MissingSpace);
+        return Err(Refusal::MissingSpace);
     }
     put_gaps(s, a, end, list);
-    MissingAnswer::Count(count as u32)
+    Ok(count as u32)
 }
 
-// Lists the missing numbers of a row, in the order of their positions. The rest of the list is unchanged.
-pub fn missing_numbers(s: &[u8], row: u32, list: &mut [u32]) -> MissingAnswer
+// Lists the missing numbers of a row, in the order of their positions. The rest of the list is unchanged. Gives how many there are.
+pub fn missing_numbers(s: &[u8], row: u32, list: &mut [u32]) -> Result<u32, Refusal>
     ensures { (missing_words result, list.new) ≡ missing_on row s.now list.old }
 {
-    let verdict = verdicts::row_verdict(s, right::is_sheet(s), row);
-    if let Verdict::Refused(why) = verdict {
-        return MissingAnswer::Refused(why);
-    }
+    verdicts::row_verdict(s, right::is_sheet(s), row)?;
     list_missing(s, row as usize, list)
 }

@@ -8,13 +8,15 @@ use lib.ListN.{length}
 use Rattle.refusals.specs.Judge.{none_applies}
 use Rattle.keys.specs.Key.{valid_key}
 use Rattle.octets.proofs.Laws.{Bytes}
+use Rattle.std.specs.Prelude.{Some, None, Result, Ok, Err, IsOk}
 use Rattle.sfdu.specs.declared.Kind.{Kind}
+use Rattle.sfdu.specs.declared.kinds.UnknownKind.{UnknownKind}
+use Rattle.sfdu.specs.inner.Numbered.{IsNumbered}
 use Rattle.sfdu.specs.declared.Kind.TheVariants.{Telemetry, Rsr}
 use Rattle.sfdu.specs.Nesting.{kind_number, data_value_at}
 use Rattle.sfdu.specs.Read.{kind_of, read_rules, accepts}
 use Rattle.sfdu.proofs.Accepted.{Accepted, accepted}
 use Rattle.sfdu.proofs.Placed.{placed}
-use Rattle.sfdu_headers.specs.declared.StreamKey.TheVariants.{Key, OutOfRange}
 use Rattle.sfdu_headers.specs.Fields.{record_number}
 use Rattle.sfdu_headers.specs.Ranges.{field_rules}
 use Rattle.sfdu_headers.specs.Headers.{key_of}
@@ -25,13 +27,16 @@ use Rattle.ledger_receive.specs.Receive.{arrival_in}
 
 -- ---- the kind with a number
 
-pub number-rsr : (n : ℕ) → n ≡ kind_number Rsr → (k : Kind) → n ≡ kind_number k → Rsr ≡ k
-number-rsr n e Telemetry h = absurd (omega arith)
-number-rsr n e Rsr h = refl
+-- A kind's number is some kind's, and no other's.
+pub is-kind : (found : Result Kind UnknownKind) (k : Kind) → IsNumbered (kind_number k) found → IsOk found
+is-kind (Ok found) k h = refl
+is-kind (Err e) k h = absurd (h.1 k refl)
 
-pub number-telemetry : (n : ℕ) → (n ≡ kind_number Rsr → ⊥) → (k : Kind) → n ≡ kind_number k → Telemetry ≡ k
-number-telemetry n e Telemetry h = refl
-number-telemetry n e Rsr h = absurd (e h)
+pub same-kind : (found k : Kind) → IsNumbered (kind_number k) (Ok found) → found ≡ k
+same-kind Telemetry Telemetry h = refl
+same-kind Telemetry Rsr h = absurd (omega arith)
+same-kind Rsr Telemetry h = absurd (omega arith)
+same-kind Rsr Rsr h = refl
 
 -- ---- a whole record
 
@@ -52,22 +57,22 @@ module _ (s : List ℕ) where
   unfolding arrival_in
   arrival-wrong h = rw h
 
-  key-fine : none_applies (field_rules (kind_of s) s) ≡ true → stream_key_in (kind_of s) s ≡ Key (key_of (kind_of s) s)
+  key-fine : none_applies (field_rules (kind_of s) s) ≡ true → stream_key_in (kind_of s) s ≡ Some (key_of (kind_of s) s)
   unfolding stream_key_in
   key-fine h = rw h
 
-  key-wrong : none_applies (field_rules (kind_of s) s) ≡ false → stream_key_in (kind_of s) s ≡ OutOfRange
+  key-wrong : none_applies (field_rules (kind_of s) s) ≡ false → stream_key_in (kind_of s) s ≡ None
   unfolding stream_key_in
   key-wrong h = rw h
 
-  pub key-arrives : (key n : ℕ) → n ≡ record_number (kind_of s) s → stream_key_in (kind_of s) s ≡ Key key → arrived key n ≡ arrival_in s
+  pub key-arrives : (key n : ℕ) → n ≡ record_number (kind_of s) s → stream_key_in (kind_of s) s ≡ Some key → arrived key n ≡ arrival_in s
   key-arrives key n m e = by (none_applies (field_rules (kind_of s) s)) refl
     where
       by : (f : Bool) → none_applies (field_rules (kind_of s) s) ≡ f → arrived key n ≡ arrival_in s
       by true h = cc (key-fine h, arrival-fine h)
       by false h = cc (key-wrong h)
 
-  pub none-arrives : stream_key_in (kind_of s) s ≡ OutOfRange → unread ≡ arrival_in s
+  pub none-arrives : stream_key_in (kind_of s) s ≡ None → unread ≡ arrival_in s
   none-arrives e = by (none_applies (field_rules (kind_of s) s)) refl
     where
       by : (f : Bool) → none_applies (field_rules (kind_of s) s) ≡ f → unread ≡ arrival_in s

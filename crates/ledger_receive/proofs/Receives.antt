@@ -1,7 +1,7 @@
 -- A receive by its rules: refused, or made. Assumes nothing.
 use Prim.Native.Nat.{ℕ}
 use native.Mathlib.Omega.{arith}
-use mathlib.Core.Path.{◌≡◌, refl, sym, ap, ◌∙◌}
+use mathlib.Core.Path.{◌≡◌, refl, ap}
 use mathlib.Core.List.{List, [], ◌∷◌, ◌++◌}
 use lib.ListN.{get_or, take, drop}
 use borrow.Author.Tests.{not-false}
@@ -10,31 +10,26 @@ use Rattle.refusals.specs.declared.Refusal.{Refusal}
 use Rattle.refusals.specs.Table.{number_of}
 use Rattle.refusals.specs.Judge.{verdict}
 use Rattle.refusals.proofs.Judged.{NoneHolds, verdict-none, none-judge}
-use Rattle.refusals.proofs.Laws.{number-positive, number-injective}
-use Rattle.sfdu_stream.specs.declared.Stop.{Stop}
-use Rattle.sfdu_stream.specs.declared.Stop.TheVariants.{End, Refused as StopRefused}
+use Rattle.refusals.proofs.Laws.{number-positive}
+use Rattle.refusals.specs.Words.{Different}
+use Rattle.refusals.proofs.Words.{answers-differ}
+use Rattle.std.specs.Prelude.{Result, Ok, Err}
+use Rattle.sfdu.specs.declared.Fault.{Fault}
 use Rattle.sfdu_stream.specs.Walk.{stop_words}
 use Rattle.sfdu_stream.proofs.Words.{same-walked}
 use Rattle.ledger_model.specs.Book.{desk}
 use Rattle.ledger_layout.specs.Layout.{book_of}
 use Rattle.ledger_layout.proofs.Rules.{given-judge}
-use Rattle.ledger_judged.specs.declared.verdicts.Verdict.{Verdict}
-use Rattle.ledger_judged.specs.declared.verdicts.Verdict.TheVariants as Case
-use Rattle.ledger_judged.specs.inner.Verdicts.{verdict_number}
-use Rattle.ledger_receive.specs.declared.Received.TheVariants.{Records, Refused}
-use Rattle.ledger_receive.specs.Receive.{DifferentReceived, receive_rules, receiving, receive_on}
+use Rattle.ledger_receive.specs.Receive.{DifferentReceived, received_values, receive_rules, receiving, receive_on}
 use Rattle.ledger_receive.specs.Laws.{Accepted}
 use Rattle.ledger_receive.specs.inner.Calls.{Ready}
 use Rattle.ledger_receive.proofs.Sheets.{}
 
-module _ (d : ℕ) (s : List ℕ) {v : Verdict} (e : verdict_number v ≡ verdict (receive_rules d s)) where
-  pub receive-refused : (stream list : List ℕ) (q : Refusal) → v ≡ Case.Refused q → (number_of q ∷ [], list, s) ≡ receive_on d stream list s
+module _ (d : ℕ) (s : List ℕ) where
+  pub receive-refused : (stream list : List ℕ) (q : Refusal) → number_of q ≡ verdict (receive_rules d s) → (number_of q ∷ [], list, s) ≡ receive_on d stream list s
   unfolding receive_on
-  receive-refused stream list q g =
-      given-judge (λ number. (number ∷ [], list, s)) (receive_rules d s) _ (sym (ap verdict_number g) ∙ e) (number-positive q)
-
-  pub fine-accepted : v ≡ Case.Fine → Accepted d s
-  fine-accepted g = sym e ∙ ap verdict_number g
+  receive-refused stream list q e =
+      given-judge (λ number. (number ∷ [], list, s)) (receive_rules d s) _ e (number-positive q)
 
 -- Where it is not refused, the sheet is right, the desk has no row open, and the receive is made.
 module _ (d : ℕ) (s : List ℕ) (a : Accepted d s) where
@@ -55,19 +50,21 @@ module _ (d : ℕ) (s : List ℕ) (a : Accepted d s) where
 
 -- ---- different answers have different words
 
-stop-words : (a b : Stop) (m n : ℕ) → stop_words a ++ (m ∷ []) ≡ stop_words b ++ (n ∷ []) → (stop_words a ≡ stop_words b) × (m ≡ n)
-stop-words End End m n e = (refl, ap (λ (l : List ℕ). get_or l 2 0) e)
-stop-words End (StopRefused f) m n e = (ap (λ (l : List ℕ). take 2 l) e, ap (λ (l : List ℕ). get_or l 2 0) e)
-stop-words (StopRefused f) End m n e = (ap (λ (l : List ℕ). take 2 l) e, ap (λ (l : List ℕ). get_or l 2 0) e)
-stop-words (StopRefused f) (StopRefused g) m n e = (ap (λ (l : List ℕ). take 2 l) e, ap (λ (l : List ℕ). get_or l 2 0) e)
+stop-words : (a b : Result (Unit {0}) Fault) (m n : ℕ) → stop_words a ++ (m ∷ []) ≡ stop_words b ++ (n ∷ []) → (stop_words a ≡ stop_words b) × (m ≡ n)
+stop-words (Ok u) (Ok v) m n e = (refl, ap (λ (l : List ℕ). get_or l 2 0) e)
+stop-words (Ok u) (Err f) m n e = (ap (λ (l : List ℕ). take 2 l) e, ap (λ (l : List ℕ). get_or l 2 0) e)
+stop-words (Err f) (Ok u) m n e = (ap (λ (l : List ℕ). take 2 l) e, ap (λ (l : List ℕ). get_or l 2 0) e)
+stop-words (Err f) (Err g) m n e = (ap (λ (l : List ℕ). take 2 l) e, ap (λ (l : List ℕ). get_or l 2 0) e)
+
+received-differ : Different received_values
+received-differ a b e =
+    let v = a.walked in
+    let w = b.walked in
+    let rest = stop-words v.stop w.stop a.ticked b.ticked (ap (λ (l : List ℕ). drop 2 l) e) in
+    let count : v.count ≡ w.count = ap (λ (l : List ℕ). get_or l 0 0) e in
+    let place : v.place ≡ w.place = ap (λ (l : List ℕ). get_or l 1 0) e in
+    let same : v ≡ w = same-walked v w (λ j. count j ∷ place j ∷ rest.0 j) in
+    λ j. record { walked = same j; ticked = rest.1 j }
 
 pub different-received : DifferentReceived
-different-received (Records v m) (Records w n) e =
-    let rest = stop-words v.stop w.stop m n (ap (λ (l : List ℕ). drop 3 l) e) in
-    let count : v.count ≡ w.count = ap (λ (l : List ℕ). get_or l 1 0) e in
-    let place : v.place ≡ w.place = ap (λ (l : List ℕ). get_or l 2 0) e in
-    let same : v ≡ w = same-walked v w (λ j. count j ∷ place j ∷ rest.0 j) in
-    λ j. Records (same j) (rest.1 j)
-different-received (Records v m) (Refused r) e = absurd (number-positive r (ap (λ (l : List ℕ). get_or l 0 0) (sym e)))
-different-received (Refused r) (Records v m) e = absurd (number-positive r (ap (λ (l : List ℕ). get_or l 0 0) e))
-different-received (Refused r) (Refused q) e = ap Refused (number-injective r q (ap (λ (l : List ℕ). get_or l 0 0) e))
+different-received = answers-differ received_values received-differ

@@ -3,6 +3,8 @@ use Prim.Native.Nat.{ℕ}
 use mathlib.Core.Path.{◌≡◌, sym, ap, ◌∙◌}
 use mathlib.Core.Bool.{true}
 use mathlib.Core.List.{List}
+use Rattle.std.specs.Prelude.{Result, Ok, Err}
+use Rattle.refusals.specs.declared.Refusal.{Refusal}
 use Rattle.refusals.proofs.Laws.{number-positive}
 use Rattle.ledger_model.specs.Book.{Book}
 use Rattle.ledger_model.specs.Step.{Call, answer_words, step}
@@ -12,8 +14,6 @@ use Rattle.ledger_model.proofs.WellFormed.{well-formed}
 use Rattle.ledger_model.proofs.Laws.{words-injective, step-proper}
 use Rattle.octets.proofs.Laws.{Bytes}
 use Rattle.ledger_sheet.specs.Sheet.{right}
-use Rattle.ledger_sheet.specs.declared.Answer as Sheet
-use Rattle.ledger_sheet.specs.declared.Answer.TheVariants as A
 use Rattle.ledger_sheet.specs.Words as Words
 use Rattle.ledger_layout.specs.Layout.{layout, book_of, call, on_sheet}
 use Rattle.ledger_layout.specs.Demand3.{answer_of}
@@ -50,6 +50,6 @@ after c {b = b} {s = s} {words = words} {t = t} h e =
     }
 
 -- The answer is the model's.
-pub answer-is : (a : Sheet.Answer) (c : Call) (b : Book) → Words.answer_words a ≡ answer_words (step c b).answer → answer_of a ≡ (step c b).answer
-answer-is A.Done c b e = words-injective (answer_of A.Done) (step c b).answer tt (step-proper c b) e
-answer-is (A.Refused q) c b e = words-injective (answer_of (A.Refused q)) (step c b).answer (number-positive q) (step-proper c b) e
+pub answer-is : (a : Result (Unit {0}) Refusal) (c : Call) (b : Book) → Words.answer_words a ≡ answer_words (step c b).answer → answer_of a ≡ (step c b).answer
+answer-is (Ok u) c b e = words-injective (answer_of (Ok u)) (step c b).answer tt (step-proper c b) e
+answer-is (Err q) c b e = words-injective (answer_of (Err q)) (step c b).answer (number-positive q) (step-proper c b) e

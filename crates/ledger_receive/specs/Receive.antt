@@ -1,8 +1,9 @@
 -- What `receive` answers, the lent list after it, and the sheet after it. Assumes nothing.
 -- The manual, docs/INTERFACE.md: "Calls on the ledger".
-use Rattle.std.specs.Prelude.{ℕ, suc, ◌≡◌, not, cond, List, [], ◌∷◌, ◌++◌, map, eqb, length, drop}
+use Rattle.std.specs.Prelude.{ℕ, suc, not, cond, List, [], ◌∷◌, ◌++◌, map, eqb, length, drop, Result}
+use Rattle.refusals.specs.declared.Refusal.{Refusal}
+use Rattle.refusals.specs.Words.{answer_words, Different}
 use Rattle.refusals.specs.Judge.{Rule, ◌when◌, judge, none_applies}
-use Rattle.refusals.specs.Table.{number_of}
 use Rattle.sfdu.specs.Read.{kind_of}
 use Rattle.sfdu_headers.specs.Fields.{record_number}
 use Rattle.sfdu_headers.specs.Headers.{key_of}
@@ -15,19 +16,21 @@ use Rattle.ledger_model.specs.Step.{run}
 use Rattle.ledger_sheet.specs.Sheet.{right}
 use Rattle.ledger_layout.specs.Layout.{layout, book_of}
 use Rattle.ledger_receive.specs.declared.Received.{Received}
-use Rattle.ledger_receive.specs.declared.Received.TheVariants.{Records, Refused}
 use Rattle.ledger_receive.specs.Visits.{Arrival, unread, arrived, visits, outcomes}
 
 -- ---- the words of the answer
 
--- 0; the count, the stop place, the stop number and its second number, as a list answers them; and how many records were ticked. Or the refusal's number.
-abbrev pub received_words : Received → List ℕ
-received_words (Records walked ticked) = 0 ∷ words_of walked ++ (ticked ∷ [])
-received_words (Refused r) = number_of r ∷ []
+-- The count, the stop place, the stop number and its second number, as a list answers them; and how many records were ticked.
+abbrev pub received_values : Received → List ℕ
+received_values r = words_of r.walked ++ (r.ticked ∷ [])
+
+-- 0 and these values; or the refusal's number.
+abbrev pub received_words : Result Received Refusal → List ℕ
+received_words answer = answer_words received_values answer
 
 -- Different answers have different words.
 abbrev pub DifferentReceived : Type 0
-DifferentReceived = (a b : Received) → received_words a ≡ received_words b → a ≡ b
+DifferentReceived = Different received_words
 
 -- ---- what the records say
 

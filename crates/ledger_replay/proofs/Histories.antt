@@ -21,8 +21,8 @@ use Rattle.ledger_sheet.specs.Outcome.{refused_or}
 use Rattle.ledger_layout.specs.Layout.{layout, call, fresh_on}
 use Rattle.ledger_layout.proofs.Sheets.{on-layout}
 use Rattle.ledger.proofs.Demand3.{demand-3}
-use Rattle.ledger_replay.specs.declared.Line.{Line}
-use Rattle.ledger_replay.specs.declared.CallAnswer.{CallAnswer}
+use Rattle.ledger_replay.specs.Trace.{Line}
+use Rattle.ledger_replay.specs.Replay.{CallAnswer}
 use Rattle.ledger_replay.specs.Trace.{enrol_call, open_call, tick_call, untick_call, save_call, drop_call, entry_at}
 use Rattle.ledger_replay.specs.Trace.{line_at, is_trace, call_in, answer_in, entries_from, entries_of, count}
 use Rattle.ledger_replay.specs.Record.{is_kept, recorded, trace_of}

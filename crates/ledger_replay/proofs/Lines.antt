@@ -14,7 +14,7 @@ use Rattle.octets.proofs.Laws.{length-bytes_of, part_at}
 use Rattle.octets.proofs.Parts.{number-first, number-second, number-bytes}
 use Rattle.ledger_model.specs.Step.{Enrol, Ask, Open, Mark, Save, Drop, Strike, Answer, gave, done, at_row, refused, Entry, ◌⇒◌}
 use Rattle.ledger_layout.proofs.Parts.{number-within}
-use Rattle.ledger_replay.specs.declared.Line.{Line}
+use Rattle.ledger_replay.specs.Trace.{Line}
 use Rattle.ledger_replay.specs.Trace.{number_size, record_at, key_at, key_size, entry_size, line_at, is_call, desk_right}
 use Rattle.ledger_replay.specs.Trace.{row_right, number_right, key_right, line_right, call_in, answer_in, entry_in}
 use Rattle.ledger_replay.specs.Record.{is_kept, answer_number, answered_row, mark_call, line_of, line_bytes}

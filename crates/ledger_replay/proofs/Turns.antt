@@ -2,12 +2,18 @@
 use Prim.Native.Nat.{ℕ, suc, ◌+◌, ◌-◌}
 use native.Mathlib.Nat.{sub-zero}
 use native.Mathlib.Numerals.{add-one}
-use mathlib.Core.Bool.{Bool, true, false, cond}
+use mathlib.Core.Bool.{Bool, true, false, cond, ◌&&◌}
 use mathlib.Core.List.{List, [], ◌∷◌}
 use mathlib.Core.Path.{◌≡◌, refl, sym, ap, ◌∙◌}
 use lib.Dec.{eqb}
 use lib.ListN.{length, get_or}
-use borrow.Author.Tests.{eqb-true, eq-eqb}
+use borrow.Author.Tests.{eqb-true, eqb-false, eq-eqb, ne_eqb}
+use Rattle.std.specs.Prelude.{Some, Result, Ok, Err}
+use Rattle.std.proofs.Math.Bool.{and-true}
+use Rattle.refusals.specs.declared.Refusal.{Refusal}
+use Rattle.refusals.specs.Table.{number_of}
+use Rattle.refusals.proofs.Laws.{number-positive}
+use Rattle.ledger_sheet.specs.Words.{row_words}
 use Rattle.ledger_model.specs.Book.{fresh}
 use Rattle.ledger_model.specs.Step.{Call, done, at_row, refused, answer_words, step}
 use Rattle.ledger_model.proofs.Outcome.{outcome}
@@ -19,10 +25,10 @@ use Rattle.ledger_layout.specs.Layout.{layout, book_of, call, on_sheet, fresh_on
 use Rattle.ledger_layout.proofs.Read.{read-law, book-fine}
 use Rattle.ledger_layout.proofs.Right.{layout-right}
 use Rattle.ledger_layout.proofs.Sheets.{on-layout}
-use Rattle.ledger_replay.specs.declared.Line.{Line}
-use Rattle.ledger_replay.specs.declared.CallAnswer.{CallAnswer}
+use Rattle.ledger_replay.specs.Trace.{Line}
+use Rattle.ledger_replay.specs.Replay.{CallAnswer}
 use Rattle.ledger_replay.specs.Trace.{enrol_call, count, entry_at, line_at, call_in, answer_in, entries_from, entries_of}
-use Rattle.ledger_replay.specs.Replay.{call_answer, same_call_answer, differs, replay_from}
+use Rattle.ledger_replay.specs.Replay.{difference_words, call_answer, same_call_answer, differs, replay_from}
 use Rattle.ledger_replay.specs.inner.Making.{made, written, IsLaid}
 
 -- ---- what is written of an answer
@@ -52,6 +58,33 @@ written-number x = at (eqb x.answer 0) (eqb x.call enrol_call) refl
     at true false z = sym (eqb-true x.answer 0 z)
     at false u z = refl
 
+-- Whether what an accepted call answers, and what a refused one answers, is what is written.
+pub same-accepted : (x : Line) (row at : ℕ) → (x.answer ≡ 0 → at ≡ (written x).row)
+    → eqb x.answer 0 && eqb row at ≡ same_call_answer (call_answer (0 ∷ row ∷ [])) (written x)
+unfolding same_call_answer call_answer
+same-accepted x row at h = by (eqb x.answer 0) refl
+  where
+    by : (t : Bool) → eqb x.answer 0 ≡ t → eqb x.answer 0 && eqb row at ≡ eqb 0 (written x).number && eqb row (written x).row
+    by true e =
+        let z = eqb-true x.answer 0 e in
+        let accepted : eqb 0 (written x).number ≡ true = eq-eqb 0 (written x).number (sym (written-number x ∙ z)) in
+        rw (e, h z, accepted)
+    by false e = rw (written-number x, e, ne_eqb 0 x.answer (λ z. eqb-false x.answer 0 e (sym z)))
+
+pub same-refused : (x : Line) (q : ℕ) → (q ≡ 0 → ⊥) → eqb q x.answer ≡ same_call_answer (call_answer (q ∷ [])) (written x)
+unfolding same_call_answer call_answer
+same-refused x q p = by (eqb x.answer 0) refl
+  where
+    by : (t : Bool) → eqb x.answer 0 ≡ t → eqb q x.answer ≡ eqb q (written x).number && eqb 0 (written x).row
+    by true e = let z = eqb-true x.answer 0 e in rw (written-number x, z, ne_eqb q 0 p)
+    by false e = rw (written-number x, written-refused x e) (sym (and-true (eqb q x.answer)))
+
+-- What differs is what is answered.
+pub differs-is : (k : ℕ) (a : Result ℕ Refusal) → 0 ∷ difference_words (Some (record { entry = k; answer = a })) ≡ differs k (call_answer (row_words a))
+unfolding call_answer
+differs-is k (Ok row) = refl
+differs-is k (Err r) = refl
+
 -- ---- the loop
 
 pub start : (t s : List ℕ) (n : ℕ) → n ≡ count t → replay_from 0 (entries_from t 0 (n - 0)) s ≡ replay_from 0 (entries_of t) s
@@ -75,6 +108,13 @@ unfolding replay_from entries_from
 all_same t s k n e = rw e
 
 -- ---- the sheet stays right
+
+-- A slice of a sheet's length is made fresh.
+pub never-refused : (s t : List ℕ) (why : Refusal) → length s ≡ sheet_size → (number_of why ∷ [], t) ≡ fresh_on s → ⊥
+unfolding fresh_on
+never-refused s t why l e =
+    let made : ◌≡◌ {A = Outcome} (number_of why ∷ [], t) (0 ∷ [], layout fresh) = rw (eq-eqb (length s) sheet_size l) at e in
+    number-positive why (ap (λ o. get_or o.0 0 0) made)
 
 pub fresh-laid : (s t : List ℕ) (a : List ℕ) → length s ≡ sheet_size → (a, t) ≡ fresh_on s → IsLaid t
 unfolding fresh_on

@@ -16,7 +16,7 @@ use Rattle.ledger_model.specs.Step.{FirstGap, Ask, done, Entry, ◌⇒◌}
 use Rattle.octets.specs.Lists.{laid}
 use Rattle.ledger_layout.proofs.Parts.{number-within}
 use Rattle.octets.proofs.Lists.{length-laid, part-laid}
-use Rattle.ledger_replay.specs.declared.Line.{Line}
+use Rattle.ledger_replay.specs.Trace.{Line}
 use Rattle.ledger_replay.specs.Trace.{number_size, header_size, most_entries, key_size, entry_size, header_number, count, entry_at}
 use Rattle.ledger_replay.specs.Trace.{line_at, header_right, line_right, lines_right, is_trace, entry_in, entries_from, entries_of}
 use Rattle.ledger_replay.specs.Record.{line_of, line_bytes, trace_header, trace_of}

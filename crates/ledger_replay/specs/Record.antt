@@ -4,7 +4,7 @@ use Rattle.octets.specs.Octets.{bytes_of}
 use Rattle.ledger_model.specs.Lists.{filtered}
 use Rattle.ledger_model.specs.Step.{Call, Enrol, Ask, Open, Mark, Save, Drop, Strike, Answer, gave, refused, Entry, ◌⇒◌, call_of}
 use Rattle.octets.specs.Lists.{laid}
-use Rattle.ledger_replay.specs.declared.Line.{Line}
+use Rattle.ledger_replay.specs.Trace.{Line}
 use Rattle.ledger_replay.specs.Trace.{number_size, header_size, key_size, entry_at, enrol_call, open_call, tick_call, untick_call, save_call, drop_call}
 use Rattle.ledger_replay.specs.Trace.{strike_call}
 

@@ -1,29 +1,41 @@
 -- Document 02, request 11: the replay of a trace, over a fresh sheet or over a sheet as it is. Each call is `on_sheet (call c)`, as in the ledger's
 -- contracts. Assumes nothing.
 -- The manual, docs/INTERFACE.md: "A night in a trace, played again".
-use Rattle.std.specs.Prelude.{ℕ, suc, ◌≡◌, Bool, cond, not, ◌&&◌, List, [], ◌∷◌, eqb, length, get_or}
+use Rattle.std.specs.Prelude.{ℕ, suc, Bool, cond, not, ◌&&◌, List, [], ◌∷◌, eqb, length, get_or, Option, Some, None, Result, Ok, Err}
+use Rattle.refusals.specs.declared.Refusal.{Refusal}
 use Rattle.refusals.specs.Table.{number_of}
+use Rattle.refusals.specs.Words.{Different}
+use Rattle.refusals.specs.Words as Refusals
 use Rattle.refusals.specs.Judge.{◌when◌}
 use Rattle.ledger_model.specs.Step.{answer_words, Entry, ◌⇒◌}
 use Rattle.ledger_sheet.specs.Sheet.{sheet_size, right}
 use Rattle.ledger_sheet.specs.Outcome.{Outcome, refused_or}
 use Rattle.ledger_layout.specs.Layout.{call, on_sheet, fresh_on}
-use Rattle.ledger_replay.specs.declared.CallAnswer.{CallAnswer}
-use Rattle.ledger_replay.specs.declared.Replayed.{Replayed}
-use Rattle.ledger_replay.specs.declared.Replayed.TheVariants.{Same, Differs, Refused}
+use Rattle.ledger_replay.specs.declared.Difference.{Difference}
 use Rattle.ledger_replay.specs.Trace.{is_trace, entries_of}
 
--- The words of an answer.
-abbrev pub replayed_words : Replayed → List ℕ
-replayed_words Same = 0 ∷ []
-replayed_words (Differs entry number row) = 0 ∷ entry ∷ number ∷ row ∷ []
-replayed_words (Refused r) = number_of r ∷ []
+-- What an entry's call answered: 0 and the row of an accepted enrolment, or 0 for another accepted call; or the refusal's number, and 0.
+abbrev pub answered_words : Result ℕ Refusal → List ℕ
+answered_words (Ok row) = 0 ∷ row ∷ []
+answered_words (Err r) = number_of r ∷ 0 ∷ []
+
+-- The words of an answer. If no entry differs, 0 alone.
+abbrev pub difference_words : Option Difference → List ℕ
+difference_words None = []
+difference_words (Some d) = d.entry ∷ answered_words d.answer
+
+abbrev pub replayed_words : Result (Option Difference) Refusal → List ℕ
+replayed_words answer = Refusals.answer_words difference_words answer
 
 -- Different answers have different words.
 abbrev pub DifferentReplays : Type 0
-DifferentReplays = (a b : Replayed) → replayed_words a ≡ replayed_words b → a ≡ b
+DifferentReplays = Different replayed_words
 
 -- What a replay compares of an answer: 0 or the refusal's number, and the row, which only enrol gives.
+pub record CallAnswer : Type 0 where
+  pub number : ℕ
+  pub row : ℕ
+
 unfoldable pub call_answer : List ℕ → CallAnswer
 call_answer words = record { number = get_or words 0 0; row = get_or words 1 0 }
 

@@ -3,7 +3,6 @@
 use Rattle.std.specs.Prelude.{ℕ, zero, suc, ◌+◌, ◌*◌, Bool, cond, ◌&&◌, ◌||◌, List, [], ◌∷◌, eqb, leb, length, get_or}
 use Rattle.octets.specs.Octets.{number_at, all}
 use Rattle.ledger_model.specs.Step.{Call, Enrol, Open, Tick, Untick, Save, Drop, Strike, Answer, done, at_row, refused, Entry, ◌⇒◌}
-use Rattle.ledger_replay.specs.declared.Line.{Line}
 
 -- ---- sizes and offsets
 
@@ -81,6 +80,15 @@ count t = header_number t count_at
 
 abbrev pub entry_at : ℕ → ℕ
 entry_at k = header_size + entry_size * k
+
+-- The fields of an entry, as numbers.
+pub record Line : Type 0 where
+  pub call : ℕ
+  pub desk : ℕ
+  pub row : ℕ
+  pub answer : ℕ
+  pub number : ℕ
+  pub key : ℕ
 
 -- The fields of the entry at offset a.
 unfoldable pub line_at : List ℕ → ℕ → Line

@@ -3,95 +3,56 @@
 ghost use Rattle.std.specs.Prelude.{◌≡◌, true};
 ghost use Rattle.ledger_sheet.specs.Sheet.{right};
 ghost use Rattle.ledger_sheet.specs.Words.{answer_words, row_words};
-ghost use Rattle.ledger_layout.specs.Layout.{call, on_sheet};
 ghost use Rattle.ledger_replay.specs.Trace.{call_in};
 ghost use Rattle.ledger_replay.specs.Replay.{call_answer, same_call_answer};
-ghost use Rattle.ledger_replay.specs.inner.Making.{last_in, plain_in, made, written};
+ghost use Rattle.ledger_replay.specs.inner.Making.{made, written};
+ghost use Rattle.ledger_replay.specs.inner.Numbered.{numbers_of};
 
-use crate as replay;
-use crate::{CallAnswer, Line};
-use ledger_sheet::{Answer, RowAnswer};
+use crate::{Call, Line};
+use refusals::Refusal;
 
-pub(crate) fn make(s: &mut [u8], x: Line) -> CallAnswer
+// Makes the call of an entry. An enrolment answers its row; any other accepted call answers 0.
+pub(crate) fn make(s: &mut [u8], x: Line) -> Result<u32, Refusal>
     requires { right s.old ≡ true }
-    ensures { (result, s.new) ≡ made (call_in x) s.old }
+    ensures { (call_answer (row_words result), s.new) ≡ made (call_in (numbers_of x)) s.old }
 {
-    if x.call == replay::ENROL {
-        return row_answer_of(ledger_judged::enrol(s, true, x.key, x.number));
-    }
-    answer_of(make_plain(s, x))
-}
-
-fn make_plain(s: &mut [u8], x: Line) -> Answer
-    requires { right s.old ≡ true }
-    ensures { (answer_words result, s.new) ≡ on_sheet (call (plain_in x)) s.old }
-{
-    if x.call == replay::OPEN {
-        return ledger_judged::open(s, true, x.desk as u32, x.row as u32);
-    }
-    if x.call == replay::TICK {
-        return ledger_judged::mark(s, true, x.desk as u32, x.number, true);
-    }
-    if x.call == replay::UNTICK {
-        return ledger_judged::mark(s, true, x.desk as u32, x.number, false);
-    }
-    make_last(s, x)
-}
-
-fn make_last(s: &mut [u8], x: Line) -> Answer
-    requires { right s.old ≡ true }
-    ensures { (answer_words result, s.new) ≡ on_sheet (call (last_in x)) s.old }
-{
-    if x.call == replay::SAVE {
-        return ledger_judged::save(s, true, x.desk as u32);
-    }
-    if x.call == replay::DROP {
-        return ledger_judged::drop(s, true, x.desk as u32);
-    }
-    ledger_judged::strike(s, true, x.row as u32)
-}
-
-fn answer_of(a: Answer) -> CallAnswer
-    ensures { result ≡ call_answer (answer_words a) }
-{
-    match a {
-        Answer::Done => CallAnswer { number: 0, row: 0 },
-        Answer::Refused(why) => CallAnswer {
-            number: refusals::number(why),
-            row: 0,
-        },
+    let desk = x.desk as u32;
+    let row = x.row as u32;
+    match x.call {
+        Call::Enrol => ledger_judged::enrol(s, true, x.key, x.number),
+        Call::Open => no_row(ledger_judged::open(s, true, desk, row)),
+        Call::Tick => no_row(ledger_judged::mark(s, true, desk, x.number, true)),
+        Call::Untick => no_row(ledger_judged::mark(s, true, desk, x.number, false)),
+        Call::Save => no_row(ledger_judged::save(s, true, desk)),
+        Call::Drop => no_row(ledger_judged::drop(s, true, desk)),
+        Call::Strike => no_row(ledger_judged::strike(s, true, row)),
     }
 }
 
-fn row_answer_of(a: RowAnswer) -> CallAnswer
-    ensures { result ≡ call_answer (row_words a) }
+// The answer of a call that gives no row.
+fn no_row(answer: Result<(), Refusal>) -> Result<u32, Refusal>
+    ensures { call_answer (row_words result) ≡ call_answer (answer_words answer) }
 {
-    match a {
-        RowAnswer::Row(row) => CallAnswer { number: 0, row },
-        RowAnswer::Refused(why) => CallAnswer {
-            number: refusals::number(why),
-            row: 0,
-        },
+    answer?;
+    Ok(0)
+}
+
+// Whether a call answered what the entry says.
+pub(crate) fn is_written(x: Line, answer: Result<u32, Refusal>) -> bool
+    ensures { result ≡ same_call_answer (call_answer (row_words answer)) (written (numbers_of x)) }
+{
+    match answer {
+        Ok(row) => (x.answer == 0) & (row == written_row(x) as u32),
+        Err(why) => refusals::number(why) == x.answer as u32,
     }
 }
 
-pub(crate) fn is_written(x: Line, answered: CallAnswer) -> bool
-    ensures { result ≡ same_call_answer answered (written x) }
-{
-    let same_number = answered.number == x.answer as u32;
-    let same_row = answered.row == written_row(x) as u32;
-    same_number & same_row
-}
-
-// The row in the entry, if it is an accepted enrolment; else 0.
+// The row in the entry of an accepted call: that of an enrolment; 0 of any other.
 fn written_row(x: Line) -> u8
-    ensures { result ≡ (written x).row }
+    ensures { x.answer ≡ 0 → result ≡ (written (numbers_of x)).row }
 {
-    if x.call != replay::ENROL {
-        return 0;
+    match x.call {
+        Call::Enrol => x.row,
+        _ => 0,
     }
-    if x.answer != 0 {
-        return 0;
-    }
-    x.row
 }

@@ -5,10 +5,11 @@
 mod calls;
 mod trace;
 
-ghost use Rattle.std.specs.Prelude.{◌≡◌, ◌≤◌, length};
-ghost use Rattle.ledger_replay.specs.Trace.{header_size, most_entries, count, entry_at};
+ghost use Rattle.std.specs.Prelude.{◌≡◌, ◌≤◌, ◌∷◌, true, length};
+ghost use Rattle.ledger_replay.specs.Trace.{header_size, most_entries, count, entry_at, lines_right};
 ghost use Rattle.ledger_replay.specs.inner.Making.{IsLaid};
-ghost use Rattle.ledger_replay.specs.Replay.{replayed_words, played, replay_on, replay_on_sheet};
+ghost use Rattle.ledger_replay.specs.inner.Numbered.{call_numbered};
+ghost use Rattle.ledger_replay.specs.Replay.{replayed_words, difference_words, played, replay_on, replay_on_sheet};
 
 use ledger_sheet as sheet;
 use ledger_sheet::right;
@@ -55,10 +56,43 @@ pub const DROP: u8 = 6;
 
 pub const STRIKE: u8 = 7;
 
+// The calls that a trace keeps.
+#[derive(Clone, Copy)]
+pub enum Call {
+    Enrol,
+    Open,
+    Tick,
+    Untick,
+    Save,
+    Drop,
+    Strike,
+}
+
+// What is no call's number is in no trace.
+impl TryFrom<u8> for Call {
+    type Error = Refusal;
+
+    ghost try_from_gives = { λ number answer. answer ≡ call_numbered number };
+
+    fn try_from(number: u8) -> Result<Call, Refusal> {
+        // A switch, since a trace has its calls as bytes: here each becomes a call, once.
+        match number {
+            ENROL => Ok(Call::Enrol),
+            OPEN => Ok(Call::Open),
+            TICK => Ok(Call::Tick),
+            UNTICK => Ok(Call::Untick),
+            SAVE => Ok(Call::Save),
+            DROP => Ok(Call::Drop),
+            STRIKE => Ok(Call::Strike),
+            _ => Err(Refusal::NotTrace),
+        }
+    }
+}
+
 // The fields of an entry.
 #[derive(Clone, Copy)]
 pub struct Line {
-    pub call: u8,
+    pub call: Call,
     pub desk: u8,
     pub row: u8,
     pub answer: u8,
@@ -66,65 +100,60 @@ pub struct Line {
     pub key: u64,
 }
 
-// What a replay compares of an answer: 0 or the refusal's number, and the row of an accepted enrolment, else 0.
+// The first entry whose call answers otherwise than the trace says, counted from 0; and what its call answered: the row of an accepted enrolment, 0
+// for any other accepted call, or the refusal.
 #[derive(Clone, Copy)]
-pub struct CallAnswer {
-    pub number: u32,
-    pub row: u32,
-}
-
-// The answer of a replay: every call answered as the trace says; or the first entry that differs, counted from 0, and what its call answered.
-#[derive(Clone, Copy)]
-pub enum Replayed {
-    Same,
-    Differs { entry: u32, number: u32, row: u32 },
-    Refused(Refusal),
+pub struct Difference {
+    pub entry: u32,
+    pub answer: Result<u32, Refusal>,
 }
 
 // Replays a trace: makes the sheet fresh, then the calls in order, up to the first whose answer differs from the trace's.
-pub fn replay(t: &[u8], s: &mut [u8]) -> Replayed
+pub fn replay(t: &[u8], s: &mut [u8]) -> Result<Option<Difference>, Refusal>
     ensures { (replayed_words result, s.new) ≡ replay_on t.now s.old }
 {
     if s.len() != sheet::SHEET {
-        return Replayed::Refused(Refusal::NotSheet);
+        return Err(Refusal::NotSheet);
     }
     if !trace::is_trace(t) {
-        return Replayed::Refused(Refusal::NotTrace);
+        return Err(Refusal::NotTrace);
     }
-    ledger::fresh(s);
-    play(t, s)
+    ledger::fresh(s)?;
+    Ok(play(t, s))
 }
 
 // Replays a trace over the sheet as it is. A long log is replayed in pieces with it.
-pub fn replay_on(t: &[u8], s: &mut [u8]) -> Replayed
+pub fn replay_on(t: &[u8], s: &mut [u8]) -> Result<Option<Difference>, Refusal>
     ensures { (replayed_words result, s.new) ≡ replay_on_sheet t.now s.old }
 {
     if !right::is_sheet(s) {
-        return Replayed::Refused(Refusal::NotSheet);
+        return Err(Refusal::NotSheet);
     }
     if !trace::is_trace(t) {
-        return Replayed::Refused(Refusal::NotTrace);
+        return Err(Refusal::NotTrace);
     }
-    play(t, s)
+    Ok(play(t, s))
 }
 
+// Said in each, since a trace is a lent slice that is judged once: a type around it would be built in `replay` and taken apart at each read.
 // Makes the calls of a trace on a sheet, up to the first whose answer differs from the trace's.
-fn play(t: &[u8], s: &mut [u8]) -> Replayed
+fn play(t: &[u8], s: &mut [u8]) -> Option<Difference>
     requires whole { (header_size ≤ length t.now) × (entry_at (count t.now) ≤ length t.now) × (count t.now ≤ most_entries) }
+    requires lines { lines_right t.now ≡ true }
     requires laid { IsLaid s.old }
-    ensures { (replayed_words result, s.new) ≡ played t.now s.old }
+    ensures { (0 ∷ difference_words result, s.new) ≡ played t.now s.old }
 {
     let entries = trace::entry_count(t);
+    // By index, since an entry's number is part of the answer, and its offset comes from it.
     for i in 0..entries {
-        let x = trace::read_line(t, HEADER + ENTRY * i);
-        let answered = calls::make(s, x);
-        if !calls::is_written(x, answered) {
-            return Replayed::Differs {
+        let x = trace::read_line(t, HEADER + ENTRY * i).unwrap();
+        let answer = calls::make(s, x);
+        if !calls::is_written(x, answer) {
+            return Some(Difference {
                 entry: i as u32,
-                number: answered.number,
-                row: answered.row,
-            };
+                answer,
+            });
         }
     }
-    Replayed::Same
+    None
 }

@@ -1,10 +1,12 @@
 // Tests whether a slice is a trace, and reads its entries.
 ghost use Rattle.std.specs.Prelude.{◌≡◌, ◌+◌, ◌≤◌, length};
 ghost use Rattle.ledger_replay.specs.Trace.{header_size, entry_size, count, entry_at, line_at, header_right, line_right, lines_right, is_trace};
+ghost use Rattle.ledger_replay.specs.inner.Numbered.{line_in, numbers_of};
 
 use crate as replay;
-use crate::Line;
+use crate::{Call, Line};
 use octets::numbers;
+use refusals::Refusal;
 
 pub(crate) fn is_trace(t: &[u8]) -> bool
     ensures { result ≡ is_trace t.now }
@@ -42,43 +44,47 @@ fn are_lines(t: &[u8]) -> bool
     ensures { result ≡ lines_right t.now }
 {
     let entries = entry_count(t);
-    let mut right = true;
-    for i in 0..entries {
-        right &= is_line(read_line(t, replay::HEADER + replay::ENTRY * i));
-    }
-    right
+    (0..entries).all(|i| is_line(t, replay::HEADER + replay::ENTRY * i))
 }
 
-// The entry at offset a.
-pub(crate) fn read_line(t: &[u8], a: usize) -> Line
+// The entry at offset a. Refused if its number is no call's.
+pub(crate) fn read_line(t: &[u8], a: usize) -> Result<Line, Refusal>
     requires { a + entry_size ≤ length t.now }
-    ensures { result ≡ line_at t.now a }
+    ensures { result ≡ line_in (line_at t.now a) }
 {
-    let number = numbers::read_u32(t, a + replay::RECORD_AT);
-    let key = numbers::read_be(t, a + replay::KEY_AT, replay::KEY);
-    Line {
-        call: t[a],
+    let call = Call::try_from(t[a])?;
+    Ok(Line {
+        call,
         desk: t[a + replay::DESK_AT],
         row: t[a + replay::ROW_AT],
         answer: t[a + replay::ANSWER_AT],
-        number,
-        key,
+        number: numbers::read_u32(t, a + replay::RECORD_AT),
+        key: numbers::read_be(t, a + replay::KEY_AT, replay::KEY),
+    })
+}
+
+// Whether the entry at offset a is right.
+fn is_line(t: &[u8], a: usize) -> bool
+    requires { a + entry_size ≤ length t.now }
+    ensures { result ≡ line_right (line_at t.now a) }
+{
+    match read_line(t, a) {
+        Ok(x) => is_right(x),
+        Err(_) => false,
     }
 }
 
-fn is_line(x: Line) -> bool
-    ensures { result ≡ line_right x }
+// Whether each field that an entry's call does not use is zero. Only an accepted enrolment has a row.
+fn is_right(x: Line) -> bool
+    ensures { result ≡ line_right (numbers_of x) }
 {
-    let call = (replay::ENROL <= x.call) & (x.call <= replay::STRIKE);
-    let desk = (x.desk == 0) | ((replay::OPEN <= x.call) & (x.call <= replay::DROP));
-    let row = (x.row == 0)
-        | (x.call == replay::OPEN)
-        | (x.call == replay::STRIKE)
-        | ((x.call == replay::ENROL) & (x.answer == 0));
-    let number = (x.number == 0)
-        | (x.call == replay::ENROL)
-        | (x.call == replay::TICK)
-        | (x.call == replay::UNTICK);
-    let key = (x.key == 0) | (x.call == replay::ENROL);
-    call & desk & row & number & key
+    match x.call {
+        Call::Enrol => (x.desk == 0) & ((x.row == 0) | (x.answer == 0)),
+        Call::Open => (x.number == 0) & (x.key == 0),
+        Call::Tick => (x.row == 0) & (x.key == 0),
+        Call::Untick => (x.row == 0) & (x.key == 0),
+        Call::Save => (x.row == 0) & (x.number == 0) & (x.key == 0),
+        Call::Drop => (x.row == 0) & (x.number == 0) & (x.key == 0),
+        Call::Strike => (x.desk == 0) & (x.number == 0) & (x.key == 0),
+    }
 }

@@ -7,6 +7,8 @@ use mathlib.Core.List.{List, [], ◌∷◌, ◌++◌, map}
 use mathlib.Core.Path.{◌≡◌, refl, ap, ◌∙◌, subst}
 use lib.Dec.{lit<}
 use lib.ListN.{length, get_or, length-append}
+use Rattle.std.specs.Prelude.{Result, IsOk}
+use Rattle.refusals.specs.declared.Refusal.{Refusal}
 use borrow.Author.Tests.{le-ltb}
 use Rattle.octets.proofs.Laws.{all-each}
 use Rattle.octets.proofs.Parts.{part-whole, part-first, part-second}
@@ -18,7 +20,6 @@ use Rattle.ledger_model.specs.Tally.{saved_ticks, saved_unticks, Tallies}
 use Rattle.ledger_model.proofs.WellFormed.{run-well-formed}
 use Rattle.ledger_model.proofs.Tally.{model-tally}
 use Rattle.ledger_sheet.specs.Sheet.{sheet_size}
-use Rattle.ledger_sheet.specs.declared.Answer.TheVariants as A
 use Rattle.ledger_layout.specs.Layout.{book_of, layout}
 use Rattle.ledger_layout.proofs.Places.{shape, length-layout}
 use Rattle.ledger_layout.proofs.Right.{reads-back, layout-right}
@@ -26,7 +27,7 @@ use Rattle.octets.proofs.Lists.{table_is}
 use Rattle.ledger.specs.Demand3.{MadeFresh, Promised}
 use Rattle.ledger.proofs.Demand3.{demand-3}
 use Rattle.ledger_season.specs.Report.{most_sheets, ticked_in, in_all, key_in_two}
-use Rattle.ledger_season.specs.Season.{sheet_at, sheet_count, books_to, books, right_to, season, Answers}
+use Rattle.ledger_season.specs.Season.{sheet_at, sheet_count, books_to, books, right_to, report_of, season, Answers}
 use Rattle.ledger_season.specs.Identity.{Grown, no-sheet, and_sheet, laid_in_one, over_logs, EveryGrown}
 use Rattle.ledger_season.specs.declared.SeasonReport.{SeasonReport}
 use Rattle.ledger_season.proofs.Judged.{wrong_length}
@@ -119,7 +120,7 @@ module _ (logs : List (List Entry)) (sheets : List (List ℕ)) (h : Sheets logs 
       rw counted
       (all-each (length sheets) _ (λ k l. rw (h.sheet-is k l) (layout-right (get_or (map book_after logs) k fresh) (h.book-ok k l))))
 
-  taken-if : (r : SeasonReport) → Answers (season s) r → length sheets ≤ most_sheets → key_in_two (map book_after logs) ≡ false → r.answer ≡ A.Done
+  taken-if : (r : Result SeasonReport Refusal) → Answers (season s) r → length sheets ≤ most_sheets → key_in_two (map book_after logs) ≡ false → IsOk r
   taken-if r answers few once = accepts s r (not-long few) are-right (rw books-are once) answers
 
 pub season-identity : EveryGrown
@@ -128,8 +129,8 @@ season-identity logs sheets grown r answers =
     let h = sheets-of grown in
     record { accepted = taken-if logs sheets h r answers; balanced = balance h (given (laid_in_one sheets) r answers) }
   where
-    balance : Sheets logs sheets → Given (laid_in_one sheets) r → r.answer ≡ A.Done → r.total.ticked + over_logs saved_unticks logs ≡ over_logs saved_ticks logs
+    balance : Sheets logs sheets → Given (laid_in_one sheets) r → IsOk r → (report_of r).total.ticked + over_logs saved_unticks logs ≡ over_logs saved_ticks logs
     balance h (taken d fits right-all k) done =
-        let total : r.total.ticked ≡ in_all ticked_in (map book_after logs) = total-ticked r _ k ∙ ap (in_all ticked_in) (books-are logs sheets h) in
+        let total : (report_of r).total.ticked ≡ in_all ticked_in (map book_after logs) = total-ticked (report_of r) _ k ∙ ap (in_all ticked_in) (books-are logs sheets h) in
         omega (arith, total, h.tally)
     balance h (refused d k) done = absurd (d done)

@@ -8,6 +8,10 @@ use mathlib.Core.Path.{◌≡◌, refl, sym, ap, ◌∙◌}
 use lib.Dec.{eqb, ltb}
 use lib.ListN.{length}
 use borrow.Author.Tests.{ltb-false}
+use Rattle.std.specs.Prelude.{Err}
+use Rattle.refusals.specs.declared.Refusal.{Refusal}
+use Rattle.refusals.specs.Table.{number_of}
+use Rattle.refusals.proofs.Laws.{number-positive}
 use Rattle.refusals.specs.Judge.{Rule, ◌when◌, judge, verdict}
 use Rattle.octets.proofs.Laws.{Bytes, all-at}
 use Rattle.octets.proofs.Parts.{bytes-part}
@@ -16,8 +20,8 @@ use Rattle.ledger_sheet.specs.Sheet.{sheet_size}
 use Rattle.ledger_layout.specs.Layout.{book_of}
 use Rattle.ledger_layout.proofs.Read.{book-fine}
 use Rattle.octets.proofs.Lists.{get_or-table}
-use Rattle.ledger_season.specs.Report.{most_sheets, key_in_two, report}
-use Rattle.ledger_season.specs.Season.{sheet_at, sheet_count, books_to, books, right_to, season_rules, season}
+use Rattle.ledger_season.specs.Report.{most_sheets, key_in_two, three, each_sheet, in_all, per_million, season_gap_from, report}
+use Rattle.ledger_season.specs.Season.{sheet_at, sheet_count, books_to, books, right_to, season_rules, season, sheets_words, report_words}
 use Rattle.ledger_season.specs.inner.Gathered.{keys_of_all, distinct}
 use Rattle.ledger_season.proofs.Sheets.{length-books}
 use Rattle.ledger_season.proofs.Keys.{keys-law, book-distinct}
@@ -77,9 +81,17 @@ by-none false true t nothing answer e = absurd (false≢true cc)
 by-none false false true nothing answer e = absurd (false≢true cc)
 by-none false false false nothing answer e = (refl, refl)
 
-pub season-refused : (s : List ℕ) (q : ℕ) → (q ≡ 0 → ⊥) → q ∷ [] ≡ verdict (season_rules s) ∷ [] → q ∷ report [] ≡ season s
+-- a refused season reports on no sheet
+no-sheet : (why : Refusal) → report_words (Err why) ≡ number_of why ∷ report []
+unfolding report sheets_words each_sheet three in_all per_million season_gap_from
+no-sheet why = refl
+
+pub season-refused : (s : List ℕ) (why : Refusal) → number_of why ∷ [] ≡ verdict (season_rules s) ∷ [] → report_words (Err why) ≡ season s
 unfolding season rules given
-season-refused s q p e = by-refusal (wrong_length s) (not (right_to s (sheet_count s))) (key_in_two (books s)) (report []) (0 ∷ report (books s)) q p e
+season-refused s why e =
+    no-sheet why
+    ∙ by-refusal (wrong_length s) (not (right_to s (sheet_count s))) (key_in_two (books s)) (report []) (0 ∷ report (books s))
+    (number_of why) (number-positive why) e
 
 pub season-accepted : (s : List ℕ) → 0 ∷ [] ≡ verdict (season_rules s) ∷ [] → Fit s × (0 ∷ report (books s) ≡ season s)
 unfolding season rules given

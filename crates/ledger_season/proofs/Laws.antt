@@ -8,6 +8,8 @@ use mathlib.Core.Logic.{◌↔◌}
 use mathlib.Core.Option.{Option, none, some}
 use mathlib.Core.Path.{◌≡◌, refl, sym, ap, ◌∙◌}
 use lib.ListN.{length, get_or, take}
+use Rattle.std.specs.Prelude.{Some, None}
+use Rattle.std.specs.Prelude as Std
 use lib.Seq.{take-suc, take-length}
 use Rattle.octets.specs.Octets.{all}
 use Rattle.octets.proofs.Parts.{part-whole}
@@ -23,11 +25,10 @@ use Rattle.ledger_layout.specs.Layout.{book_of, place_in, call, on_sheet}
 use Rattle.octets.proofs.Lists.{length-table}
 use Rattle.octets.specs.Lists.{table}
 use Rattle.ledger_season.specs.Report.{most_sheets, missed, three, ticked_in, missing_in, each_sheet, in_all, gap_in, season_gap_from}
-use Rattle.ledger_season.specs.Season.{sheet_at, sheet_count, books_to, books, right_to, sheets_words, or_further}
+use Rattle.ledger_season.specs.Season.{sheet_at, sheet_count, books_to, books, right_to, sheets_words, or_further, report_of}
 use Rattle.ledger_season.specs.Laws.{over_sheets, over_rows, Laws, EverySeason}
 use Rattle.ledger_season.specs.declared.SheetCounts.{SheetCounts}
 use Rattle.ledger_season.specs.declared.SeasonGap.{SeasonGap}
-use Rattle.ledger_season.specs.declared.SeasonGap.TheVariants as G
 use Rattle.ledger_season.specs.declared.SeasonReport.{SeasonReport}
 use Rattle.ledger_season.proofs.Sheets.{length-books}
 use Rattle.ledger_season.proofs.Read.{Says, Given, taken, refused, given}
@@ -101,12 +102,12 @@ gap-where k (b ∷ bs) = by (first 0 b.places) (gap-where (suc k) bs)
       λ f. absurd (m (omega arith)),
     )
 
-gap-none : (g : SeasonGap) → (g ≡ G.Nothing) ↔ (or_further g [] ≡ [])
-gap-none G.Nothing = (λ e. refl, λ e. refl)
-gap-none (G.Gap sheet r number) =
+gap-none : (g : Std.Option SeasonGap) → (g ≡ None) ↔ (or_further g [] ≡ [])
+gap-none None = (λ e. refl, λ e. refl)
+gap-none (Some g) =
     (λ e. cc, λ e. cc)
 
-says-gap : (r : SeasonReport) (bs : List Book) → Says r bs → (r.gap ≡ G.Nothing) ↔ (r.total.missing ≡ 0)
+says-gap : (r : SeasonReport) (bs : List Book) → Says r bs → (r.gap ≡ None) ↔ (r.total.missing ≡ 0)
 says-gap r bs h =
     let m = total-missing r bs h in
     (λ e. m ∙ (gap-where 0 bs).0 (sym h.gap_is ∙ (gap-none r.gap).0 e), λ e. (gap-none r.gap).1 (h.gap_is ∙ (gap-where 0 bs).1 (sym m ∙ e)))
@@ -195,13 +196,16 @@ module _ (s : List ℕ) (long : length s ≡ sheet_size) where
 -- ---- the laws
 
 pub laws : EverySeason
-laws s r answers = by (given s r answers)
+laws s a answers = by (given s a answers)
   where
+    r : SeasonReport
+    r = report_of a
+
     added : (bs : List Book) → length bs ≤ most_sheets → Says r bs
         → (over_sheets (λ c. c.ticked) r.sheets ≡ in_all ticked_in bs) × (over_sheets (λ c. c.missing) r.sheets ≡ in_all missing_in bs)
     added bs few h = over r.sheets most_sheets bs (ap (λ p. p.0) answers) few h.sheets-are
 
-    by : Given s r → Laws s r
+    by : Given s a → Laws s a
     by (taken d fits right-all h) =
         let few : length (books s) ≤ most_sheets = rw (length-books s (sheet_count s)) fits.few in
         let sums = added (books s) few h in

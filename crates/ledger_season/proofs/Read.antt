@@ -1,17 +1,17 @@
 -- What the words of an answer say of it. Assumes nothing.
 use Prim.Native.Nat.{ℕ, zero, suc, ◌*◌}
 use native.Mathlib.Omega.{arith}
-use mathlib.Core.Bool.{Bool, true, false}
+use mathlib.Core.Bool.{Bool, true, false, false≢true}
 use mathlib.Core.List.{List, [], ◌∷◌, ◌++◌}
 use mathlib.Core.Path.{◌≡◌, refl, sym, ap, ◌∙◌}
 use lib.ListN.{length, length-append}
+use Rattle.std.specs.Prelude.{Result, Ok, Err, IsOk}
+use Rattle.refusals.specs.declared.Refusal.{Refusal}
 use Rattle.refusals.specs.Judge.{judge}
 use Rattle.refusals.proofs.Laws.{number-positive}
 use Rattle.ledger_model.specs.Book.{Book}
-use Rattle.ledger_sheet.specs.declared.Answer.{Answer}
-use Rattle.ledger_sheet.specs.declared.Answer.TheVariants as A
 use Rattle.ledger_season.specs.Report.{most_sheets, three, ticked_in, missing_in, each_sheet, in_all, season_gap_from, report, key_in_two}
-use Rattle.ledger_season.specs.Season.{sheet_count, books, right_to, season, answer_number, counts_words, sheets_words, or_further, report_words, Answers}
+use Rattle.ledger_season.specs.Season.{sheet_count, books, right_to, season, answer_number, counts_words, sheets_words, or_further, report_of, report_words, Answers}
 use Rattle.ledger_season.specs.declared.SheetCounts.{SheetCounts}
 use Rattle.ledger_season.specs.declared.SeasonReport.{SeasonReport}
 use Rattle.ledger_season.proofs.Judged.{Fit, fit, wrong_length}
@@ -63,37 +63,38 @@ says r bs l e =
 -- ---- a season is accepted or refused
 
 -- Accepted, with the books of right sheets; or refused, which is answered as no sheet is.
-pub data Given (s : List ℕ) (r : SeasonReport) : Type 0 where
-  taken : r.answer ≡ A.Done → Fit s → right_to s (sheet_count s) ≡ true → Says r (books s) → Given s r
-  refused : (r.answer ≡ A.Done → ⊥) → Says r [] → Given s r
+pub data Given (s : List ℕ) (a : Result SeasonReport Refusal) : Type 0 where
+  taken : IsOk a → Fit s → right_to s (sheet_count s) ≡ true → Says (report_of a) (books s) → Given s a
+  refused : (IsOk a → ⊥) → Says (report_of a) [] → Given s a
 
-refused-not-done : (a : Answer) (q : ℕ) → answer_number a ≡ q → (q ≡ 0 → ⊥) → a ≡ A.Done → ⊥
-refused-not-done a q e p d = p (sym e ∙ ap answer_number d)
+refused-not-done : (a : Result SeasonReport Refusal) (q : ℕ) → answer_number a ≡ q → (q ≡ 0 → ⊥) → IsOk a → ⊥
+refused-not-done (Ok r) q e p d = p (sym e)
+refused-not-done (Err why) q e p d = false≢true d
 
-pub done-if-zero : (a : Answer) → answer_number a ≡ 0 → a ≡ A.Done
-done-if-zero A.Done e = refl
-done-if-zero (A.Refused why) e = absurd (number-positive why e)
+done-if-zero : (a : Result SeasonReport Refusal) → answer_number a ≡ 0 → IsOk a
+done-if-zero (Ok r) e = refl
+done-if-zero (Err why) e = absurd (number-positive why e)
 
 -- What no rule refuses is accepted.
-pub accepts : (s : List ℕ) (r : SeasonReport) → wrong_length s ≡ false → right_to s (sheet_count s) ≡ true → key_in_two (books s) ≡ false
-    → Answers (season s) r → r.answer ≡ A.Done
+pub accepts : (s : List ℕ) (r : Result SeasonReport Refusal) → wrong_length s ≡ false → right_to s (sheet_count s) ≡ true → key_in_two (books s) ≡ false
+    → Answers (season s) r → IsOk r
 unfolding season judge
 accepts s r long right-all once answers =
     let words : report_words r ≡ 0 ∷ report (books s) = ap (λ p. p.1) answers ∙ rw (long, right-all, once) in
-    done-if-zero r.answer (cc)
+    done-if-zero r (cc)
 
-pub given : (s : List ℕ) (r : SeasonReport) → Answers (season s) r → Given s r
+pub given : (s : List ℕ) (r : Result SeasonReport Refusal) → Answers (season s) r → Given s r
 unfolding season judge
 given s r answers = by (wrong_length s) refl (right_to s (sheet_count s)) refl (key_in_two (books s)) refl
   where
-    l : length r.sheets ≡ most_sheets
+    l : length (report_of r).sheets ≡ most_sheets
     l = ap (λ p. p.0) answers
 
     e : report_words r ≡ season s
     e = ap (λ p. p.1) answers
 
     refusal : (q : ℕ) → (q ≡ 0 → ⊥) → report_words r ≡ q ∷ report [] → Given s r
-    refusal q p h = refused (refused-not-done r.answer q (cc) p) (says r [] l (cc))
+    refusal q p h = refused (refused-not-done r q (cc) p) (says (report_of r) [] l (cc))
 
     by : (a : Bool) → wrong_length s ≡ a → (b : Bool) → right_to s (sheet_count s) ≡ b → (t : Bool) → key_in_two (books s) ≡ t → Given s r
     by true ea b eb t et = refusal 42 (λ z. omega arith) (e ∙ rw ea)
@@ -101,4 +102,4 @@ given s r answers = by (wrong_length s) refl (right_to s (sheet_count s)) refl (
     by false ea true eb true et = refusal 41 (λ z. omega arith) (e ∙ rw (ea, eb, et))
     by false ea true eb false et =
         let h : report_words r ≡ 0 ∷ report (books s) = e ∙ rw (ea, eb, et) in
-        taken (done-if-zero r.answer (cc)) (fit s ea) eb (says r (books s) l (cc))
+        taken (done-if-zero r (cc)) (fit s ea) eb (says (report_of r) (books s) l (cc))

@@ -8,15 +8,14 @@ use mathlib.Core.Option.{Option, none, some}
 use mathlib.Core.Path.{◌≡◌, refl, sym, ap, ◌∙◌}
 use lib.ListN.{drop}
 use lib.Seq.{drop-cons, drop-length}
-use Rattle.refusals.specs.declared.Refusal.{Refusal}
+use Rattle.std.specs.Prelude as Std
+use Rattle.std.specs.Option.{option_or}
 use Rattle.ledger_model.specs.Positions.{row_length, Positions, position_number, size, missing, least}
 use Rattle.ledger_model.specs.Book.{Place, free, row}
 use Rattle.ledger_model.specs.Book as Book
 use Rattle.ledger_model.specs.Counts.{lowest_number, first_gap_from}
 use Rattle.ledger_model.specs.Tally.{ticked}
 use Rattle.ledger_sheet.specs.Sheet.{row_count, row_at, is_used, key_at, first_number_at}
-use Rattle.ledger_sheet.specs.Words.{report_answer_words}
-use Rattle.ledger_sheet.specs.declared.ReportAnswer.TheVariants as Report
 use Rattle.ledger_layout.specs.Ticks.{ticks_in}
 use Rattle.ledger_counts.specs.inner.Counts.{report_words}
 use Rattle.ledger_counts.proofs.Reports.{row_count_lem, end-within}
@@ -24,9 +23,14 @@ use Rattle.ledger_layout.specs.Layout.{place_in, book_of}
 use Rattle.octets.proofs.Lists.{length-table, get_or-table}
 use Rattle.ledger_season.specs.Report.{missed}
 use Rattle.ledger_season.specs.inner.Gathered.{or_else, Counts, Adds}
-use Rattle.ledger_season.specs.declared.RowGap.{RowGap}
-use Rattle.ledger_season.specs.declared.RowGap.TheVariants as R
+use Rattle.ledger_sheet.specs.declared.Gap.{Gap}
 use Rattle.ledger_season.specs.declared.Counted.{Counted}
+
+-- The gap found before; if there is none, this one.
+pub first_in : (gap : Std.Option Gap) (found : Gap) (further : List ℕ)
+    → or_else (option_or gap (Std.Some found)) further ≡ or_else gap (found.number ∷ found.row ∷ [])
+first_in Std.None found further = refl
+first_in (Std.Some gap) found further = refl
 
 -- ---- a row
 
@@ -62,7 +66,7 @@ module _ (s : List ℕ) (r : ℕ) where
     pub some_is : lowest_missing ≡ some at
     pub lowest-is : lowest ≡ position_number (key_at s (row_at r)) (first_number_at s (row_at r)) at
 
-  pub whole_says : (t : ℕ) → report_answer_words (Report.Whole t) ≡ report_words s (row_at r) → Whole t
+  pub whole_says : (t : ℕ) → 0 ∷ t ∷ 0 ∷ [] ≡ report_words s (row_at r) → Whole t
   unfolding report_words
   whole_says t = by lowest_missing refl
     where
@@ -75,7 +79,7 @@ module _ (s : List ℕ) (r : ℕ) where
           (key_at s (row_at r)) (first_number_at s (row_at r)) (some i) = rw e at h in
           absurd (false≢true cc)
 
-  pub gaps-say : (t m l : ℕ) → report_answer_words (Report.Gaps t m l) ≡ report_words s (row_at r) → Gaps t m l
+  pub gaps-say : (t m l : ℕ) → 0 ∷ t ∷ m ∷ l ∷ [] ≡ report_words s (row_at r) → Gaps t m l
   unfolding report_words
   gaps-say t m l = by lowest_missing refl
     where
@@ -87,10 +91,6 @@ module _ (s : List ℕ) (r : ℕ) where
       by (some i) e h = let k : 0 ∷ t ∷ m ∷ l ∷ [] ≡ 0 ∷ size ticks ∷ size (missing ticks) ∷ lowest_number
           (key_at s (row_at r)) (first_number_at s (row_at r)) (some i) = rw e at h in
           record { ticked-is = cc; missing-is = cc; at = i; some_is = e; lowest-is = cc }
-
-  pub not-refused : (why : Refusal) → report_answer_words (Report.Refused why) ≡ report_words s (row_at r) → ⊥
-  unfolding report_words
-  not-refused why h = false≢true cc
 
   -- a free row adds nothing
   pub free-adds : (sum : Counted) → is_used s r ≡ false → Adds (place_in s r) r sum sum
@@ -112,7 +112,7 @@ module _ (s : List ℕ) (r : ℕ) where
       })
 
   -- and one with gaps these too.
-  pub gaps-add : (sum : Counted) (gap : RowGap) (t m l : ℕ) → is_used s r ≡ true → Gaps t m l
+  pub gaps-add : (sum : Counted) (gap : Std.Option Gap) (t m l : ℕ) → is_used s r ≡ true → Gaps t m l
       → ((further : List ℕ) → or_else gap further ≡ or_else sum.gap (l ∷ r ∷ []))
       → Adds (place_in s r) r sum (record { ticked = sum.ticked + t; missing = sum.missing + m; gap = gap })
   unfolding first_gap_from
@@ -124,11 +124,12 @@ module _ (s : List ℕ) (r : ℕ) where
         gap_more = λ further. g _ ∙ rw (w.some_is, w.lowest-is);
       })
 
-  pub whole-few : (t : ℕ) → Whole t → t ≤ row_length
-  whole-few t w = omega (arith, w.ticked-is, few)
+  pub ticks-few : (t : ℕ) (rest : List ℕ) → 0 ∷ t ∷ rest ≡ report_words s (row_at r) → t ≤ row_length
+  unfolding report_words
+  ticks-few t rest h = let e : t ≡ size ticks = cc in omega (arith, e, few)
 
-  pub gaps-few : (t m l : ℕ) → Gaps t m l → (t ≤ row_length) × (m ≤ row_length)
-  gaps-few t m l w = (omega (arith, w.ticked-is, few), omega (arith, w.missing-is, few))
+  pub gaps-few : (t m l : ℕ) → Gaps t m l → m ≤ row_length
+  gaps-few t m l w = omega (arith, w.missing-is, few)
 
   place-few : (size (Book.ticks_of (place_in s r)) ≤ row_length) × (size (missing (Book.ticks_of (place_in s r))) ≤ row_length)
   unfolding size missing
@@ -151,7 +152,7 @@ pub record CountedTo (s : List ℕ) (r : ℕ) (sum : Counted) : Type 0 where
   pub missing-left : sum.missing + missed (drop r (places s)) ≡ missed (places s)
   pub gap-left : or_else sum.gap (first_gap_from r (drop r (places s))) ≡ first_gap_from 0 (places s)
 
-pub counted_none : (s : List ℕ) → CountedTo s 0 (record { ticked = 0; missing = 0; gap = R.Nothing })
+pub counted_none : (s : List ℕ) → CountedTo s 0 (record { ticked = 0; missing = 0; gap = Std.None })
 counted_none s = record { ticked-few = omega arith; missing-few = omega arith; ticked-left = omega arith; missing-left = omega arith; gap-left = refl }
 
 pub next_place : (s : List ℕ) (r : ℕ) → r < row_count → drop r (places s) ≡ place_in s r ∷ drop (r + 1) (places s)

@@ -1,4 +1,4 @@
--- The sheets of a season, one after another, and their counts. Assumes nothing.
+-- The sheets of a season, one after another, and their counts. Assumes no_counts.
 use Prim.Native.Nat.{ℕ, zero, suc, ◌+◌, ◌-◌, ◌*◌, ◌≤◌, ◌<◌}
 use native.Mathlib.Nat.{le_refl}
 use native.Mathlib.Numerals.{add-one}
@@ -7,6 +7,7 @@ use mathlib.Core.List.{List, [], ◌∷◌, ◌++◌, append_assoc}
 use mathlib.Core.Path.{◌≡◌, refl, sym, ap, ◌∙◌}
 use lib.ListN.{length, get_or, take, drop, set, replicate, length-set, take-append-drop}
 use lib.Seq.{drop-cons, drop-length, take-suc-set, drop-set-lt}
+use Rattle.std.specs.Prelude.{Option, None}
 use Rattle.octets.specs.Octets.{part}
 use Rattle.octets.proofs.Laws.{length_part}
 use Rattle.ledger_model.specs.Positions.{row_length}
@@ -16,12 +17,11 @@ use Rattle.ledger_sheet.specs.Sheet.{sheet_size}
 use Rattle.ledger_layout.specs.Layout.{book_of}
 use Rattle.octets.proofs.Lists.{length-table, get_or-table}
 use Rattle.ledger_season.specs.Report.{most_sheets, three, ticked_in, missing_in, each_sheet, in_all, gap_in, season_gap_from, report}
-use Rattle.ledger_season.specs.Season.{sheet_at, books_to, counts_words, sheets_words, or_further}
+use Rattle.ledger_season.specs.Season.{sheet_at, books_to, counts_words, sheets_words, or_further, no_counts}
 use Rattle.ledger_season.specs.inner.Gathered.{or_else, Counts}
 use Rattle.ledger_season.specs.declared.Counted.{Counted}
 use Rattle.ledger_season.specs.declared.SheetCounts.{SheetCounts}
 use Rattle.ledger_season.specs.declared.SeasonGap.{SeasonGap}
-use Rattle.ledger_season.specs.declared.SeasonGap.TheVariants as G
 
 -- ---- the part that the code lends
 
@@ -46,15 +46,12 @@ no-book s n = ap (λ m. drop m (books_to s n)) (sym (length-books s n)) ∙ drop
 
 -- ---- the words of the sheets
 
-abbrev pub nothing : SheetCounts
-nothing = record { ticked = 0; missing = 0; per_million = 0 }
-
 words_append : (xs ys : List SheetCounts) → sheets_words (xs ++ ys) ≡ sheets_words xs ++ sheets_words ys
 unfolding sheets_words
 words_append [] ys = refl
 words_append (x ∷ xs) ys = rw (words_append xs ys) (sym (append_assoc (counts_words x) (sheets_words xs) (sheets_words ys)))
 
-zeros : (n : ℕ) → sheets_words (replicate n nothing) ≡ each_sheet n []
+zeros : (n : ℕ) → sheets_words (replicate n no_counts) ≡ each_sheet n []
 unfolding sheets_words each_sheet
 zeros zero = refl
 zeros (suc n) = ap (λ ws. 0 ∷ 0 ∷ 0 ∷ ws) (zeros n)
@@ -65,17 +62,17 @@ length-sheet s n k l h = length_part s (sheet_size * k) sheet_size (omega arith)
 -- ---- the sheets counted one after another
 
 -- The first k of n sheets are counted.
-pub record SeasonTo (s : List ℕ) (n : ℕ) (sheets : List SheetCounts) (ticked missing : ℕ) (gap : SeasonGap) (k : ℕ) : Type 0 where
+pub record SeasonTo (s : List ℕ) (n : ℕ) (sheets : List SheetCounts) (ticked missing : ℕ) (gap : Option SeasonGap) (k : ℕ) : Type 0 where
   pub ticked-few : ticked ≤ row_length * place_count * k
   pub missing-few : missing ≤ row_length * place_count * k
   pub long : length sheets ≡ most_sheets
-  pub zeros-left : drop k sheets ≡ replicate (most_sheets - k) nothing
+  pub zeros-left : drop k sheets ≡ replicate (most_sheets - k) no_counts
   pub words_left : sheets_words (take k sheets) ++ each_sheet (most_sheets - k) (drop k (books_to s n)) ≡ each_sheet most_sheets (books_to s n)
   pub ticked-left : ticked + in_all ticked_in (drop k (books_to s n)) ≡ in_all ticked_in (books_to s n)
   pub missing-left : missing + in_all missing_in (drop k (books_to s n)) ≡ in_all missing_in (books_to s n)
   pub gap-left : or_further gap (season_gap_from k (drop k (books_to s n))) ≡ season_gap_from 0 (books_to s n)
 
-pub season-none : (s : List ℕ) (n : ℕ) → SeasonTo s n (replicate most_sheets nothing) 0 0 G.Nothing 0
+pub season-none : (s : List ℕ) (n : ℕ) → SeasonTo s n (replicate most_sheets no_counts) 0 0 None 0
 unfolding sheets_words
 season-none s n =
     record {
@@ -89,11 +86,11 @@ season-none s n =
       gap-left = refl;
     }
 
-module _ (s : List ℕ) (n : ℕ) (sheets : List SheetCounts) (ticked missing : ℕ) (gap : SeasonGap) where
+module _ (s : List ℕ) (n : ℕ) (sheets : List SheetCounts) (ticked missing : ℕ) (gap : Option SeasonGap) where
   pub season-more : (k : ℕ) → k < n → n ≤ most_sheets → SeasonTo s n sheets ticked missing gap k
       → (counted : Counted) → Counts (book_of (sheet_at s k)).places counted
       → (three-of : SheetCounts) → counts_words three-of ≡ three counted.ticked counted.missing
-      → (first : SeasonGap) → ((further : List ℕ) → or_further first further ≡ or_further gap (gap_in k (or_else counted.gap []) further))
+      → (first : Option SeasonGap) → ((further : List ℕ) → or_further first further ≡ or_further gap (gap_in k (or_else counted.gap []) further))
       → SeasonTo s n (set sheets k three-of) (ticked + counted.ticked) (missing + counted.missing) first (k + 1)
   unfolding in_all season_gap_from each_sheet sheets_words
   season-more k l m h counted c three-of w first g =
@@ -110,8 +107,8 @@ module _ (s : List ℕ) (n : ℕ) (sheets : List SheetCounts) (ticked missing : 
       let inside : k < length sheets = omega (arith, h.long) in
       let taken : sheets_words (take (k + 1) (set sheets k three-of)) ≡ sheets_words (take k sheets) ++ three (ticked_in b) (missing_in b) =
       rw (add-one k, take-suc-set sheets k three-of inside, words_append (take k sheets) (three-of ∷ []), w, c.ticked-is, c.missing-is) in
-      let zeros : get_or sheets k nothing ∷ drop (suc k) sheets ≡ nothing ∷ replicate (most_sheets - suc k) nothing =
-      sym (drop-cons sheets k nothing inside) ∙ rw one_less at h.zeros-left in
+      let zeros : get_or sheets k no_counts ∷ drop (suc k) sheets ≡ no_counts ∷ replicate (most_sheets - suc k) no_counts =
+      sym (drop-cons sheets k no_counts inside) ∙ rw one_less at h.zeros-left in
       let gaps : or_further gap (gap_in k (first_gap_from 0 b.places) (season_gap_from (suc k) rest)) ≡ season_gap_from 0 (books_to s n) = rw p at h.gap-left in
       record {
         ticked-few = omega (arith, h.ticked-few, c.ticked-few);

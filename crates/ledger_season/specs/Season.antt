@@ -1,19 +1,18 @@
 -- The season's report for the bytes of its sheets (document 02, request 13). Assumes nothing.
 -- The manual, docs/INTERFACE.md: "The season's report".
-use Rattle.std.specs.Prelude.{ℕ, ◌*◌, ◌/◌, ◌%◌, Bool, not, ◌||◌, List, [], ◌∷◌, ◌++◌, ◌≡◌, eqb, ltb, length}
+use Rattle.std.specs.Prelude.{ℕ, ◌*◌, ◌/◌, ◌%◌, Bool, not, ◌||◌, List, [], ◌∷◌, ◌++◌, ◌≡◌, eqb, ltb, length, replicate}
+use Rattle.std.specs.Prelude.{Result, Ok, Err, Option, Some, None}
+use Rattle.refusals.specs.declared.Refusal.{Refusal}
 use Rattle.refusals.specs.Judge.{Rule, ◌when◌, judge}
 use Rattle.refusals.specs.Table.{number_of}
 use Rattle.octets.specs.Octets.{part, all}
 use Rattle.ledger_model.specs.Book.{Book}
 use Rattle.ledger_sheet.specs.Sheet.{sheet_size, right}
-use Rattle.ledger_sheet.specs.declared.Answer.{Answer}
-use Rattle.ledger_sheet.specs.declared.Answer.TheVariants as A
 use Rattle.octets.specs.Lists.{table}
 use Rattle.ledger_layout.specs.Layout.{book_of}
 use Rattle.ledger_season.specs.Report.{most_sheets, report, key_in_two}
 use Rattle.ledger_season.specs.declared.SheetCounts.{SheetCounts}
 use Rattle.ledger_season.specs.declared.SeasonGap.{SeasonGap}
-use Rattle.ledger_season.specs.declared.SeasonGap.TheVariants as G
 use Rattle.ledger_season.specs.declared.SeasonReport.{SeasonReport}
 
 -- ---- the sheets in a slice
@@ -49,9 +48,9 @@ season s = judge (λ number. number ∷ report []) (season_rules s) (0 ∷ repor
 
 -- ---- the words of each case of the answer
 
-abbrev pub answer_number : Answer → ℕ
-answer_number A.Done = 0
-answer_number (A.Refused r) = number_of r
+abbrev pub answer_number : Result SeasonReport Refusal → ℕ
+answer_number (Ok report) = 0
+answer_number (Err r) = number_of r
 
 abbrev pub counts_words : SheetCounts → List ℕ
 counts_words c = c.ticked ∷ c.missing ∷ c.per_million ∷ []
@@ -61,17 +60,31 @@ sheets_words [] = []
 sheets_words (c ∷ cs) = counts_words c ++ sheets_words cs
 
 -- The words of the gap; if there is none, `further`. An answer has no gap further on, so no gap adds no word.
-abbrev pub or_further : SeasonGap → List ℕ → List ℕ
-or_further G.Nothing further = further
-or_further (G.Gap sheet row number) further = sheet ∷ row ∷ number ∷ []
+abbrev pub or_further : Option SeasonGap → List ℕ → List ℕ
+or_further None further = further
+or_further (Some g) further = g.sheet ∷ g.row ∷ g.number ∷ []
 
-abbrev pub report_words : SeasonReport → List ℕ
-report_words r = answer_number r.answer ∷ r.count ∷ sheets_words r.sheets ++ counts_words r.total ++ or_further r.gap []
+-- The report of a refused season is that of no sheet: zeros, and no gap.
+abbrev pub no_counts : SheetCounts
+no_counts = record { ticked = 0; missing = 0; per_million = 0 }
 
--- The answer r has these words, and 16 entries for sheets, as its type says.
-abbrev pub Answers : List ℕ → SeasonReport → Type 0
-Answers words r = ◌≡◌ {A = ℕ × List ℕ} (length r.sheets, report_words r) (most_sheets, words)
+abbrev pub no_report : SeasonReport
+no_report = record { count = 0; sheets = replicate most_sheets no_counts; total = no_counts; gap = None }
+
+-- The report that an answer gives.
+abbrev pub report_of : Result SeasonReport Refusal → SeasonReport
+report_of (Ok report) = report
+report_of (Err r) = no_report
+
+abbrev pub report_words : Result SeasonReport Refusal → List ℕ
+report_words a =
+    let r = report_of a in
+    answer_number a ∷ r.count ∷ sheets_words r.sheets ++ counts_words r.total ++ or_further r.gap []
+
+-- The answer has these words, and 16 entries for sheets, as its type says.
+abbrev pub Answers : List ℕ → Result SeasonReport Refusal → Type 0
+Answers words a = ◌≡◌ {A = ℕ × List ℕ} (length (report_of a).sheets, report_words a) (most_sheets, words)
 
 -- Different answers have different words.
 abbrev pub DifferentSeasons : Type 0
-DifferentSeasons = (words : List ℕ) (a b : SeasonReport) → Answers words a → Answers words b → a ≡ b
+DifferentSeasons = (words : List ℕ) (a b : Result SeasonReport Refusal) → Answers words a → Answers words b → a ≡ b

@@ -3,19 +3,18 @@
 
 #![tactic(auto)]
 
-ghost use Rattle.std.specs.Prelude.{◌≡◌, List, ◌∷◌, [], ℕ, ◌+◌, ◌*◌, ◌≤◌, ◌<◌, length};
+ghost use Rattle.std.specs.Prelude.{◌≡◌, List, ◌∷◌, [], ℕ, ◌+◌, ◌*◌, ◌≤◌, ◌<◌, length, Ok};
 ghost use Rattle.refusals.specs.Judge.{verdict};
-ghost use Rattle.refusals.specs.Table.{number_of};
 ghost use Rattle.ledger_model.specs.Positions.{row_length};
 ghost use Rattle.ledger_sheet.specs.Sheet.{sheet_size, row_count};
 ghost use Rattle.ledger_sheet.specs.Words.{answer_words};
 ghost use Rattle.ledger_layout.specs.Layout.{book_of, place_in};
 ghost use Rattle.ledger_season.specs.Report.{most_sheets, per_million, three, gap_in, report};
-ghost use Rattle.ledger_season.specs.Season.{counts_words, or_further, right_to, books_to, season_rules, season, Answers};
-ghost use Rattle.ledger_season.specs.inner.Gathered.{most_keys, most_slots, distinct, is_new, are_new, keys_of_all, Keyed, or_else, Counts, Adds};
+ghost use Rattle.ledger_season.specs.Season.{counts_words, or_further, sheet_at, right_to, books_to, season_rules, season, Answers};
+ghost use Rattle.ledger_season.specs.inner.Gathered.{most_keys, most_slots, distinct, are_new, keys_of_all, Keyed, or_else, Counts, Adds};
 
 use ledger_sheet as sheet;
-use ledger_sheet::{Answer, ReportAnswer, right};
+use ledger_sheet::{Gap, right};
 use refusals::Refusal;
 
 pub const MOST_SHEETS: usize = 16;
@@ -44,78 +43,71 @@ pub struct SheetCounts {
 
 // The first gap of the season: the sheet, its row, and the missing number.
 #[derive(Clone, Copy)]
-pub enum SeasonGap {
-    Nothing,
-    Gap { sheet: u32, row: u32, number: u32 },
+pub struct SeasonGap {
+    pub sheet: u32,
+    pub row: u32,
+    pub number: u32,
 }
 
-// The answer of a season: how many sheets; the counts of each, zeros past the last; the counts in all; the first gap. A refused season has no sheet.
+// The report of a season: how many sheets; the counts of each, zeros past the last; the counts in all; the first gap, if something is missing.
 #[derive(Clone, Copy)]
 pub struct SeasonReport {
-    pub answer: Answer,
     pub count: u32,
     pub sheets: [SheetCounts; MOST_SHEETS],
     pub total: SheetCounts,
-    pub gap: SeasonGap,
+    pub gap: Option<SeasonGap>,
 }
 
-// The first gap of a sheet.
-#[derive(Clone, Copy)]
-enum RowGap {
-    Nothing,
-    Gap { number: u32, row: u32 },
-}
-
-// The counts of a sheet's rows.
+// The counts of a sheet's rows, and its first gap, if something is missing.
 #[derive(Clone, Copy)]
 struct Counted {
     ticked: u32,
     missing: u32,
-    gap: RowGap,
+    gap: Option<Gap>,
 }
 
 // Reports on the season whose sheets stand one after another in the slice.
-pub fn season(s: &[u8]) -> SeasonReport
+pub fn season(s: &[u8]) -> Result<SeasonReport, Refusal>
     ensures { Answers (season s.now) result }
 {
-    let verdict = season_verdict(s);
-    if let Answer::Refused(why) = verdict {
-        return refused(why);
-    }
-    count_season(s, s.len() / sheet::SHEET)
+    season_verdict(s)?;
+    Ok(count_season(s, s.len() / sheet::SHEET))
 }
 
 // ---- the refusals of a season
 
-fn season_verdict(s: &[u8]) -> Answer
+fn season_verdict(s: &[u8]) -> Result<(), Refusal>
     ensures { answer_words result ≡ verdict (season_rules s.now) ∷ [] }
 {
     let sheets = s.len() / sheet::SHEET;
     if (s.len() % sheet::SHEET != 0) | (sheets > MOST_SHEETS) {
-        return Answer::Refused(Refusal::SeasonLength);
+        return Err(Refusal::SeasonLength);
     }
     if !are_sheets(s, sheets) {
-        return Answer::Refused(Refusal::NotSheet);
+        return Err(Refusal::NotSheet);
     }
     if !are_keys_new(s, sheets) {
-        return Answer::Refused(Refusal::KeyInTwoSheets);
+        return Err(Refusal::KeyInTwoSheets);
     }
-    Answer::Done
+    Ok(())
 }
 
 // Whether each of n sheets is right.
+// Said in each, since a season is one lent slice whose length tells n: a type for both would be built once and taken apart at each sheet.
 fn are_sheets(s: &[u8], n: usize) -> bool
     requires { (n ≤ most_sheets) × (sheet_size * n ≤ length s.now) }
     ensures { result ≡ right_to s.now n }
 {
-    for k in 0..n {
-        let a = sheet::SHEET * k;
-        let e = a + sheet::SHEET;
-        if !right::is_sheet(&s[a..e]) {
-            return false;
-        }
-    }
-    true
+    (0..n).all(|k| right::is_sheet(sheet_of(s, k)))
+}
+
+// The bytes of sheet k.
+fn sheet_of(s: &[u8], k: usize) -> &[u8]
+    requires { (k < most_sheets) × (sheet_size * k + sheet_size ≤ length s.now) }
+    ensures { result.now ≡ sheet_at s.now k }
+{
+    let a = sheet::SHEET * k;
+    &s[a..a + sheet::SHEET]
 }
 
 // Whether no key is twice in n sheets.
@@ -123,22 +115,24 @@ fn are_keys_new(s: &[u8], n: usize) -> bool
     requires { (n ≤ most_sheets) × (sheet_size * n ≤ length s.now) }
     ensures { result ≡ distinct (keys_of_all (books_to s.now n)) }
 {
+    // A fixed array, since the library allocates nothing: 16 sheets have at most 512 keys.
     let mut keys = [0u64; MOST_KEYS];
     let mut found = 0;
+    // By index, since a sheet is a part of one slice, which its number cuts out.
     for k in 0..n {
-        let a = sheet::SHEET * k;
-        let e = a + sheet::SHEET;
-        found = read_keys(&s[a..e], &mut keys, found);
+        found = read_keys(sheet_of(s, k), &mut keys, found);
     }
-    are_new(&keys, found)
+    are_new(&keys[..found])
 }
 
 // Puts the keys of a sheet's used rows behind those found before. Gives how many there are now.
+// Said in each, since a sheet is a part of the lent slice: as an array it would have to be tested again, although its length follows from the cut.
 fn read_keys(s: &[u8], keys: &mut [u64; MOST_KEYS], found: usize) -> usize
     requires { (length s.now ≡ sheet_size) × (length keys.old ≡ most_keys) × (found + row_count ≤ most_keys) }
     ensures { Keyed keys.old found (book_of s.now).places keys.new result }
 {
     let mut count = found;
+    // By index, since a row is read by its number and at the offset that comes from it.
     for i in 0..sheet::ROWS {
         if right::is_used(s, i) {
             keys[count] = right::key_at(s, sheet::row_at(i));
@@ -148,41 +142,37 @@ fn read_keys(s: &[u8], keys: &mut [u64; MOST_KEYS], found: usize) -> usize
     count
 }
 
-// Whether the first n keys are different.
-fn are_new(keys: &[u64; MOST_KEYS], n: usize) -> bool
-    requires { n ≤ most_keys }
-    ensures { result ≡ are_new keys.now n }
+// Whether the keys are different.
+fn are_new(keys: &[u64]) -> bool
+    ensures { result ≡ are_new keys.now (length keys.now) }
 {
-    if few_share(keys, n, SLOTS as u64) {
-        return are_new_in(keys, n, SLOTS as u64);
+    if few_share(keys, SLOTS as u64) {
+        return are_new_in(keys, SLOTS as u64);
     }
-    are_new_in(keys, n, other_slots(keys, n))
+    are_new_in(keys, other_slots(keys))
 }
 
-// The first of the primes for which few of the first n keys share a slot. Somebody could pick keys that all share a slot modulo the first prime, but
-// hardly keys that do so modulo each.
-fn other_slots(keys: &[u64; MOST_KEYS], n: usize) -> u64
-    requires { n ≤ most_keys }
+// The first of the primes for which few of the keys share a slot. Somebody could pick keys that all share a slot modulo the first prime, but hardly
+// keys that do so modulo each.
+fn other_slots(keys: &[u64]) -> u64
     ensures { (0 < result) × (result ≤ most_slots) }
 {
-    let primes = PRIMES;
-    for i in 0..primes.len() {
-        let slots = primes[i];
-        if few_share(keys, n, slots) {
+    for slots in PRIMES {
+        if few_share(keys, slots) {
             return slots;
         }
     }
     SLOTS as u64
 }
 
-// Whether few of the first n keys fall into a slot that an earlier key has.
-fn few_share(keys: &[u64; MOST_KEYS], n: usize, slots: u64) -> bool
-    requires { (n ≤ most_keys) × (0 < slots) × (slots ≤ most_slots) }
+// Whether few of the keys fall into a slot that an earlier key has.
+fn few_share(keys: &[u64], slots: u64) -> bool
+    requires { (0 < slots) × (slots ≤ most_slots) }
 {
     let mut taken = [false; SLOTS];
     let mut shared = 0;
-    for i in 0..n {
-        let slot = (keys[i] % slots) as usize;
+    for key in keys {
+        let slot = (*key % slots) as usize;
         if taken[slot] {
             shared += 1;
         }
@@ -191,17 +181,16 @@ fn few_share(keys: &[u64; MOST_KEYS], n: usize, slots: u64) -> bool
     shared <= FEW
 }
 
-// Whether the first n keys are all different. A key in a slot that no key had before is new; any other is compared with each before it.
-fn are_new_in(keys: &[u64; MOST_KEYS], n: usize, slots: u64) -> bool
-    requires { (n ≤ most_keys) × (0 < slots) × (slots ≤ most_slots) }
-    ensures { result ≡ are_new keys.now n }
+// Whether the keys are all different. A key in a slot that no key had before is new; any other is compared with each before it.
+fn are_new_in(keys: &[u64], slots: u64) -> bool
+    requires { (0 < slots) × (slots ≤ most_slots) }
+    ensures { result ≡ are_new keys.now (length keys.now) }
 {
     let mut taken = [false; SLOTS];
-    for i in 0..n {
-        let key = keys[i];
-        let slot = (key % slots) as usize;
+    for (i, key) in keys.iter().enumerate() {
+        let slot = (*key % slots) as usize;
         if taken[slot] {
-            if !is_new(keys, i, key) {
+            if keys[..i].contains(key) {
                 return false;
             }
         }
@@ -210,42 +199,12 @@ fn are_new_in(keys: &[u64; MOST_KEYS], n: usize, slots: u64) -> bool
     true
 }
 
-// Whether the key is none of the first n.
-fn is_new(keys: &[u64; MOST_KEYS], n: usize, key: u64) -> bool
-    requires { n ≤ most_keys }
-    ensures { result ≡ is_new keys.now n key }
-{
-    let mut new = true;
-    for j in 0..n {
-        new &= keys[j] != key;
-    }
-    new
-}
-
 // ---- the counts
-
-// The answer of a refused season.
-fn refused(why: Refusal) -> SeasonReport
-    ensures { Answers (number_of why ∷ report []) result }
-{
-    let nothing = SheetCounts {
-        ticked: 0,
-        missing: 0,
-        per_million: 0,
-    };
-    SeasonReport {
-        answer: Answer::Refused(why),
-        count: 0,
-        sheets: [nothing; MOST_SHEETS],
-        total: nothing,
-        gap: SeasonGap::Nothing,
-    }
-}
 
 // Counts n right sheets.
 fn count_season(s: &[u8], n: usize) -> SeasonReport
     requires { (n ≤ most_sheets) × (sheet_size * n ≤ length s.now) }
-    ensures { Answers (0 ∷ report (books_to s.now n)) result }
+    ensures { Answers (0 ∷ report (books_to s.now n)) (Ok result) }
 {
     let nothing = SheetCounts {
         ticked: 0,
@@ -255,11 +214,10 @@ fn count_season(s: &[u8], n: usize) -> SeasonReport
     let mut sheets = [nothing; MOST_SHEETS];
     let mut ticked: u32 = 0;
     let mut missing: u32 = 0;
-    let mut gap = SeasonGap::Nothing;
+    let mut gap = None;
+    // By index, since k is the sheet's number in the report, and the place of its counts.
     for k in 0..n {
-        let a = sheet::SHEET * k;
-        let e = a + sheet::SHEET;
-        let counted = count_sheet(&s[a..e]);
+        let counted = count_sheet(sheet_of(s, k));
         sheets[k] = with_rate(counted.ticked, counted.missing);
         ticked += counted.ticked;
         missing += counted.missing;
@@ -268,7 +226,6 @@ fn count_season(s: &[u8], n: usize) -> SeasonReport
     }
     let total = with_rate(ticked, missing);
     SeasonReport {
-        answer: Answer::Done,
         count: n as u32,
         sheets,
         total,
@@ -284,8 +241,9 @@ fn count_sheet(s: &[u8]) -> Counted
     let mut sum = Counted {
         ticked: 0,
         missing: 0,
-        gap: RowGap::Nothing,
+        gap: None,
     };
+    // By index, since a row's number goes into its gap, and its offset comes from it.
     for row in 0..sheet::ROWS {
         sum = add_row(s, row, sum);
     }
@@ -300,55 +258,30 @@ fn add_row(s: &[u8], row: usize, sum: Counted) -> Counted
     if !right::is_used(s, row) {
         return sum;
     }
-    let gap = sum.gap;
     let report = ledger_counts::row_report(s, row);
-    match report {
-        ReportAnswer::Whole { ticked } => Counted {
-            ticked: sum.ticked + ticked,
-            missing: sum.missing,
-            gap,
-        },
-        ReportAnswer::Gaps {
+    let ticked = sum.ticked + report.ticked;
+    match report.gaps {
+        None => Counted { ticked, ..sum },
+        Some(gaps) => Counted {
             ticked,
-            missing,
-            lowest,
-        } => Counted {
-            ticked: sum.ticked + ticked,
-            missing: sum.missing + missing,
-            gap: first_in(gap, lowest, row as u32),
+            missing: sum.missing + gaps.missing,
+            gap: sum.gap.or(Some(Gap {
+                number: gaps.lowest,
+                row: row as u32,
+            })),
         },
-        ReportAnswer::Refused(_) => sum,
-    }
-}
-
-// The gap found before; if there is none, this one.
-fn first_in(gap: RowGap, number: u32, row: u32) -> RowGap
-    ensures { (further : List ℕ) → or_else result further ≡ or_else gap (number ∷ row ∷ []) }
-{
-    match gap {
-        RowGap::Nothing => RowGap::Gap { number, row },
-        RowGap::Gap { number, row } => RowGap::Gap { number, row },
     }
 }
 
 // The gap found before; if there is none, this sheet's.
-fn first_of(gap: SeasonGap, sheet: u32, found: RowGap) -> SeasonGap
+fn first_of(gap: Option<SeasonGap>, sheet: u32, found: Option<Gap>) -> Option<SeasonGap>
     ensures { (further : List ℕ) → or_further result further ≡ or_further gap (gap_in sheet (or_else found []) further) }
 {
-    match gap {
-        SeasonGap::Nothing => in_sheet(sheet, found),
-        SeasonGap::Gap { sheet, row, number } => SeasonGap::Gap { sheet, row, number },
-    }
-}
-
-// The gap of a sheet as a gap of the season.
-fn in_sheet(sheet: u32, found: RowGap) -> SeasonGap
-    ensures { (further : List ℕ) → or_further result further ≡ gap_in sheet (or_else found []) further }
-{
-    match found {
-        RowGap::Nothing => SeasonGap::Nothing,
-        RowGap::Gap { number, row } => SeasonGap::Gap { sheet, row, number },
-    }
+    gap.or(found.map(|g| SeasonGap {
+        sheet,
+        row: g.row,
+        number: g.number,
+    }))
 }
 
 // The counts with the missing per million.

@@ -8,8 +8,6 @@ pub mod right;
 ghost use Rattle.std.specs.Prelude.{◌≡◌, ◌≤◌, ◌<◌};
 ghost use Rattle.ledger_sheet.specs.Sheet.{row_count, desk_count, row_at, desk_at};
 
-use refusals::Refusal;
-
 // A row: used flag, key, first number, ticks. There are 32, the first at offset 24.
 pub const USED_WORD: usize = 4;
 
@@ -98,60 +96,45 @@ pub struct Row {
     pub ticks: [u8; TICKS],
 }
 
-// The answer of a call that gives no values.
+// A row report: how many positions are ticked; and what is missing, if anything is.
 #[derive(Clone, Copy)]
-pub enum Answer {
-    Done,
-    Refused(Refusal),
+pub struct Report {
+    pub ticked: u32,
+    pub gaps: Option<Gaps>,
 }
 
-// The answer of enrol and find.
+// How many positions of a row are missing, and the number at the lowest of them.
 #[derive(Clone, Copy)]
-pub enum RowAnswer {
-    Row(u32),
-    Refused(Refusal),
+pub struct Gaps {
+    pub missing: u32,
+    pub lowest: u32,
 }
 
-// The answer of a row report: how many positions are ticked, how many are missing, and the number at the lowest missing position.
+// The stream of a row: its key, and the row's first number.
 #[derive(Clone, Copy)]
-pub enum ReportAnswer {
-    Whole {
-        ticked: u32,
-    },
-    Gaps {
-        ticked: u32,
-        missing: u32,
-        lowest: u32,
-    },
-    Refused(Refusal),
+pub struct Stream {
+    pub key: u64,
+    pub first: u32,
 }
 
-// The answer of `row`: the key of its stream, and its first number.
+// What a desk works on: its row, and whether a save would be stale now.
+// A flag, since it is the answer to a question that has two, and the row is there in either case.
 #[derive(Clone, Copy)]
-pub enum StreamAnswer {
-    Stream { key: u64, first: u32 },
-    Refused(Refusal),
+pub struct Working {
+    pub row: u32,
+    pub stale: bool,
 }
 
-// The answer of `desk`: it is closed; or its row, and whether a save would be stale now.
+// How many ticks and unticks a desk has not saved.
 #[derive(Clone, Copy)]
-pub enum DeskAnswer {
-    Closed,
-    Working { row: u32, stale: bool },
-    Refused(Refusal),
+pub struct Unsaved {
+    pub ticks: u32,
+    pub unticks: u32,
 }
 
-// The answer of `unsaved`: how many ticks and unticks a desk has not saved.
+// A gap: a missing number and its row.
 #[derive(Clone, Copy)]
-pub enum UnsavedAnswer {
-    Unsaved { ticks: u32, unticks: u32 },
-    Refused(Refusal),
-}
-
-// The answer of first gap: the first missing number and its row.
-#[derive(Clone, Copy)]
-pub enum GapAnswer {
-    Nothing,
-    Gap { number: u32, row: u32 },
-    Refused(Refusal),
+pub struct Gap {
+    pub number: u32,
+    pub row: u32,
 }

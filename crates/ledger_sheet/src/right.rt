@@ -1,11 +1,11 @@
-// Whether a slice is a right sheet. Every call tests the whole sheet, so the loops over bytes and keys have no early exit and LLVM vectorizes them.
-ghost use Rattle.std.specs.Prelude.{◌≡◌, not, ◌&&◌, ◌+◌, ◌≤◌, ◌<◌, eqb, length, get_or};
+// Whether a slice is a right sheet. Every call tests the whole sheet, so the loops over bytes have no early exit and LLVM vectorizes them.
+ghost use Rattle.std.specs.Prelude.{◌≡◌, true, not, ◌&&◌, ◌+◌, ◌≤◌, ◌<◌, eqb, length, get_or};
 ghost use Rattle.octets.specs.Octets.{all};
 ghost use Rattle.keys.specs.Key.{valid_key};
 ghost use Rattle.keys.specs.Numbers.{is_number};
 ghost use Rattle.ledger_sheet.specs.Sheet.{sheet_size, row_size, row_count, desk_count, used, is_used, is_row};
 ghost use Rattle.ledger_sheet.specs.Sheet.{key_at, first_number_at, desk_byte, header_right, desk_right, right};
-ghost use Rattle.ledger_sheet.specs.inner.Judging.{rows_right, Zeros, Marked};
+ghost use Rattle.ledger_sheet.specs.inner.Judging.{rows_right, Zeros, RowsEnd, Marked};
 
 use crate as sheet;
 use octets::numbers;
@@ -18,28 +18,22 @@ const MARKED: u8 = 1;
 // A desk's copy has these bytes of its row: all before the ticks.
 const CARRIED: usize = sheet::TICKS_AT;
 
-// What the tests so far found, and the index from which bytes are still to be tested for zero.
-#[derive(Clone, Copy)]
-struct RowsFound {
-    right: bool,
-    zeros: usize,
-}
-
 pub fn is_sheet(s: &[u8]) -> bool
     ensures { result ≡ right s.now }
 {
-    if s.len() != sheet::SHEET {
+    let Ok(s) = <&[u8; sheet::SHEET]>::try_from(s) else {
         return false;
-    }
+    };
     if !is_header(s) {
         return false;
     }
-    let judged = are_rows(s);
-    are_desks(s, judged)
+    let Some(zeros) = rows_end(s) else {
+        return false;
+    };
+    are_desks(s, zeros)
 }
 
-fn is_header(s: &[u8]) -> bool
-    requires { length s.now ≡ sheet_size }
+fn is_header(s: &[u8; sheet::SHEET]) -> bool
     ensures { result ≡ header_right s.now }
 {
     let size = numbers::read_be(s, sheet::LENGTH_AT, sheet::NUMBER) == sheet::SHEET as u64;
@@ -53,6 +47,7 @@ fn is_header(s: &[u8]) -> bool
 }
 
 // How many rows are used.
+// Said in each, since who reads a sheet that a caller lends calls these three with a slice, and would have to make it an array first.
 pub fn rows_used(s: &[u8]) -> usize
     requires { length s.now ≡ sheet_size }
     ensures { result ≡ used s.now }
@@ -96,18 +91,20 @@ pub fn first_at(s: &[u8], a: usize) -> u32
 }
 
 // Tests rows until it has found as many used ones as the header counts. Used rows must have valid keys, all different, and first numbers of their
-// streams; free rows must be zero. All rows behind these must be free: they and the closed desks behind them are tested as one range of zeros.
-fn are_rows(s: &[u8]) -> RowsFound
-    requires { length s.now ≡ sheet_size }
-    ensures { Zeros s.now result.right result.zeros }
+// streams; free rows must be zero. All rows behind these must be free: they and the closed desks behind them are tested as one range of zeros. Gives
+// the index where that range begins, or none if a row is wrong.
+fn rows_end(s: &[u8; sheet::SHEET]) -> Option<usize>
+    ensures { RowsEnd s.now result }
 {
     let used = rows_used(s);
+    // A fixed array, since the library allocates nothing: a sheet has at most 32 keys.
     let mut keys = [0u64; sheet::ROWS];
     let mut marks = [0u8; MARKS];
     let mut found = 0;
     let mut right = true;
-    let mut i = 0;
-    while i < sheet::ROWS {
+    let mut zeros = sheet::ROWS_AT;
+    // By index, since a row is read by its offset, from which the zeros begin, too.
+    for i in 0..sheet::ROWS {
         if found == used {
             break;
         }
@@ -115,19 +112,19 @@ fn are_rows(s: &[u8]) -> RowsFound
         if is_used(s, i) {
             let key = key_at(s, row);
             right &= is_stream(key, first_at(s, row));
-            right &= is_new(&keys, &marks, found, key);
+            right &= is_new(&keys[..found], &marks, key);
             keys[found] = key;
             marks[(key % MARKS as u64) as usize] = MARKED;
             found += 1;
         } else {
             right &= octets::is_zero(s, row, sheet::ROW);
         }
-        i += 1;
+        zeros = row + sheet::ROW;
     }
-    RowsFound {
-        right: right & (found == used),
-        zeros: sheet::row_at(i),
+    if right & (found == used) {
+        return Some(zeros);
     }
+    None
 }
 
 // Whether the key is valid and its stream's records can have the number.
@@ -137,37 +134,25 @@ fn is_stream(key: u64, first: u32) -> bool
     keys::valid(key) & keys::is_number(key, first)
 }
 
-// Whether the key is none of the first n, which have set their marks.
-fn is_new(keys: &[u64; sheet::ROWS], marks: &[u8; MARKS], n: usize, key: u64) -> bool
-    requires { (n ≤ row_count) × Marked keys.now marks.now n }
-    ensures { result ≡ all n (λ j. not (eqb (get_or keys.now j 0) key)) }
+// Whether the key is none of these, which have set their marks.
+fn is_new(keys: &[u64], marks: &[u8; MARKS], key: u64) -> bool
+    requires { Marked keys.now marks.now (length keys.now) }
+    ensures { result ≡ all (length keys.now) (λ j. not (eqb (get_or keys.now j 0) key)) }
 {
     if marks[(key % MARKS as u64) as usize] != MARKED {
         return true;
     }
-    is_other(keys, n, key)
-}
-
-// The same, by comparing the key with each of them. (Public because `ledger_convert` calls it.)
-pub fn is_other(keys: &[u64; sheet::ROWS], n: usize, key: u64) -> bool
-    requires { n ≤ row_count }
-    ensures { result ≡ all n (λ j. not (eqb (get_or keys.now j 0) key)) }
-{
-    let mut other = true;
-    for j in 0..n {
-        other &= keys[j] != key;
-    }
-    other
+    !keys.contains(&key)
 }
 
 // Tests each open desk, and that the bytes between open desks and up to the sheet's end are zero.
-fn are_desks(s: &[u8], judged: RowsFound) -> bool
-    requires whole { length s.now ≡ sheet_size }
-    requires zeros { Zeros s.now judged.right judged.zeros }
+fn are_desks(s: &[u8; sheet::SHEET], rows_end: usize) -> bool
+    requires { Zeros s.now true rows_end }
     ensures { result ≡ (rows_right s.now && all desk_count (desk_right s.now)) }
 {
-    let mut right = judged.right;
-    let mut zeros = judged.zeros;
+    let mut right = true;
+    let mut zeros = rows_end;
+    // By index, since each turn reads at three places of one slice: the desk, the zeros before it, and the row that it names.
     for d in 0..sheet::DESKS {
         let desk = sheet::desk_at(d);
         if s[desk] != sheet::CLOSED {
@@ -180,9 +165,8 @@ fn are_desks(s: &[u8], judged: RowsFound) -> bool
 }
 
 // Whether an open desk is right: its first byte is 1, its two zeros are zero, its row is used, and both copies have that row's used flag, key and first number.
-fn is_open_desk(s: &[u8], d: usize) -> bool
-    requires whole { length s.now ≡ sheet_size }
-    requires is_open { (d < desk_count) × (desk_byte s.now d ≡ 0 → ⊥) }
+fn is_open_desk(s: &[u8; sheet::SHEET], d: usize) -> bool
+    requires { (d < desk_count) × (desk_byte s.now d ≡ 0 → ⊥) }
     ensures { result ≡ desk_right s.now d }
 {
     let a = sheet::desk_at(d);

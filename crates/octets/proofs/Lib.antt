@@ -2,4 +2,3 @@ pub mod Laws
 pub mod Parts
 pub mod Puts
 pub mod Lists
-pub mod Swapped

@@ -1,6 +1,6 @@
 -- Numbers read where they were written; and parts of a list of bytes: joined, zero, equal. Each law is stated once for any width.
 -- Assumes nothing.
-use Prim.Native.Nat.{ℕ, zero, suc, ◌+◌, ◌*◌, ◌/◌, ◌%◌, ◌^◌, ◌<◌, ◌≤◌}
+use Prim.Native.Nat.{ℕ, zero, suc, ◌+◌, ◌-◌, ◌*◌, ◌/◌, ◌%◌, ◌^◌, ◌<◌, ◌≤◌}
 use native.Mathlib.Nat.{zero-add, pow-suc, div-add-mod', div-lt_iff_lt-mul}
 use native.Mathlib.Omega.{arith}
 use mathlib.Core.Bool.{true}
@@ -108,3 +108,16 @@ pub part_same : (s : List ℕ) (a : ℕ) (t : List ℕ) (b n : ℕ) → part s a
 unfolding same_at
 part_same s a t b n e =
     all-each n _ (λ i l. eq-eqb _ _ (sym (part_at s a n i l) ∙ ap (λ (x : List ℕ). get_or x i 0) e ∙ part_at t b n i l))
+
+-- ---- the part that a slice `s[a..a + n]` lends
+
+pub lent : (a n : ℕ) (s : List ℕ) → take (a + n - a) (drop a s) ≡ part s a n
+unfolding part
+lent a n s = let e : a + n - a ≡ n = omega arith in rw e refl
+
+pub length-lent : (s : List ℕ) (a n : ℕ) → a + n ≤ length s → length (take (a + n - a) (drop a s)) ≡ n
+length-lent s a n h = rw lent (length_part s a n h)
+
+pub lent_at : (s : List ℕ) (a n i : ℕ) → a + n ≤ length s → i < length (take (a + n - a) (drop a s))
+    → get_or (take (a + n - a) (drop a s)) i 0 ≡ get_or s (a + i) 0
+lent_at s a n i h l = rw lent (part_at s a n i (omega (arith, length-lent s a n h)))

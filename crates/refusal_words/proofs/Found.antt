@@ -2,7 +2,7 @@
 use Prim.Native.Nat.{ℕ}
 use mathlib.Core.List.{List, [], ◌∷◌}
 use mathlib.Core.Path.{◌≡◌, refl}
-use lib.ListN.{get_or, length}
+use lib.ListN.{get_or}
 use Rattle.refusals.specs.Table.{number_of}
 use Rattle.refusals.specs.declared.Refusal.{Refusal}
 use Rattle.refusals.specs.declared.Refusal.TheVariants.{
@@ -60,7 +60,6 @@ use Rattle.refusals.specs.declared.Refusal.TheVariants.{
   TextSpace,
 }
 use Rattle.refusal_words.specs.Texts.{table, text_of}
-use Rattle.refusal_words.specs.inner.Places.{all_texts}
 use Rattle.refusal_words.proofs.Same.{same, place_of}
 
 pub found : (r : Refusal) → place_of (text_of (number_of r)) table ≡ number_of r
@@ -117,11 +116,6 @@ found SettingsFull = refl
 found NoSetting = refl
 found AnswerLength = refl
 found TextSpace = refl
-
--- How many bytes all texts have.
-pub total : length all_texts ≡ 2224
-unfolding all_texts
-total = refl
 
 -- Back from the numbers: entry n is the refusal with number n; where no refusal has the number, the first.
 abbrev back : List Refusal

@@ -1,4 +1,4 @@
 pub mod Same
 pub mod Found
 pub mod Right
-pub mod Places
+pub mod Put

@@ -1,16 +1,14 @@
 -- A refusal's text, written for a host. Assumes nothing.
 -- The manual, docs/INTERFACE.md: "Calls from C".
-use Rattle.std.specs.Prelude.{ℕ, ◌+◌, List, [], ◌∷◌, ◌++◌, leb, length, drop}
+use Rattle.std.specs.Prelude.{ℕ, ◌+◌, List, [], ◌∷◌, ◌++◌, leb, length, drop, Result}
+use Rattle.refusals.specs.declared.Refusal.{Refusal}
 use Rattle.refusals.specs.Judge.{◌when◌, judge}
-use Rattle.refusals.specs.Table.{number_of}
+use Rattle.refusals.specs.Words.{answer_words, one_word}
 use Rattle.refusal_words.specs.Texts.{text_of}
-use Rattle.refusal_words.specs.declared.Text.{Text}
-use Rattle.refusal_words.specs.declared.Text.TheVariants.{Bytes, Refused}
 
 -- The words of the answer: 0 and how many bytes the text has, or the refusal's number.
-abbrev pub words_of : Text → List ℕ
-words_of (Bytes n) = 0 ∷ n ∷ []
-words_of (Refused r) = number_of r ∷ []
+abbrev pub words_of : Result ℕ Refusal → List ℕ
+words_of answer = answer_words one_word answer
 
 -- The text and a zero byte at the start of the slice, and then what stood there; 61 where it is too short for both, and nothing is written.
 unfoldable pub write_text : (number : ℕ) (out : List ℕ) → List ℕ × List ℕ

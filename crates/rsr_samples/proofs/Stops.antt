@@ -2,6 +2,7 @@
 use Rattle.std.proofs.Common.{◌≡◌, ℕ, ◌-◌, ◌/◌, ◌≤◌, Bool, true, false, cond, ◌&&◌, ◌||◌, eqb, leb, ◌≢◌, ◌⊎◌, List, [], ◌∷◌, ◌++◌, length, get_or, drop, ℤ}
 use Rattle.std.proofs.Common.{sym, refl, ap, ◌∙◌, inl, inr, true≢false, mul-le-mul, div-le_self, arith, length-drop, length-take, le-ltb, ne_eqb, leb-true}
 use native.Mathlib.Nat.{div-le_of_le-mul}
+use Rattle.std.specs.Prelude.{Result}
 use Rattle.laws.proofs.Bools.{and_split}
 use Rattle.refusals.specs.Judge.{Rule, ◌when◌}
 use Rattle.refusals.specs.Table.{number_of}
@@ -17,24 +18,22 @@ use Rattle.sfdu_headers.specs.Ranges.{judged_bytes}
 use Rattle.sfdu_headers.specs.RsrRecord.{only, kind_rules, rsr_rules}
 use Rattle.sfdu_headers.proofs.Rules.{first-refuses, refuse-append}
 use Rattle.sfdu_headers.proofs.RsrRules.{all-refuse}
-use Rattle.sfdu_samples.specs.declared.Answer.{Answer}
+use Rattle.sfdu.specs.declared.RecordRefusal.{RecordRefusal}
 use Rattle.sfdu_samples.specs.Packing.{per_sample_word}
 use Rattle.sfdu_samples.proofs.Unpacking.{length-unpacked}
 use Rattle.sfdu_samples.specs.Calls.{words_of, fills, size_of, rate_of, data_rules, unpack_rules, unpacking}
-use Rattle.rsr_samples.specs.declared.judging.Unpacked.{Unpacked}
-use Rattle.rsr_samples.specs.declared.judging.Unpacked.TheVariants.{Samples, Stopped}
 use Rattle.streaming.specs.Window.{window_size, stop_of}
-use Rattle.rsr_samples.specs.Judging.{most_numbers, judged_by, judging, LongEnough}
+use Rattle.rsr_samples.specs.Judging.{Unpacked, Samples, Stopped, most_numbers, judged_by, judging, LongEnough}
 use Rattle.rsr_samples.specs.Parts.{numbers_of}
 
 -- ---- an answer judged
 
-pub judged-as : (place : ℕ) (s : List ℕ) (old new : List ℤ) (a : Answer) (j : Unpacked) → (words_of a, new) ≡ unpacking s old
+pub judged-as : (place : ℕ) (s : List ℕ) (old new : List ℤ) (a : Result ℕ RecordRefusal) (j : Unpacked) → (words_of a, new) ≡ unpacking s old
     → j ≡ judged_by place s (words_of a) → (j, new) ≡ judging place s old
 unfolding judging
 judged-as place s old new a j e is = rw is (ap (λ (p : List ℕ × List ℤ). (judged_by place s p.0, p.1)) e)
 
-pub words : {p : List ℕ × List ℤ} {new : List ℤ} {a b : Answer} → a ≡ b → (words_of a, new) ≡ p → p.0 ≡ words_of b
+pub words : {p : List ℕ × List ℤ} {new : List ℤ} {a b : Result ℕ RecordRefusal} → a ≡ b → (words_of a, new) ≡ p → p.0 ≡ words_of b
 words {p} {new} {a} {b} is e = sym (ap (λ (p : List ℕ × List ℤ). p.0) e) ∙ ap words_of is
 
 pub count-judged : (place : ℕ) (s : List ℕ) (n : ℕ) → Samples n ≡ judged_by place s (0 ∷ n ∷ [])

@@ -2,15 +2,18 @@
 -- The manual, docs/INTERFACE.md: "Samples", "The listing program".
 use Rattle.std.specs.Prelude.{◌≡◌, ℕ, ◌≤◌, cond, ◌≢◌, List, length, ℤ, ◌==◌, slice_index}
 use Rattle.sfdu_samples.specs.Calls.{unpacking}
-use Rattle.streaming.specs.Window.{window_size, stop_of}
-use Rattle.rsr_samples.specs.declared.judging.Unpacked.{Unpacked}
-use Rattle.rsr_samples.specs.declared.judging.Unpacked.TheVariants.{Samples, Stopped}
+use Rattle.streaming.specs.Window.{window_size, Told, stop_of}
 
 -- The numbers that the program's list has room for.
 abbrev pub most_numbers : ℕ
 most_numbers = 524288
 
 -- ---- the record
+
+-- How many numbers are at the list's start; or what is told of the stop.
+pub data Unpacked : Type 0 where
+  Samples : ℕ → Unpacked
+  Stopped : Told → Unpacked
 
 -- The record is accepted exactly if the answer of unpack begins with 0. Behind the 0 is how many numbers there are.
 abbrev pub judged_by : (place : ℕ) (s words : List ℕ) → Unpacked

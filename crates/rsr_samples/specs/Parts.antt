@@ -1,20 +1,19 @@
 -- What the program keeps true of a record. No contract can say what the system reads or writes. These definitions say what the program does with the
 -- bytes that were read, and which calls made the text that it passed on. Assumes nothing.
 -- The manual, docs/INTERFACE.md: "Samples".
-use Rattle.std.specs.Prelude.{◌≡◌, ℕ, ◌+◌, ◌≤◌, Bool, cond, ◌≢◌, List, length, take, ℤ, ◌==◌}
+use Rattle.std.specs.Prelude.{◌≡◌, ℕ, ◌+◌, ◌≤◌, Bool, cond, ◌≢◌, List, length, take, ℤ, ◌==◌, Result}
 use Rattle.sfdu.specs.Nesting.{label_size}
 use Rattle.sfdu.specs.Read.{record_length, data_part}
 use Rattle.sfdu_samples.specs.Calls.{size_of}
 use Rattle.sfdu_samples.specs.Packing.{unpacked}
 use Rattle.rsr_samples_text.specs.Part.{Calls}
-use Rattle.streaming.specs.declared.Piece.{Piece}
-use Rattle.streaming.specs.declared.window.Stop.{Stop}
-use Rattle.streaming.specs.Said.{says_failed}
-use Rattle.rsr_samples.specs.declared.judging.Unpacked.{Unpacked}
-use Rattle.rsr_samples.specs.declared.judging.Unpacked.TheVariants as J
-use Rattle.rsr_samples.specs.declared.Step.{Step}
-use Rattle.rsr_samples.specs.declared.Step.TheVariants as S
-use Rattle.rsr_samples.specs.Judging.{judging}
+use Rattle.streaming.specs.declared.Failure.{Failure}
+use Rattle.streaming.specs.Window.{Told}
+use Rattle.streaming.specs.Failure.{says_failed, got_of}
+use Rattle.rsr_samples.specs.Judging as J
+use Rattle.rsr_samples.specs.Step.{Step}
+use Rattle.rsr_samples.specs.Step as S
+use Rattle.rsr_samples.specs.Judging.{Unpacked, judging}
 
 -- ---- read
 
@@ -43,16 +42,16 @@ step_by written place s (J.Samples n) = cond written (S.Passed (place + record_l
 step_by written place s (J.Stopped stop) = S.Stopped stop
 
 -- The step for the bytes that were read; there are none at the stream's end.
-unfoldable pub step_of : (written : Bool) → (place : ℕ) → Piece → (window : List ℕ) → List ℤ → Step
+unfoldable pub step_of : (written : Bool) → (place : ℕ) → Result ℕ Failure → (window : List ℕ) → List ℤ → Step
 step_of written place piece window old =
-    cond (says_failed piece.said) S.Unread
-    (cond (piece.got == 0) S.Ended (step_by written place (take piece.got window) (judging place (take piece.got window) old).0))
+    cond (says_failed piece) S.Unread
+    (cond ((got_of piece) == 0) S.Ended (step_by written place (take (got_of piece) window) (judging place (take (got_of piece) window) old).0))
 
 -- Only the system knows whether all text could be written. If the step passed the record, all its samples were laid out.
-pub record Takes (raw : Bool) (place : ℕ) (piece : Piece) (window : List ℕ) (old : List ℤ) (out : List ℕ) (r : Step) : Type 0 where
+pub record Takes (raw : Bool) (place : ℕ) (piece : Result ℕ Failure) (window : List ℕ) (old : List ℤ) (out : List ℕ) (r : Step) : Type 0 where
   pub written : Bool
   pub step : r ≡ step_of written place piece window old
   pub came : (next : ℕ) → r ≡ S.Passed next
-      → Came raw (numbers_of (take piece.got window)) (length (numbers_of (take piece.got window))) out
+      → Came raw (numbers_of (take (got_of piece) window)) (length (numbers_of (take (got_of piece) window))) out
   -- and it is never stopped at because the list is too short
-  pub never-35 : (stop : Stop) → r ≡ S.Stopped stop → stop.number ≢ 35
+  pub never-35 : (stop : Told) → r ≡ S.Stopped stop → stop.number ≢ 35

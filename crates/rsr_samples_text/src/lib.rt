@@ -31,20 +31,22 @@ pub fn lay_out(list: &[i32], from: usize, raw: bool, out: &mut [u8]) -> Laid
     ensures { LaysOut raw list.now from out.old out.new result }
 {
     let room = out.len() - MOST;
-    let mut i = from;
     let mut at = 0;
-    while i < list.len() {
+    // By index, since a number's place decides what stands behind it, and where the next part begins.
+    for i in from..list.len() {
         if room < at {
             return Laid { upto: i, end: at };
         }
         let z = list[i];
         at = put_number(out, at, z, i, raw);
-        i += 1;
     }
-    Laid { upto: i, end: at }
+    Laid {
+        upto: list.len(),
+        end: at,
+    }
 }
 
-// Writes number i of a list.
+// Writes number i of a list. That there is room is said in each, since `out` is lent whole and `at` is a place in it.
 fn put_number(out: &mut [u8], at: usize, z: i32, i: usize, raw: bool) -> usize
     requires { at + most_number ≤ length out.old }
     ensures puts { Puts out.old out.new at result (number_text raw i z) }

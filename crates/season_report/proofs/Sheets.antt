@@ -9,6 +9,7 @@ use borrow.Rule.Slice.PartMut.{mid_of, put_mid, same_len_mid, mid_len}
 use lib.Dec.{eqb}
 use lib.ListN.{length, get_or, take, drop, set, length-set, take-append-drop}
 use lib.Seq.{length-take-le, get_or-set_same, get_or-set_other}
+use Rattle.std.specs.Prelude.{Some, None}
 use Rattle.octets.specs.Octets.{part}
 use Rattle.octets.proofs.Laws.{all-each}
 use Rattle.octets.proofs.Parts.{part-first, part-second, part-seam}
@@ -24,13 +25,10 @@ use Rattle.ledger_season.specs.Report.{most_sheets, report, key_in_two}
 use Rattle.ledger_season.specs.Season.{sheet_at, sheet_count, books, right_to, season}
 use Rattle.season_report_text.specs.declared.Files.{Files}
 use Rattle.season_report_text.specs.inner.Room.{Named}
-use Rattle.season_report.specs.declared.files.Found.{Found}
-use Rattle.season_report.specs.Loaded.{no_sheet, as_converted, as_it_stands, placing, room_size, Loads, IsLoaded, LoadsAll}
+use Rattle.season_report.specs.inner.Places.{Places}
+use Rattle.season_report.specs.Loaded.{Found, no_sheet, as_converted, as_it_stands, placing, room_size, Loads, IsLoaded, LoadsAll}
 
 -- ---- one file
-
-pub none_found : {found : Found} → found ≡ no_sheet → found.is_sheet ≡ true → ⊥
-none_found {found} e is = false≢true (sym (ap (λ (f : Found). f.is_sheet) e) ∙ is)
 
 module _ (file slot : List ℕ) where
   pub placed-old : (o : Outcome) → length file ≡ Old.sheet_size → o ≡ convert_on file slot → as_converted o ≡ placing file slot
@@ -45,6 +43,14 @@ module _ (file slot : List ℕ) where
     pub placed-whole : length file ≡ length slot → (record { is_sheet = right file; converted = false }, file) ≡ placing file slot
     unfolding placing
     placed-whole l = rw (ne_eqb (length file) Old.sheet_size other, eq-eqb (length file) (length slot) l)
+
+  pub found-sheet : {b converted : Bool} {new : List ℕ} → (record { is_sheet = b; converted = converted }, new) ≡ placing file slot → b ≡ true
+      → Places file slot new (Some converted)
+  found-sheet e h = rw h at e
+
+  pub found-none : {b converted : Bool} {new : List ℕ} → (record { is_sheet = b; converted = converted }, new) ≡ placing file slot → b ≡ false
+      → Places file slot new None
+  found-none e h = (ap (λ (p : Found × List ℕ). p.0.is_sheet) (sym e) ∙ h, ap (λ (p : Found × List ℕ). p.1) e)
 
   Right : Found × List ℕ → Type 0
   Right p = p.0.is_sheet ≡ true → right p.1 ≡ true
@@ -133,12 +139,12 @@ pub record SoFar (count : ℕ) (names rooms sheets got : List ℕ) (files : File
 module _ {count : ℕ} {names rooms sheets got : List ℕ} {files : Files} {i : ℕ} (so_far : SoFar count names rooms sheets got files i) where
   -- no file is left
   pub all-loaded : (count ≤ most_sheets → count ≤ i)
-      → Named names files × LoadsAll count rooms sheets (record { files = files; got = got; ok = true })
+      → Named names files × LoadsAll count rooms sheets (record { files = files; got = got })
   all-loaded h = (
     so_far.named,
     record {
       each = λ j l. so_far.each j (omega (arith, so_far.counted));
-      whole = λ _ few. omega (arith, so_far.counted, so_far.most, h few);
+      whole = λ few. omega (arith, so_far.counted, so_far.most, h few);
     },
   )
 
@@ -158,10 +164,6 @@ module _ {count : ℕ} {names rooms sheets got : List ℕ} {files : Files} {i : 
           placed = rw (slot, room-kept rooms room i inside j (get_or got j 0) l (so_far.held j l)) e.placed;
           is_right = rw slot e.is_right;
         }
-
-    -- a file that is none: those before it stay
-    pub one-wrong : LoadsAll count (after_room rooms room i) (after sheets new i) (record { files = files; got = got; ok = false })
-    one-wrong = record { each = λ j l. kept j (omega (arith, so_far.counted)); whole = λ e _. absurd (false≢true e) }
 
     module _ (names' : List ℕ) (found : Found) (size n : ℕ) (slot : List ℕ) where
       abbrev more : Files

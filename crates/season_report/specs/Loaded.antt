@@ -1,7 +1,7 @@
 -- The sheets that the program loads from files. No contract can say what the system reads. These definitions name the bytes that the program holds
 -- after it read, and say what it makes from them. Assumes nothing.
 -- The manual, docs/INTERFACE.md: "The season's report".
-use Rattle.std.specs.Prelude.{ℕ, ◌+◌, ◌*◌, ◌≤◌, ◌<◌, true, false, cond, List, ◌≡◌, eqb, length, get_or, take}
+use Rattle.std.specs.Prelude.{ℕ, ◌+◌, ◌*◌, ◌≤◌, ◌<◌, Bool, true, false, cond, List, ◌≡◌, eqb, length, get_or, take}
 use Rattle.octets.specs.Octets.{part}
 use Rattle.ledger_sheet.specs.Sheet.{sheet_size, right}
 use Rattle.ledger_sheet.specs.Outcome.{Outcome}
@@ -11,9 +11,13 @@ use Rattle.ledger_season.specs.Report.{most_sheets}
 use Rattle.ledger_season.specs.Season.{sheet_at}
 use Rattle.season_report_text.specs.declared.Files.{Files}
 use Rattle.season_report.specs.declared.Loaded.{Loaded}
-use Rattle.season_report.specs.declared.files.Found.{Found}
 
 -- ---- one file, and the slot for its sheet
+
+-- What a file was: a sheet, as it is or converted, or no sheet.
+pub record Found : Type 0 where
+  pub is_sheet : Bool
+  pub converted : Bool
 
 abbrev pub no_sheet : Found
 no_sheet = record { is_sheet = false; converted = false }
@@ -50,7 +54,7 @@ pub record IsLoaded (rooms got sheets : List ℕ) (files : Files) (i : ℕ) : Ty
   pub placed : (record { is_sheet = true; converted = get_or files.converted i false }, sheet_at sheets i) ≡ placing (file_at rooms got i) slot
   pub is_right : right (sheet_at sheets i) ≡ true
 
--- Each file that was loaded is as above. If all files were sheets, `count` files were loaded.
+-- Each file that was loaded is as above, and `count` files were loaded.
 pub record LoadsAll (count : ℕ) (rooms sheets : List ℕ) (r : Loaded) : Type 0 where
   pub each : (i : ℕ) → i < r.files.count → IsLoaded rooms r.got sheets r.files i
-  pub whole : r.ok ≡ true → count ≤ most_sheets → r.files.count ≡ count
+  pub whole : count ≤ most_sheets → r.files.count ≡ count

@@ -1,19 +1,16 @@
 -- What the program says about the sheets. Assumes nothing.
-use Rattle.std.specs.Prelude.{ℕ, ◌≤◌, List, ◌≡◌, length, get_or}
+use Rattle.std.specs.Prelude.{ℕ, ◌≤◌, List, ◌≡◌, length, get_or, Result, Ok, Err}
 use Rattle.text.specs.Text.{Puts}
-use Rattle.ledger_sheet.specs.declared.Answer.TheVariants as A
+use Rattle.refusals.specs.declared.Refusal.{Refusal}
 use Rattle.ledger_season.specs.Season.{season, Answers}
 use Rattle.ledger_season.specs.declared.SeasonReport.{SeasonReport}
 use Rattle.season_report_text.specs.declared.Files.{Files}
 use Rattle.season_report_text.specs.Page.{page}
-use Rattle.season_report.specs.declared.Told.{Told}
-use Rattle.season_report.specs.declared.Told.TheVariants as T
 
 -- The season is accepted, and the page of its report is written.
 pub record Paged (names sheets : List ℕ) (files : Files) (old new : List ℕ) (end : ℕ) : Type 0 where
   pub report : SeasonReport
-  pub answers : Answers (season sheets) report
-  pub accepted : report.answer ≡ A.Done
+  pub answers : Answers (season sheets) (Ok report)
   pub puts : Puts old new 0 end (page names sheets files report)
   pub room : end ≤ length new
 
@@ -22,6 +19,6 @@ pub record Unpaged (sheets old new : List ℕ) : Type 0 where
   pub twice : get_or (season sheets) 0 0 ≡ 41
   pub kept : new ≡ old
 
-abbrev pub Tells : (names sheets : List ℕ) → Files → (old new : List ℕ) → Told → Type 0
-Tells names sheets files old new (T.Page end) = Paged names sheets files old new end
-Tells names sheets files old new T.Twice = Unpaged sheets old new
+abbrev pub Tells : (names sheets : List ℕ) → Files → (old new : List ℕ) → Result ℕ Refusal → Type 0
+Tells names sheets files old new (Ok end) = Paged names sheets files old new end
+Tells names sheets files old new (Err why) = Unpaged sheets old new

@@ -1,23 +1,17 @@
 // Loads the sheet of a file.
-ghost use Rattle.std.specs.Prelude.{◌≤◌, ◌≡◌, eqb, length, get_or};
-ghost use Rattle.ledger_sheet.specs.Words.{answer_words};
-ghost use Rattle.season_report.specs.Loaded.{no_sheet, placing, Loads};
+ghost use Rattle.std.specs.Prelude.{◌≤◌, length, IfSome};
+ghost use Rattle.season_report.specs.Loaded.{Loads};
+ghost use Rattle.season_report.specs.inner.Places.{sheet_found, Places};
 
 use ledger_convert::old;
-use ledger_sheet::{Answer, right};
+use ledger_sheet::right;
 use std::io::Read;
 
-// What a file was: a sheet, as it is or converted, or no sheet. (Public because the prover needs it.)
-#[derive(Clone, Copy)]
-pub struct Found {
-    pub is_sheet: bool,
-    pub converted: bool,
-}
-
-// What a file was, and how many of its bytes were read.
+// A file's sheet: whether it was converted, and how many bytes of the file were read.
+// A flag, since the bytes are counted of a converted sheet and of any other.
 #[derive(Clone, Copy)]
 pub struct Taken {
-    pub found: Found,
+    pub converted: bool,
     pub got: usize,
 }
 
@@ -28,24 +22,6 @@ pub struct File {
     pub size: usize,
 }
 
-fn no_sheet() -> Found
-    ensures { result ≡ no_sheet }
-{
-    Found {
-        is_sheet: false,
-        converted: false,
-    }
-}
-
-fn none_taken() -> Taken
-    ensures { result.found ≡ no_sheet }
-{
-    Taken {
-        found: no_sheet(),
-        got: 0,
-    }
-}
-
 // Reads the file that argument i names into the room, its sheet into the slot, and its name into the name's slot. If it is no sheet, says what is wrong.
 pub(crate) fn load(
     rt: &HostRuntime,
@@ -53,20 +29,14 @@ pub(crate) fn load(
     name: &mut [u8],
     room: &mut [u8],
     slot: &mut [u8],
-) -> File
-    ensures { (result.size ≤ length name.old)
-        × Loads room.new result.taken.got slot.old slot.new result.taken.found }
+) -> Option<File>
+    ensures { IfSome result (λ file. (file.size ≤ length name.old)
+        × Loads room.new file.taken.got slot.old slot.new (sheet_found file.taken.converted)) }
 {
-    let opened = arguments::open_at(rt, i, name);
+    let mut opened = arguments::open_at(rt, i, name)?;
     let size = opened.size;
-    let Some(mut file) = opened.file else {
-        return File {
-            taken: none_taken(),
-            size,
-        };
-    };
-    let taken = load_open(rt, &mut file, &name[..size], room, slot);
-    File { taken, size }
+    let taken = load_open(rt, &mut opened.file, &name[..size], room, slot)?;
+    Some(File { taken, size })
 }
 
 // The room is longer than any sheet, so that a file that fills it is no sheet.
@@ -76,50 +46,42 @@ fn load_open<R: Read>(
     name: &[u8],
     room: &mut [u8],
     slot: &mut [u8],
-) -> Taken
-    ensures { Loads room.new result.got slot.old slot.new result.found }
+) -> Option<Taken>
+    ensures { IfSome result (λ taken. Loads room.new taken.got slot.old slot.new (sheet_found taken.converted)) }
 {
-    let piece = streaming::read_full(from, room);
-    let said = piece.said;
-    if streaming::has_failed(said) {
-        streaming::tell_failed(rt, name, said);
-        return none_taken();
-    }
-    let got = piece.got;
+    let got = match streaming::read_full(from, room) {
+        Ok(got) => got,
+        Err(failure) => {
+            failure.tell(rt, name);
+            return None;
+        }
+    };
     let file = &room[..got];
-    let found = place(file, slot);
-    if !found.is_sheet {
+    let Some(converted) = place(file, slot) else {
         failures::say(rt, name);
         failures::say(rt, b": not a ledger sheet (20)\n");
-    }
-    Taken { found, got }
+        return None;
+    };
+    Some(Taken { converted, got })
 }
 
-// Puts a sheet into the slot. Converts it if it has the length of an old sheet.
-fn place(file: &[u8], slot: &mut [u8]) -> Found
-    ensures { (result, slot.new) ≡ placing file.now slot.old }
+// Puts a sheet into the slot. Converts it if it has the length of an old sheet. Gives whether it did so; none if the file is no sheet.
+fn place(file: &[u8], slot: &mut [u8]) -> Option<bool>
+    ensures { Places file.now slot.old slot.new result }
 {
     if file.len() == old::SHEET {
-        return Found {
-            is_sheet: is_done(ledger_convert::convert(file, slot)),
-            converted: true,
+        return match ledger_convert::convert(file, slot) {
+            Ok(()) => Some(true),
+            Err(_) => None,
         };
     }
     if file.len() != slot.len() {
-        return no_sheet();
+        return None;
     }
     slot.copy_from_slice(file);
-    Found {
-        is_sheet: right::is_sheet(slot),
-        converted: false,
+    let is_right = right::is_sheet(slot);
+    if !is_right {
+        return None;
     }
-}
-
-fn is_done(answer: Answer) -> bool
-    ensures { result ≡ eqb (get_or (answer_words answer) 0 0) 0 }
-{
-    match answer {
-        Answer::Done => true,
-        Answer::Refused(_) => false,
-    }
+    Some(false)
 }

@@ -1,6 +1,6 @@
 -- The text of a season's gap report (document 02, request 13). Bytes are ASCII. Assumes nothing.
 -- The manual, docs/INTERFACE.md: "The season's report".
-use Rattle.std.specs.Prelude.{ℕ, zero, suc, ◌+◌, ◌*◌, Bool, false, cond, List, [], ◌∷◌, ◌++◌, get_or}
+use Rattle.std.specs.Prelude.{ℕ, zero, suc, ◌+◌, ◌*◌, Bool, false, cond, List, [], ◌∷◌, ◌++◌, get_or, Option, Some, None}
 use Rattle.octets.specs.Octets.{part}
 use Rattle.octets.specs.Ascii.{ascii}
 use Rattle.text.specs.Text.{space, line_end, numeral}
@@ -8,7 +8,6 @@ use Rattle.ledger_sheet.specs.Sheet.{used}
 use Rattle.ledger_season.specs.Season.{sheet_at}
 use Rattle.ledger_season.specs.declared.SheetCounts.{SheetCounts}
 use Rattle.ledger_season.specs.declared.SeasonGap.{SeasonGap}
-use Rattle.ledger_season.specs.declared.SeasonGap.TheVariants as G
 use Rattle.ledger_season.specs.declared.SeasonReport.{SeasonReport}
 use Rattle.season_report_text.specs.declared.Files.{Files}
 
@@ -96,12 +95,12 @@ unfoldable pub found : (name : List ℕ) (row number : ℕ) → List ℕ
 found name row number = name ++ row_text ++ numeral row comma ++ number_text ++ numeral number line_end
 
 -- The first gap, with the sheet's file name; or none.
-unfoldable pub gap_place : (names : List ℕ) → Files → SeasonGap → List ℕ
-gap_place names files G.Nothing = none_text
-gap_place names files (G.Gap sheet row number) = found (name_of names files sheet) row number
+unfoldable pub gap_place : (names : List ℕ) → Files → Option SeasonGap → List ℕ
+gap_place names files None = none_text
+gap_place names files (Some gap) = found (name_of names files gap.sheet) gap.row gap.number
 
 -- first gap: may, row 2, number 7
-unfoldable pub gap_line : (names : List ℕ) → Files → SeasonGap → List ℕ
+unfoldable pub gap_line : (names : List ℕ) → Files → Option SeasonGap → List ℕ
 gap_line names files gap = gap_text ++ gap_place names files gap
 
 -- ---- the page: the heading, a line for each sheet, the total, the gap

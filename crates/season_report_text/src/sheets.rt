@@ -28,6 +28,7 @@ pub(crate) fn put_lines(
 {
     let mut end = at;
     let mut rows: u64 = 0;
+    // By index, since each turn reads the name, the sheet, its counts and whether it was converted, each in its own slice.
     for i in 0..files.count {
         let used = rows_of(sheets, i);
         let named = put_name(out, end, names, files, i);
@@ -67,7 +68,7 @@ pub(crate) fn put_gap(
     at: usize,
     names: &[u8],
     files: Files,
-    gap: SeasonGap,
+    gap: Option<SeasonGap>,
 ) -> usize
     requires { (at + most_gap ≤ length out.old) × Named names.now files }
     ensures puts { Puts out.old out.new at result (gap_line names.now files gap) }
@@ -78,38 +79,26 @@ pub(crate) fn put_gap(
 }
 
 // Writes where the gap is, with the sheet's name; or none.
-fn put_place(out: &mut [u8], at: usize, names: &[u8], files: Files, gap: SeasonGap) -> usize
+fn put_place(out: &mut [u8], at: usize, names: &[u8], files: Files, gap: Option<SeasonGap>) -> usize
     requires { (at + most_place ≤ length out.old) × Named names.now files }
     ensures puts { Puts out.old out.new at result (gap_place names.now files gap) }
     ensures upper_bound { result ≤ at + most_place }
 {
     match gap {
-        SeasonGap::Nothing => {
-            return text::put_text(out, at, b"none\n");
-        }
-        SeasonGap::Gap { sheet, row, number } => {
-            return put_found(out, at, names, files, sheet as usize, row, number);
-        }
+        None => text::put_text(out, at, b"none\n"),
+        Some(gap) => put_found(out, at, names, files, gap),
     }
 }
 
-// Writes the place of a gap in sheet i.
-fn put_found(
-    out: &mut [u8],
-    at: usize,
-    names: &[u8],
-    files: Files,
-    i: usize,
-    row: u32,
-    number: u32,
-) -> usize
+// Writes the place of a gap.
+fn put_found(out: &mut [u8], at: usize, names: &[u8], files: Files, gap: SeasonGap) -> usize
     requires { (at + most_place ≤ length out.old) × Named names.now files }
-    ensures puts { Puts out.old out.new at result (found (name_of names.now files i) row number) }
+    ensures puts { Puts out.old out.new at result (found (name_of names.now files gap.sheet) gap.row gap.number) }
     ensures upper_bound { result ≤ at + most_place }
 {
-    let a = put_name(out, at, names, files, i);
+    let a = put_name(out, at, names, files, gap.sheet as usize);
     let b = text::put_text(out, a, b", row ");
-    let c = text::put_numeral(out, b, row as u64, COMMA);
+    let c = text::put_numeral(out, b, gap.row as u64, COMMA);
     let d = text::put_text(out, c, b" number ");
-    text::put_numeral(out, d, number as u64, text::LINE_END)
+    text::put_numeral(out, d, gap.number as u64, text::LINE_END)
 }

@@ -13,8 +13,7 @@ use Rattle.refusals.specs.Judge.{Rule, judge}
 use Rattle.refusals.proofs.Judged as J
 use Rattle.octets.proofs.Laws.{Bytes, are-bytes}
 use Rattle.settings.specs.declared.Setting.{Setting}
-use Rattle.settings.specs.declared.Found.{Found}
-use Rattle.settings.specs.declared.Found.TheVariants.{Nothing, Latest}
+use Rattle.std.specs.Prelude.{Option, Some, None}
 use Rattle.settings.specs.Model.{places, known, is_of, holds, picked, latest, Outcome, add_rules, add, ask, WellFormed}
 use Rattle.settings.specs.Sheet.{settings_of, right}
 use Rattle.settings.specs.Layout.{layout, laid_out, on_sheet}
@@ -26,7 +25,7 @@ use Rattle.settings.proofs.Latest.{Each, latest-each}
 -- ---- on lists
 
 -- a setting that is not old enough, or of another mission, is not picked
-picked-stays : (m d : ℕ) (best : Found) (x : Setting) → (d < x.day) ⊎ (x.mission ≢ m) → picked m d best x ≡ best
+picked-stays : (m d : ℕ) (best : Option Setting) (x : Setting) → (d < x.day) ⊎ (x.mission ≢ m) → picked m d best x ≡ best
 unfolding picked
 picked-stays m d best x (inl l) = rw (lt-leb x.day d l, and-false)
 picked-stays m d best x (inr o) = rw (ne_eqb x.mission m o)
@@ -59,16 +58,16 @@ module _ (m e d f : ℕ) (xs : List Setting) where
   pub keeps : (m' d' : ℕ) → (d' < d) ⊎ (m ≢ m') → (ask m' d' (add m e d f xs).1).0 ≡ (ask m' d' xs).0
   unfolding ask
   keeps m' d' h =
-      left (λ ys. (ask m' d' ys).0 ≡ (ask m' d' xs).0) refl (λ v. rw (latest-more m' d' Nothing xs x, picked-stays m' d' (latest m' d' xs) x h))
+      left (λ ys. (ask m' d' ys).0 ≡ (ask m' d' xs).0) refl (λ v. rw (latest-more m' d' None xs x, picked-stays m' d' (latest m' d' xs) x h))
 
   -- what is found on the day of a setting that is not there is earlier
-  earlier : holds m d xs ≡ false → picked m d (latest m d xs) x ≡ Latest x
+  earlier : holds m d xs ≡ false → picked m d (latest m d xs) x ≡ Some x
   unfolding picked
-  earlier h = by (latest m d xs) (latest-each m d (λ y. is_of m d y ≡ false) Nothing xs tt (not-held m d xs h))
+  earlier h = by (latest m d xs) (latest-each m d (λ y. is_of m d y ≡ false) None xs tt (not-held m d xs h))
     where
-      by : (r : Found) → Each m d (λ y. is_of m d y ≡ false) r → picked m d r x ≡ Latest x
-      by Nothing k = rw (eq-eqb m m refl, le-leb d d (omega arith))
-      by (Latest y) k =
+      by : (r : Option Setting) → Each m d (λ y. is_of m d y ≡ false) r → picked m d r x ≡ Some x
+      by None k = rw (eq-eqb m m refl, le-leb d d (omega arith))
+      by (Some y) k =
           let old = k.0 in
           let day : eqb y.day d ≡ false = rw (eq-eqb y.mission m old.of_mission) at k.1 in
           let other = eqb-false y.day d day in
@@ -92,7 +91,7 @@ module _ (m e d f : ℕ) (xs : List Setting) where
   given a =
       let n = accepted-none a in
       let grown : add m e d f xs ≡ more = J.none-judge {B = Outcome} (λ n. (n ∷ [], xs)) rules more n in
-      rw (grown, latest-more m d Nothing xs x, earlier n.1.0)
+      rw (grown, latest-more m d None xs x, earlier n.1.0)
 
   pub add-fine : m < 256 ^ 1 → d < 256 ^ 4 → f < 256 ^ 4 → WellFormed xs → WellFormed (add m e d f xs).1
   add-fine hm hd hf ok =

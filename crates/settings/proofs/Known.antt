@@ -9,7 +9,7 @@ use Rattle.laws.proofs.Bools.{and_split}
 use Rattle.octets.specs.Lists.{table}
 use Rattle.octets.proofs.Laws.{all-at}
 use Rattle.settings.specs.declared.Setting.{Setting}
-use Rattle.settings.specs.declared.Found.TheVariants.{Nothing, Latest}
+use Rattle.std.specs.Prelude.{Some, None}
 use Rattle.settings.specs.Model.{known, latest}
 use Rattle.settings.specs.Sheet.{setting_at, settings_of, entries_right, entry_right, count, right}
 use Rattle.settings.proofs.Clauses.{right-parts}
@@ -26,7 +26,7 @@ entry_known : (s : List ℕ) → right s ≡ true → (i : ℕ) → i < count s 
 unfolding entries_right entry_right
 entry_known s r i l = (and_split (known (setting_at s i).edition) _ (all-at (count s) i _ (right-parts s r).entries l)).0
 
-pub found-known : (m d : ℕ) (s : List ℕ) (x : Setting) → right s ≡ true → latest m d (settings_of s) ≡ Latest x → known x.edition ≡ true
+pub found-known : (m d : ℕ) (s : List ℕ) (x : Setting) → right s ≡ true → latest m d (settings_of s) ≡ Some x → known x.edition ≡ true
 found-known m d s x r e =
     let each = table-each (λ y. known y.edition ≡ true) (count s) (setting_at s) (entry_known s r) in
-    (rw e at (latest-each m d (λ y. known y.edition ≡ true) Nothing (settings_of s) tt each)).1
+    (rw e at (latest-each m d (λ y. known y.edition ≡ true) None (settings_of s) tt each)).1

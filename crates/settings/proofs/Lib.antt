@@ -11,3 +11,5 @@ pub mod BothWays
 pub mod Contracts
 pub mod Examples
 pub mod Known
+pub mod Editions
+pub mod Ranges

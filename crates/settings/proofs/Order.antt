@@ -9,8 +9,7 @@ use borrow.Author.Tests.{eq-eqb, ne_eqb, not-true}
 use Rattle.laws.proofs.Bools.{and_split}
 use Rattle.refusals.specs.Judge.{judge}
 use Rattle.settings.specs.declared.Setting.{Setting}
-use Rattle.settings.specs.declared.Found.{Found}
-use Rattle.settings.specs.declared.Found.TheVariants.{Nothing, Latest}
+use Rattle.std.specs.Prelude.{Option, Some, None}
 use Rattle.settings.specs.Model.{places, is_of, holds, different, latest, found_words, add, ask, Fine, AllFine, WellFormed}
 use Rattle.settings.specs.Sheet.{settings_of}
 use Rattle.settings.specs.Claims.{Finds, SameSettings, add_each, AllThere, AnyOrder, AnyPlaces}
@@ -46,15 +45,15 @@ same-member [] e x y k _ m d = elim k [ ]
 -- ---- the same settings, the same answer
 
 module _ (m d : ℕ) (xs ys : List Setting) (differ : different xs ≡ true) (same : SameSettings xs ys) where
-  same-found : (a b : Found) → Finds m d xs a → Finds m d ys b → a ≡ b
-  same-found Nothing Nothing p q = refl
-  same-found Nothing (Latest y) p q = absurd (p y (same.back y q.there) q.old_enough)
-  same-found (Latest x) Nothing p q = absurd (q x (same.forth x p.there) p.old_enough)
-  same-found (Latest x) (Latest y) p q =
+  same-found : (a b : Option Setting) → Finds m d xs a → Finds m d ys b → a ≡ b
+  same-found None None p q = refl
+  same-found None (Some y) p q = absurd (p y (same.back y q.there) q.old_enough)
+  same-found (Some x) None p q = absurd (q x (same.forth x p.there) p.old_enough)
+  same-found (Some x) (Some y) p q =
       let late : x.day ≤ y.day = q.none_later x (same.forth x p.there) p.old_enough in
       let early : y.day ≤ x.day = p.none_later y (same.back y q.there) q.old_enough in
       let mission = p.old_enough.of_mission ∙ sym q.old_enough.of_mission in
-      ap Latest (same-member xs differ x y p.there (same.back y q.there) mission (omega arith))
+      ap Some (same-member xs differ x y p.there (same.back y q.there) mission (omega arith))
 
   same_answer : (ask m d xs).0 ≡ (ask m d ys).0
   unfolding ask

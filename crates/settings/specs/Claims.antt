@@ -4,8 +4,7 @@ use Rattle.std.specs.Prelude.{ℕ, ◌≤◌, ◌<◌, ◌^◌, true, ◌≢◌,
 use mathlib.Core.List.{List, [], ◌∷◌, Memᴰ}
 use Rattle.octets.specs.Octets.{AreBytes}
 use Rattle.settings.specs.declared.Setting.{Setting}
-use Rattle.settings.specs.declared.Found.{Found}
-use Rattle.settings.specs.declared.Found.TheVariants.{Nothing, Latest}
+use Rattle.std.specs.Prelude.{Option, Some, None}
 use Rattle.settings.specs.Model.{latest, add, ask, WellFormed}
 use Rattle.settings.specs.Sheet.{settings_of, right}
 use Rattle.settings.specs.Layout.{on_sheet}
@@ -21,10 +20,10 @@ pub record IsLatest (mission day : ℕ) (xs : List Setting) (x : Setting) : Type
   pub old_enough : OldEnough mission day x
   pub none_later : (y : Setting) → Memᴰ y xs → OldEnough mission day y → y.day ≤ x.day
 
--- The setting in force: the mission's latest that is not after the day; Nothing if there is none.
-abbrev pub Finds : (mission day : ℕ) → List Setting → Found → Type 0
-Finds mission day xs Nothing = (y : Setting) → Memᴰ y xs → OldEnough mission day y → ⊥
-Finds mission day xs (Latest x) = IsLatest mission day xs x
+-- The setting in force: the mission's latest that is not after the day; None if there is none.
+abbrev pub Finds : (mission day : ℕ) → List Setting → Option Setting → Type 0
+Finds mission day xs None = (y : Setting) → Memᴰ y xs → OldEnough mission day y → ⊥
+Finds mission day xs (Some x) = IsLatest mission day xs x
 
 -- `latest` finds it in any list. `ask` gives its words.
 abbrev pub EveryFind : Type 0

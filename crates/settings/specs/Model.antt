@@ -3,8 +3,7 @@
 use Rattle.std.specs.Prelude.{ℕ, ◌≤◌, ◌<◌, ◌^◌, Bool, true, false, not, cond, ◌&&◌, ◌||◌, List, [], ◌∷◌, ◌++◌, ◌≡◌, eqb, ltb, leb, length}
 use Rattle.refusals.specs.Judge.{Rule, ◌when◌, judge}
 use Rattle.settings.specs.declared.Setting.{Setting}
-use Rattle.settings.specs.declared.Found.{Found}
-use Rattle.settings.specs.declared.Found.TheVariants.{Nothing, Latest}
+use Rattle.std.specs.Prelude.{Option, Some, None}
 
 -- How many settings a sheet has room for.
 abbrev pub places : ℕ
@@ -29,20 +28,20 @@ different (x ∷ xs) = not (holds x.mission x.day xs) && different xs
 
 -- ---- the setting in force on a day: the latest that began on or before it
 
-abbrev pub is_later : Found → (day : ℕ) → Bool
-is_later Nothing day = true
-is_later (Latest y) day = ltb y.day day
+abbrev pub is_later : Option Setting → (day : ℕ) → Bool
+is_later None day = true
+is_later (Some y) day = ltb y.day day
 
 -- The better of the best so far and one more setting.
-unfoldable pub picked : (mission day : ℕ) → Found → Setting → Found
-picked mission day best x = cond (eqb x.mission mission && leb x.day day && is_later best x.day) (Latest x) best
+unfoldable pub picked : (mission day : ℕ) → Option Setting → Setting → Option Setting
+picked mission day best x = cond (eqb x.mission mission && leb x.day day && is_later best x.day) (Some x) best
 
-unfoldable pub latest_from : (mission day : ℕ) → Found → List Setting → Found
+unfoldable pub latest_from : (mission day : ℕ) → Option Setting → List Setting → Option Setting
 latest_from mission day best [] = best
 latest_from mission day best (x ∷ xs) = latest_from mission day (picked mission day best x) xs
 
-abbrev pub latest : (mission day : ℕ) → List Setting → Found
-latest mission day xs = latest_from mission day Nothing xs
+abbrev pub latest : (mission day : ℕ) → List Setting → Option Setting
+latest mission day xs = latest_from mission day None xs
 
 -- ---- the calls: the words of the answer, and the settings after the call
 
@@ -61,19 +60,19 @@ add mission edition day frame xs =
     (0 ∷ [], xs ++ (record { mission = mission; edition = edition; day = day; frame = frame } ∷ []))
 
 -- 47: no setting of the mission began on or before the day.
-abbrev pub is_missing : Found → Bool
-is_missing Nothing = true
-is_missing (Latest x) = false
+abbrev pub is_missing : Option Setting → Bool
+is_missing None = true
+is_missing (Some x) = false
 
-abbrev pub ask_rules : Found → List (Rule ℕ)
+abbrev pub ask_rules : Option Setting → List (Rule ℕ)
 ask_rules found = (47 when is_missing found) ∷ []
 
 -- Edition, first day, frame length.
-abbrev pub setting_words : Found → List ℕ
-setting_words Nothing = []
-setting_words (Latest x) = x.edition ∷ x.day ∷ x.frame ∷ []
+abbrev pub setting_words : Option Setting → List ℕ
+setting_words None = []
+setting_words (Some x) = x.edition ∷ x.day ∷ x.frame ∷ []
 
-abbrev pub found_words : Found → List ℕ
+abbrev pub found_words : Option Setting → List ℕ
 found_words found = judge (λ n. n ∷ []) (ask_rules found) (0 ∷ setting_words found)
 
 unfoldable pub ask : (mission day : ℕ) → List Setting → Outcome

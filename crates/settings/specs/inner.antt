@@ -1,2 +1,5 @@
 pub mod Widths
 pub mod Sized
+pub mod Known
+pub mod New
+pub mod Numbered

@@ -7,6 +7,7 @@ use mathlib.Core.Path.{◌≡◌, refl, sym, ap, ◌∙◌}
 use borrow.Author.Tests.{leb-true, ltb-true, ltb-false, eqb-true, not-false}
 use lib.Dec.{eqb, ltb}
 use lib.ListN.{length}
+use Rattle.std.specs.Prelude.{Result, Ok, Err}
 use Rattle.laws.proofs.Bools.{and_split}
 use Rattle.refusals.specs.Table.{number_of}
 use Rattle.refusals.proofs.Judged.{
@@ -28,9 +29,7 @@ use Rattle.octets.specs.Octets.{same_at}
 use Rattle.sfdu.specs.declared.Kind.{Kind}
 use Rattle.sfdu.specs.declared.Kind.TheVariants.{Telemetry, Rsr}
 use Rattle.sfdu.specs.declared.Fault.{Fault}
-use Rattle.sfdu.specs.declared.Primary.{Primary}
-use Rattle.sfdu.specs.declared.Read.{Read}
-use Rattle.sfdu.specs.declared.Read.TheVariants.{Record, Refused}
+use Rattle.sfdu.specs.declared.Record.{Record}
 use Rattle.sfdu.specs.Nesting.{
   kind_number,
   authority,
@@ -172,12 +171,12 @@ found s k n rest e =
     record { accepted = a; kind = same_kind k (kind_of s) same; size = size; words = w }
 
 -- The same of the answer itself, a record.
-pub record-found : (s : List ℕ) {answer : Read} {k : Kind} {n : ℕ} {p : Primary} → answer ≡ Record k n p → words_of answer ≡ read_one s
-    → Found s k n (primary_words p)
-record-found s {answer} {k} {n} {p} is read = found s k n (primary_words p) (sym (ap words_of is) ∙ read)
+pub record-found : (s : List ℕ) {answer : Result Record Fault} {r : Record} → answer ≡ Ok r → words_of answer ≡ read_one s
+    → Found s r.kind r.size (primary_words r.primary)
+record-found s {answer} {r} is read = found s r.kind r.size (primary_words r.primary) (sym (ap words_of is) ∙ read)
 
 -- The same of the answer itself, a refusal.
-pub refusal-found : (s : List ℕ) {answer : Read} {f : Fault} → answer ≡ Refused f → words_of answer ≡ read_one s → accepts s ≡ false
+pub refusal-found : (s : List ℕ) {answer : Result Record Fault} {f : Fault} → answer ≡ Err f → words_of answer ≡ read_one s → accepts s ≡ false
 refusal-found s {answer} {f} is read = words-refused s (number_of f.refusal) f.at (sym read ∙ ap words_of is)
 
 pub primary-found : {s : List ℕ} {k : Kind} {n : ℕ} {rest : List ℕ} → Found s k n rest → rest ≡ primary_of s

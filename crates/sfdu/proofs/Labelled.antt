@@ -6,6 +6,7 @@ use mathlib.Core.List.{List, ◌++◌}
 use mathlib.Core.Path.{◌≡◌, ◌∙◌}
 use borrow.Author.Tests.{le-ltb}
 use lib.ListN.{length}
+use Rattle.std.specs.Prelude.{Some, None}
 use Rattle.laws.proofs.Bools.{passed}
 use Rattle.refusals.specs.Judge.{Rule, judge, answered, none_applies}
 use Rattle.octets.specs.Octets.{number_at, same_at}
@@ -69,10 +70,10 @@ module _ (s : List ℕ) (l : Labelled s) where
   unfolding read_one
   read-unknown h = judged-unknown (λ given. given) _ h
 
-  pub whole-as : (k : Kind) → number_at s kind_at 4 ≡ tag_number k → whole_size s ≡ cond (none_applies (kind_rules k s)) (record_length s) 0
+  pub whole-as : (k : Kind) → number_at s kind_at 4 ≡ tag_number k → whole_size s ≡ cond (none_applies (kind_rules k s)) (Some (record_length s)) None
   unfolding whole_size accepts
   whole-as k e = rw (judged-as (λ given. false) true k e)
 
-  pub whole-unknown : ((k : Kind) → number_at s kind_at 4 ≡ tag_number k → ⊥) → whole_size s ≡ 0
+  pub whole-unknown : ((k : Kind) → number_at s kind_at 4 ≡ tag_number k → ⊥) → whole_size s ≡ None
   unfolding whole_size accepts
   whole-unknown h = rw (judged-unknown (λ given. false) true h)

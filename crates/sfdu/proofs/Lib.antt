@@ -8,3 +8,4 @@ pub mod Parts
 pub mod Words
 pub mod Wholes
 pub mod Labelled
+pub mod Handed

@@ -1,12 +1,13 @@
 -- Different answers have different words. Assumes nothing.
 use mathlib.Core.Path.{◌≡◌, ap}
 use Rattle.refusals.specs.Table.{number_of}
-use Rattle.refusals.proofs.Laws.{number-injective}
-use Rattle.sfdu.specs.declared.Fault.{Fault}
+use Rattle.refusals.specs.Words.{Different}
+use Rattle.refusals.proofs.Words.{Refuses, results-differ, refusals-differ}
+use Rattle.refusals.proofs.Laws.{number-injective, number-positive}
 use Rattle.sfdu.specs.declared.Primary.{Primary}
-use Rattle.sfdu.specs.declared.Read.TheVariants.{Record, Refused}
+use Rattle.sfdu.specs.declared.RecordRefusal.TheVariants.{Fault as FaultRefusal, Alone}
 use Rattle.sfdu.specs.Nesting.{kind_number}
-use Rattle.sfdu.specs.Read.{fault_words, primary_words, DifferentReads}
+use Rattle.sfdu.specs.Read.{fault_words, refusal_words, primary_words, values_of, DifferentReads}
 use Rattle.sfdu.proofs.Accepted.{same_kind}
 
 pub same-primary : (p q : Primary) → primary_words p ≡ primary_words q → p ≡ q
@@ -17,21 +18,36 @@ same-primary p q e =
     let format : p.format ≡ q.format = cc in
     λ i. record { major = major i; minor = minor i; mission = mission i; format = format i }
 
-pub same-fault : (f g : Fault) → fault_words f ≡ fault_words g → f ≡ g
+pub same-fault : Different fault_words
 same-fault f g e =
     let n : number_of f.refusal ≡ number_of g.refusal = cc in
     let at : f.at ≡ g.at = cc in
     let refusal : f.refusal ≡ g.refusal = number-injective _ _ n in
     λ i. record { refusal = refusal i; at = at i }
 
+-- No number of a refusal is 0.
+pub faults-refuse : Refuses fault_words
+faults-refuse f values e = number-positive f.refusal (cc)
+
+pub same-values : Different values_of
+same-values a b e =
+    let kinds : kind_number a.kind ≡ kind_number b.kind = cc in
+    let words : primary_words a.primary ≡ primary_words b.primary = cc in
+    let kind : a.kind ≡ b.kind = same_kind _ _ kinds in
+    let primary : a.primary ≡ b.primary = same-primary _ _ words in
+    let size : a.size ≡ b.size = cc in
+    λ i. record { kind = kind i; size = size i; primary = primary i }
+
 pub same_read : DifferentReads
-same_read (Record k n p) (Record l m q) e =
-    let kinds : kind_number k ≡ kind_number l = cc in
-    let words : primary_words p ≡ primary_words q = cc in
-    let kind : k ≡ l = same_kind k l kinds in
-    let primary : p ≡ q = same-primary p q words in
-    let size : n ≡ m = cc in
-    cc
-same_read (Record k n p) (Refused f) e = cc
-same_read (Refused f) (Record k n p) e = cc
-same_read (Refused f) (Refused g) e = ap Refused (same-fault f g e)
+same_read = results-differ fault_words values_of faults-refuse same-fault same-values
+
+-- The same of the refusals of calls that read a record first.
+pub same-refusal : Different refusal_words
+same-refusal (FaultRefusal f) (FaultRefusal g) e = ap FaultRefusal (same-fault f g e)
+same-refusal (FaultRefusal f) (Alone r) e = cc
+same-refusal (Alone r) (FaultRefusal f) e = cc
+same-refusal (Alone r) (Alone s) e = ap Alone (refusals-differ r s e)
+
+pub refusals-refuse : Refuses refusal_words
+refusals-refuse (FaultRefusal f) values e = faults-refuse f values e
+refusals-refuse (Alone r) values e = number-positive r (cc)

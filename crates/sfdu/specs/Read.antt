@@ -1,15 +1,17 @@
 -- Document 01, "Calls on records" and "Refusal numbers" 1 to 11, and document 02, Req 05: the first record of a lent slice s. Assumes nothing.
 -- The manual, docs/INTERFACE.md: "Calls on records".
-use Rattle.std.specs.Prelude.{◌≡◌, ℕ, ◌+◌, ◌-◌, Bool, not, cond, ◌&&◌, ◌||◌, List, [], ◌∷◌, ◌++◌, length, get_or, eqb, leb, ltb}
+use Rattle.std.specs.Prelude.{ℕ, Result, ◌+◌, ◌-◌, Bool, not, cond, ◌&&◌, ◌||◌, List, [], ◌∷◌, ◌++◌, length, get_or, eqb, leb, ltb}
 use Rattle.refusals.specs.Judge.{Rule, ◌when◌, each, answered, none_applies}
 use Rattle.refusals.specs.Table.{number_of}
+use Rattle.refusals.specs.Words.{result_words, refusal_word, Different}
 use Rattle.octets.specs.Octets.{number_at, part, same_at}
 use Rattle.sfdu.specs.declared.Kind.{Kind}
 use Rattle.sfdu.specs.declared.Kind.TheVariants.{Telemetry, Rsr}
 use Rattle.sfdu.specs.declared.Fault.{Fault}
 use Rattle.sfdu.specs.declared.Primary.{Primary}
-use Rattle.sfdu.specs.declared.Read.{Read}
-use Rattle.sfdu.specs.declared.Read.TheVariants.{Record, Refused}
+use Rattle.sfdu.specs.declared.Record.{Record}
+use Rattle.sfdu.specs.declared.RecordRefusal.{RecordRefusal}
+use Rattle.sfdu.specs.declared.RecordRefusal.TheVariants.{Fault as FaultRefusal, Alone}
 use Rattle.sfdu.specs.Nesting.{
   kind_number,
   authority,
@@ -50,14 +52,22 @@ primary_words p = p.major ∷ p.minor ∷ p.mission ∷ p.format ∷ []
 abbrev pub fault_words : Fault → List ℕ
 fault_words f = number_of f.refusal ∷ f.at ∷ []
 
+-- A refusal of a call that reads a record first: its number, and its second number if it has one.
+abbrev pub refusal_words : RecordRefusal → List ℕ
+refusal_words (FaultRefusal f) = fault_words f
+refusal_words (Alone r) = refusal_word r
+
+-- The kind, N and the four primary values.
+abbrev pub values_of : Record → List ℕ
+values_of r = kind_number r.kind ∷ r.size ∷ primary_words r.primary
+
 -- Read one: 0, the kind, N and the four primary values, or the refusal.
-abbrev pub words_of : Read → List ℕ
-words_of (Record kind n p) = 0 ∷ kind_number kind ∷ n ∷ primary_words p
-words_of (Refused f) = fault_words f
+abbrev pub words_of : Result Record Fault → List ℕ
+words_of answer = result_words fault_words values_of answer
 
 -- Different answers have different words.
 abbrev pub DifferentReads : Type 0
-DifferentReads = (a b : Read) → words_of a ≡ words_of b → a ≡ b
+DifferentReads = Different words_of
 
 -- ---- the parts of the label
 

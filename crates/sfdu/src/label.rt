@@ -2,10 +2,6 @@
 ghost use Rattle.std.specs.Prelude.{◌&&◌, ◌≡◌, ◌+◌, ◌≤◌, leb, length};
 ghost use Rattle.octets.specs.Octets.{same_at};
 ghost use Rattle.sfdu.specs.Nesting.{
-  authority,
-  version_class,
-  authority_at,
-  version_class_at,
   tag_size,
   label_size,
   block_label_size,
@@ -21,33 +17,16 @@ use octets::numbers;
 
 const WORD_VALUES: u64 = 65536;
 
-pub(crate) fn has_authority(s: &[u8]) -> bool
-    requires { label_size ≤ length s.now }
-    ensures { result ≡ same_at s.now authority_at authority 0 tag_size }
+// Whether the tag at index `at` of the label is this one.
+pub(crate) fn has_tag(s: &[u8], at: usize, tag: &[u8; nesting::TAG]) -> bool
+    requires { at + tag_size ≤ length s.now }
+    ensures { result ≡ same_at s.now at tag.now 0 tag_size }
 {
-    octets::is_same(
-        s,
-        nesting::AUTHORITY_AT,
-        &nesting::AUTHORITY,
-        0,
-        nesting::TAG,
-    )
+    octets::is_same(s, at, tag, 0, nesting::TAG)
 }
 
-pub(crate) fn has_version_class(s: &[u8]) -> bool
-    requires { label_size ≤ length s.now }
-    ensures { result ≡ same_at s.now version_class_at version_class 0 tag_size }
-{
-    octets::is_same(
-        s,
-        nesting::VERSION_CLASS_AT,
-        &nesting::VERSION_CLASS,
-        0,
-        nesting::TAG,
-    )
-}
-
-// The length that the label states: how many bytes of the record follow the label.
+// The length that the label states: how many bytes of the record follow the label. Said in each, since a slice with a label is all that the three
+// functions take; a type for it would hold the slice alone.
 pub(crate) fn label_length(s: &[u8]) -> u64
     requires { label_size ≤ length s.now }
     ensures { result ≡ label_length s.now }
@@ -63,7 +42,7 @@ pub(crate) fn length_in_range(after: u64, kind: Kind) -> bool
     (least <= after) & (after <= most)
 }
 
-// Whether the block at index `at` has this type and this length.
+// Whether the block at index `at` has this type and this length. Said in each, since each call has the block at another index of the record.
 pub(crate) fn is_label(s: &[u8], at: usize, class: u64, size: u64) -> bool
     requires { (at + block_label_size ≤ length s.now) × (class ≤ most_data) × (size ≤ most_data) }
     ensures { result ≡ is_label s.now at class size }

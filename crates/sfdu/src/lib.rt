@@ -2,18 +2,23 @@
 
 #![tactic(auto)]
 
+mod faults;
+mod kinds;
 mod label;
 pub mod nesting;
 mod reader;
 mod whole;
 
+pub use kinds::UnknownKind;
 pub use reader::{data_part, read_one, secondary_part};
+use refusals::Refusal;
 pub use whole::whole_size;
 
-#[derive(Clone, Copy)]
+// The numbers are those of the kinds in calls and answers.
+#[derive(Clone, Copy, PartialEq, Eq)]
 pub enum Kind {
-    Telemetry,
-    Rsr,
+    Telemetry = 1,
+    Rsr = 2,
 }
 
 // The value of the primary block.
@@ -25,28 +30,25 @@ pub struct Primary {
     pub format: u8,
 }
 
+// What read one finds: the record's kind, its length in bytes (document 01's N) and its primary value.
+#[derive(Clone, Copy)]
+pub struct Record {
+    pub kind: Kind,
+    pub size: usize,
+    pub primary: Primary,
+}
+
 // A refusal and its second number. For `TooShort` and `Truncated` that is how many bytes the slice has. For others it is the offset, from the
 // record's start, of the first byte of the wrong field.
 #[derive(Clone, Copy)]
 pub struct Fault {
-    pub refusal: refusals::Refusal,
+    pub refusal: Refusal,
     pub at: usize,
 }
 
-// What a check of a block's label finds: both fields are right, or the offset of the first wrong one.
+// A refusal of a call that reads a record first: a fault of the record, or a refusal that has no second number.
 #[derive(Clone, Copy)]
-pub enum Checked {
-    Right,
-    Wrong(usize),
-}
-
-// The answer of read one: the record's kind, its length in bytes (document 01's N) and its primary value.
-#[derive(Clone, Copy)]
-pub enum Read {
-    Record {
-        kind: Kind,
-        size: usize,
-        primary: Primary,
-    },
-    Refused(Fault),
+pub enum RecordRefusal {
+    Fault(Fault),
+    Alone(Refusal),
 }

@@ -1,13 +1,8 @@
 // The offsets of a record's parts (document 01, "How a record nests").
 ghost use Rattle.std.specs.Prelude.{◌≡◌};
-ghost use Rattle.sfdu.specs.Nesting.{kind_number, kind_bytes, secondary_length, secondary_type, data_at, data_value_at, aggregation_length, least_label_length};
+ghost use Rattle.sfdu.specs.Nesting.{kind_bytes, secondary_length, secondary_type, data_at, data_value_at, aggregation_length, least_label_length};
 
 use crate::Kind;
-
-// The numbers of the kinds in calls and answers.
-pub const TELEMETRY_NUMBER: u32 = 1;
-
-pub const RSR_NUMBER: u32 = 2;
 
 // The label: three tags of four bytes, then how many bytes follow the label.
 pub const AUTHORITY_AT: usize = 0;
@@ -66,21 +61,12 @@ const TELEMETRY_SECONDARY_TYPE: u64 = 78;
 
 const RSR_SECONDARY_TYPE: u64 = 104;
 
-pub fn kind_number(kind: Kind) -> u32
-    ensures { result ≡ kind_number kind }
-{
-    match kind {
-        Kind::Telemetry => TELEMETRY_NUMBER,
-        Kind::Rsr => RSR_NUMBER,
-    }
-}
-
 // The label's tag for each kind, as a number: 0800 and C997.
 pub const TELEMETRY_TAG: u32 = 808988720;
 
 pub const RSR_TAG: u32 = 1127823671;
 
-// The label's tag for the kind, as bytes.
+// The label's tag for the kind, as bytes. By hand, since the number of a variant is the kind's number in calls.
 pub fn kind_tag(kind: Kind) -> [u8; TAG]
     ensures { result ≡ kind_bytes kind }
 {
@@ -90,6 +76,7 @@ pub fn kind_tag(kind: Kind) -> [u8; TAG]
     }
 }
 
+// By hand, since the number of a variant is the kind's number in calls.
 pub fn secondary_length(kind: Kind) -> usize
     ensures { result ≡ secondary_length kind }
 {
@@ -99,6 +86,7 @@ pub fn secondary_length(kind: Kind) -> usize
     }
 }
 
+// By hand, since the number of a variant is the kind's number in calls.
 pub fn secondary_type(kind: Kind) -> u64
     ensures { result ≡ secondary_type kind }
 {

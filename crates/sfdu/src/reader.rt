@@ -2,6 +2,7 @@
 ghost use Rattle.std.specs.Prelude.{[], ◌∷◌, ◌++◌, ◌≡◌, ◌+◌, ◌-◌, ◌≤◌, ◌<◌, length, eqb};
 ghost use Rattle.refusals.specs.Judge.{answered};
 ghost use Rattle.refusals.specs.Table.{number_of};
+ghost use Rattle.refusals.specs.declared.Refusal.TheVariants.{AggregationLabel, PrimaryLabel, SecondaryLabel};
 ghost use Rattle.sfdu.specs.Nesting.{
   label_size,
   block_label_size,
@@ -39,22 +40,22 @@ ghost use Rattle.sfdu.specs.Read.{
 };
 ghost use Rattle.sfdu.specs.inner.Checked.{checked};
 
-use crate::{Checked, Fault, Kind, Primary, Read, label, nesting};
+use crate::{Fault, Kind, Primary, Record, label, nesting};
 use octets::numbers;
 use refusals::Refusal;
 
 // Reads the first record of a slice; bytes after it do not matter. Each kind has its own call of `read_length`, so LLVM compiles one chain of tests
 // per kind, with the kind's offsets and lengths as constants.
-pub fn read_one(s: &[u8]) -> Read
+pub fn read_one(s: &[u8]) -> Result<Record, Fault>
     ensures { words_of result ≡ read_one s.now }
 {
     if s.len() < nesting::LABEL {
         return refused(Refusal::TooShort, s.len());
     }
-    if !label::has_authority(s) {
+    if !label::has_tag(s, nesting::AUTHORITY_AT, &nesting::AUTHORITY) {
         return refused(Refusal::Authority, nesting::AUTHORITY_AT);
     }
-    if !label::has_version_class(s) {
+    if !label::has_tag(s, nesting::VERSION_CLASS_AT, &nesting::VERSION_CLASS) {
         return refused(Refusal::VersionClass, nesting::VERSION_CLASS_AT);
     }
     let tag = numbers::read_u32(s, nesting::KIND_AT);
@@ -67,14 +68,14 @@ pub fn read_one(s: &[u8]) -> Read
     refused(Refusal::UnknownKind, nesting::KIND_AT)
 }
 
-fn refused(refusal: Refusal, at: usize) -> Read
+fn refused(refusal: Refusal, at: usize) -> Result<Record, Fault>
     ensures { words_of result ≡ number_of refusal ∷ at ∷ [] }
 {
-    Read::Refused(Fault { refusal, at })
+    Err(Fault { refusal, at })
 }
 
 // Tests from the label's length on.
-fn read_length(s: &[u8], kind: Kind) -> Read
+fn read_length(s: &[u8], kind: Kind) -> Result<Record, Fault>
     requires { label_size ≤ length s.now }
     ensures { words_of result ≡ answered (length_rules kind s.now ++ header_rules kind s.now
         ++ data_rules kind s.now) (record_words kind s.now) }
@@ -90,74 +91,73 @@ fn read_length(s: &[u8], kind: Kind) -> Read
     read_blocks(s, kind, size)
 }
 
-// Tests from the aggregation's label on. The record is `size` bytes long, and all of them are lent.
-fn read_blocks(s: &[u8], kind: Kind, size: usize) -> Read
+// Tests from the aggregation's label on. The record is `size` bytes long, and all of them are lent. Said in each, since a struct of the slice, the kind
+// and the length would say the same in its invariant, and each contract would speak of the slice in it.
+fn read_blocks(s: &[u8], kind: Kind, size: usize) -> Result<Record, Fault>
     requires { (size ≡ record_length s.now) × (data_value_at kind ≤ size) × (size ≤ length s.now) }
     ensures { words_of result ≡ answered (header_rules kind s.now ++ data_rules kind s.now) (record_words kind s.now) }
 {
-    let aggregation = judge_aggregation(s, kind);
-    if let Checked::Wrong(at) = aggregation {
-        return refused(Refusal::AggregationLabel, at);
-    }
-    let primary = judge_primary(s);
-    if let Checked::Wrong(at) = primary {
-        return refused(Refusal::PrimaryLabel, at);
-    }
-    let secondary = judge_secondary(s, kind);
-    if let Checked::Wrong(at) = secondary {
-        return refused(Refusal::SecondaryLabel, at);
-    }
+    judge_aggregation(s, kind)?;
+    judge_primary(s)?;
+    judge_secondary(s, kind)?;
     read_data(s, kind, size)
 }
 
-fn judge_aggregation(s: &[u8], kind: Kind) -> Checked
+// Said in each, since each function tests another part of the one slice; a struct would hold that slice, and each contract would speak of it.
+fn judge_aggregation(s: &[u8], kind: Kind) -> Result<(), Fault>
     requires { data_value_at kind ≤ length s.now }
-    ensures { result ≡ checked (type_and_length s.now aggregation_at aggregation_type (aggregation_length kind)) }
+    ensures { result ≡ checked AggregationLabel (type_and_length s.now aggregation_at aggregation_type (aggregation_length kind)) }
 {
     judge_label(
         s,
         nesting::AGGREGATION_AT,
         nesting::AGGREGATION_TYPE,
         nesting::aggregation_length(kind),
+        Refusal::AggregationLabel,
     )
 }
 
-fn judge_primary(s: &[u8]) -> Checked
+fn judge_primary(s: &[u8]) -> Result<(), Fault>
     requires { secondary_at ≤ length s.now }
-    ensures { result ≡ checked (type_and_length s.now primary_at primary_type primary_length) }
+    ensures { result ≡ checked PrimaryLabel (type_and_length s.now primary_at primary_type primary_length) }
 {
     judge_label(
         s,
         nesting::PRIMARY_AT,
         nesting::PRIMARY_TYPE,
         nesting::PRIMARY_LENGTH,
+        Refusal::PrimaryLabel,
     )
 }
 
-fn judge_secondary(s: &[u8], kind: Kind) -> Checked
+fn judge_secondary(s: &[u8], kind: Kind) -> Result<(), Fault>
     requires { data_value_at kind ≤ length s.now }
-    ensures { result ≡ checked (type_and_length s.now secondary_at (secondary_type kind) (secondary_length kind)) }
+    ensures { result ≡ checked SecondaryLabel (type_and_length s.now secondary_at (secondary_type kind) (secondary_length kind)) }
 {
     judge_label(
         s,
         nesting::SECONDARY_AT,
         nesting::secondary_type(kind),
         nesting::secondary_length(kind) as u64,
+        Refusal::SecondaryLabel,
     )
 }
 
 // Tests the label of the block at index `at` against a type and a length. A right label takes one comparison.
-fn judge_label(s: &[u8], at: usize, class: u64, size: u64) -> Checked
+fn judge_label(s: &[u8], at: usize, class: u64, size: u64, refusal: Refusal) -> Result<(), Fault>
     requires { (at + block_label_size ≤ length s.now) × (class ≤ most_data) × (size ≤ most_data) }
-    ensures { result ≡ checked (type_and_length s.now at class size) }
+    ensures { result ≡ checked refusal (type_and_length s.now at class size) }
 {
     if label::is_label(s, at, class, size) {
-        return Checked::Right;
+        return Ok(());
     }
     if numbers::read_u16(s, at) as u64 != class {
-        return Checked::Wrong(at);
+        return Err(Fault { refusal, at });
     }
-    Checked::Wrong(at + nesting::WORD)
+    Err(Fault {
+        refusal,
+        at: at + nesting::WORD,
+    })
 }
 
 fn block_length(s: &[u8], at: usize) -> u64
@@ -169,7 +169,7 @@ fn block_length(s: &[u8], at: usize) -> u64
 }
 
 // Tests the data block's label. If it is right, the answer is the record.
-fn read_data(s: &[u8], kind: Kind, size: usize) -> Read
+fn read_data(s: &[u8], kind: Kind, size: usize) -> Result<Record, Fault>
     requires { (size ≡ record_length s.now) × (data_value_at kind ≤ size) × (size ≤ length s.now) }
     ensures { words_of result ≡ answered (data_rules kind s.now) (record_words kind s.now) }
 {
@@ -180,11 +180,11 @@ fn read_data(s: &[u8], kind: Kind, size: usize) -> Read
         return refused(Refusal::DataLength, nesting::data_at(kind) + nesting::WORD);
     }
     let primary = read_primary(s);
-    Read::Record {
+    Ok(Record {
         kind,
         size,
         primary,
-    }
+    })
 }
 
 fn read_primary(s: &[u8]) -> Primary
@@ -219,17 +219,12 @@ pub fn secondary_part(s: &[u8]) -> &[u8]
     ensures { (result.now ≡ secondary_part s.now) × (result.ref_ptr.0 ≡ s.entry.ref_ptr.0)
         × (result.ref_ptr.1 ≡ s.entry.ref_ptr.1 + secondary_start s.now) }
 {
-    let found = read_one(s);
-    match found {
-        Read::Record {
-            kind,
-            size: _,
-            primary: _,
-        } => {
-            let e = nesting::data_at(kind);
+    match read_one(s) {
+        Ok(found) => {
+            let e = nesting::data_at(found.kind);
             &s[nesting::SECONDARY_VALUE_AT..e]
         }
-        Read::Refused(_) => &s[0..0],
+        Err(_) => &s[0..0],
     }
 }
 
@@ -237,16 +232,11 @@ pub fn secondary_part(s: &[u8]) -> &[u8]
 pub fn data_part(s: &[u8]) -> &[u8]
     ensures { (result.now ≡ data_part s.now) × (result.ref_ptr.0 ≡ s.entry.ref_ptr.0) × (result.ref_ptr.1 ≡ s.entry.ref_ptr.1 + data_start s.now) }
 {
-    let found = read_one(s);
-    match found {
-        Read::Record {
-            kind,
-            size,
-            primary: _,
-        } => {
-            let a = nesting::data_value_at(kind);
-            &s[a..size]
+    match read_one(s) {
+        Ok(found) => {
+            let a = nesting::data_value_at(found.kind);
+            &s[a..found.size]
         }
-        Read::Refused(_) => &s[0..0],
+        Err(_) => &s[0..0],
     }
 }

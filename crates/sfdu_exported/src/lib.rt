@@ -11,7 +11,8 @@ ghost use Rattle.sfdu.specs.declared.Kind.TheVariants.{Telemetry, Rsr};
 ghost use Rattle.sfdu_exported.specs.Numbers.{numbers_of};
 ghost use Rattle.sfdu_exported.specs.Tables.{new_year_at};
 
-use sfdu_stream::{Entry, Stop, Walked};
+use sfdu::Kind;
+use sfdu_stream::{Entry, Walked};
 
 // How many entries the table of new years has.
 const YEARS: usize = 1101;
@@ -31,8 +32,8 @@ fn in_numbers(w: Walked) -> Answer
 {
     let stop = w.stop;
     match stop {
-        Stop::End => told(w.count, w.place, 0, 0),
-        Stop::Refused(fault) => {
+        Ok(()) => told(w.count, w.place, 0, 0),
+        Err(fault) => {
             let refusal = fault.refusal;
             told(w.count, w.place, refusals::number(refusal), fault.at)
         }
@@ -86,14 +87,14 @@ pub extern "C" fn rt_list_entries(s: &[u8], table: &mut [Entry]) -> Answer
 pub extern "C" fn rt_most_records(bytes: usize) -> usize
     ensures { result ≡ most_records Telemetry bytes }
 {
-    sfdu_stream::most_records(bytes)
+    sfdu_stream::most_records(Kind::Telemetry, bytes)
 }
 
 #[unsafe(no_mangle)]
 pub extern "C" fn rt_most_rsr_records(bytes: usize) -> usize
     ensures { result ≡ most_records Rsr bytes }
 {
-    sfdu_stream::most_rsr_records(bytes)
+    sfdu_stream::most_records(Kind::Rsr, bytes)
 }
 
 // Entry i of the table of new years; 0 past its end.

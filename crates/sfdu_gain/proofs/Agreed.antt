@@ -10,9 +10,9 @@ use Rattle.refusals.specs.Table.{number_of}
 use Rattle.refusals.proofs.Judged.{Outcome, none, first, outcome, NoneHolds, none-judge, first-judge}
 use Rattle.refusals.proofs.Laws.{number-positive}
 use Rattle.dates.specs.Calendar.{day_count}
-use Rattle.settings.specs.declared.Asked.TheVariants.{Given, Refused as RefusedAsked}
-use Rattle.settings.specs.declared.Found.{Found}
-use Rattle.settings.specs.declared.Found.TheVariants.{Nothing, Latest}
+use Rattle.std.specs.Prelude.{Option, Some, None, Ok, Err}
+use Rattle.settings.specs.declared.Setting.{Setting}
+use Rattle.settings.specs.Editions.{edition_number}
 use Rattle.settings.specs.Model.{ask}
 use Rattle.settings.specs.Sheet.{right}
 use Rattle.settings.specs.Layout.{on_sheet}
@@ -31,13 +31,13 @@ asked_is : (sheet s : List ℕ) → NoneHolds (rsr_rules s)
 unfolding judge on_sheet ask
 asked_is sheet s h = by (right sheet) (agreed sheet s) refl refl
   where
-    by : (b : Bool) (f : Found) → right sheet ≡ b → agreed sheet s ≡ f
+    by : (b : Bool) (f : Option Setting) → right sheet ≡ b → agreed sheet s ≡ f
         → judge (map number) (asked_rules sheet s) (number 0 ∷ gain_of (edition_of (agreed sheet s)) s ∷ []) ≡ gain_for (asked_for sheet s) s
     by false f r a = let asked : asked_for sheet s ≡ 43 ∷ [] = rw (asked_for, r) in rw r (ap (λ (w : List ℕ). gain_for w s) (sym asked))
-    by true Nothing r a =
+    by true None r a =
         let asked : asked_for sheet s ≡ 47 ∷ [] = rw (asked_for, r, a) in
         rw (r, a) (ap (λ (w : List ℕ). gain_for w s) (sym asked))
-    by true (Latest x) r a =
+    by true (Some x) r a =
         let asked : asked_for sheet s ≡ 0 ∷ x.edition ∷ x.day ∷ x.frame ∷ [] = rw (asked_for, r, a) in
         let there = found-known (mission s) (day_count (year s) (day s)) sheet x r a in
         rw (r, a) (sym (gain-known x.edition s h there) ∙ ap (λ (w : List ℕ). gain_for w s) (sym asked))
@@ -58,8 +58,8 @@ judged-gain edition s = by (outcome (rsr_rules s))
     by (first g f) = first-judge (map number) _ f ∙ sym (gain-refused edition s g f)
 
 pub answers_agree : AnswersAgree
-answers_agree sheet s (Given edition start frame) r e w = λ g k.
-    same-gain r g (w ∙ agreed-is-gain sheet s ∙ rw (← e) (judged-gain edition s) ∙ sym k)
-answers_agree sheet s (RefusedAsked why) r e w =
+answers_agree sheet s (Ok x) r e w = λ g k.
+    same-gain r g (w ∙ agreed-is-gain sheet s ∙ rw (← e) (judged-gain (edition_number x.edition) s) ∙ sym k)
+answers_agree sheet s (Err why) r e w =
     let refused : eqb (number_of why) 0 ≡ false = ne_eqb _ _ (number-positive why) in
     w ∙ agreed-is-gain sheet s ∙ rw (← e, refused)

@@ -7,10 +7,11 @@ use Rattle.refusals.specs.Judge.{Rule, judge}
 use Rattle.refusals.specs.Table.{number_of}
 use Rattle.refusals.proofs.Judged.{NoneHolds, First, none-judge, first-judge, judge-append}
 use Rattle.dates.specs.Calendar.{day_count}
-use Rattle.settings.specs.declared.Asked.{Asked}
-use Rattle.settings.specs.declared.Asked.TheVariants.{Given, Refused}
-use Rattle.settings.specs.declared.Found.{Found}
-use Rattle.settings.specs.declared.Found.TheVariants.{Nothing, Latest}
+use Rattle.std.specs.Prelude.{Option, Some, None, Ok}
+use Rattle.refusals.specs.declared.Refusal.{Refusal}
+use Rattle.settings.specs.declared.Setting.{Setting}
+use Rattle.settings.specs.declared.Agreement.{Agreement}
+use Rattle.settings.specs.Editions.{edition_number}
 use Rattle.settings.specs.Model.{known, ask}
 use Rattle.settings.specs.Words.{asked_words}
 use Rattle.settings.specs.Sheet.{right}
@@ -19,7 +20,6 @@ use Rattle.sfdu_headers.specs.Words.{Word, number}
 use Rattle.sfdu_headers.specs.Fields.{year, day}
 use Rattle.sfdu_headers.specs.RsrRecord.{only, rsr_rules, mission}
 use Rattle.sfdu_gain.specs.Gain.{gain_of, gaining, agreed, edition_of, asked_rules, agreed_gain}
-use Rattle.sfdu_gain.specs.inner.Told.{told_gain}
 
 -- Rules behind those of read headers: where one of these applies it decides, and else they do.
 module _ (s : List ℕ) (more : List (Rule (List ℕ))) (answer : List Word) where
@@ -52,19 +52,32 @@ module _ (sheet s : List ℕ) where
   unfolding agreed_gain
   agreed-past h = past s (asked_rules sheet s) _ h
 
-  pub agreed-told : NoneHolds (rsr_rules s) → (asked : Asked)
-      → asked_words asked ≡ (on_sheet (ask (mission s) (day_count (year s) (day s))) sheet).0 → told_gain asked s ≡ agreed_gain sheet s
+  -- What asking the sheet gives, and what it refuses, is the answer.
+  pub agreed-given : NoneHolds (rsr_rules s) → (x : Agreement)
+      → asked_words (Ok x) ≡ (on_sheet (ask (mission s) (day_count (year s) (day s))) sheet).0
+      → number 0 ∷ gain_of (edition_number x.edition) s ∷ [] ≡ agreed_gain sheet s
   unfolding judge on_sheet ask
-  agreed-told h asked e = by asked (right sheet) (agreed sheet s) refl refl e ∙ sym (agreed-past h)
+  agreed-given h x e = by (right sheet) (agreed sheet s) refl refl e ∙ sym (agreed-past h)
     where
-      by : (asked : Asked) (b : Bool) (f : Found) → right sheet ≡ b → agreed sheet s ≡ f
-          → asked_words asked ≡ (on_sheet (ask (mission s) (day_count (year s) (day s))) sheet).0
-          → told_gain asked s ≡ judge (map number) (asked_rules sheet s) (number 0 ∷ gain_of (edition_of (agreed sheet s)) s ∷ [])
-      by (Given edition first frame) true (Latest x) r a e =
-          let same : edition ≡ x.edition = cc (rw (r, a) at e) in
+      by : (b : Bool) (f : Option Setting) → right sheet ≡ b → agreed sheet s ≡ f
+          → asked_words (Ok x) ≡ (on_sheet (ask (mission s) (day_count (year s) (day s))) sheet).0
+          → number 0 ∷ gain_of (edition_number x.edition) s ∷ []
+          ≡ judge (map number) (asked_rules sheet s) (number 0 ∷ gain_of (edition_of (agreed sheet s)) s ∷ [])
+      by true (Some y) r a e =
+          let same : edition_number x.edition ≡ y.edition = cc (rw (r, a) at e) in
           rw (r, a, same)
-      by (Given edition first frame) true Nothing r a e = cc (rw (r, a) at e)
-      by (Given edition first frame) false f r a e = cc (rw r at e)
-      by (Refused why) true (Latest x) r a e = cc (rw (r, a) at e)
-      by (Refused why) true Nothing r a e = let n : number_of why ≡ 47 = cc (rw (r, a) at e) in rw (r, a, n)
-      by (Refused why) false f r a e = let n : number_of why ≡ 43 = cc (rw r at e) in rw (r, n)
+      by true None r a e = cc (rw (r, a) at e)
+      by false f r a e = cc (rw r at e)
+
+  pub agreed-not : NoneHolds (rsr_rules s) → (why : Refusal)
+      → number_of why ∷ [] ≡ (on_sheet (ask (mission s) (day_count (year s) (day s))) sheet).0
+      → map number (only (number_of why)) ≡ agreed_gain sheet s
+  unfolding judge on_sheet ask
+  agreed-not h why e = by (right sheet) (agreed sheet s) refl refl e ∙ sym (agreed-past h)
+    where
+      by : (b : Bool) (f : Option Setting) → right sheet ≡ b → agreed sheet s ≡ f
+          → number_of why ∷ [] ≡ (on_sheet (ask (mission s) (day_count (year s) (day s))) sheet).0
+          → map number (only (number_of why)) ≡ judge (map number) (asked_rules sheet s) (number 0 ∷ gain_of (edition_of (agreed sheet s)) s ∷ [])
+      by true (Some y) r a e = cc (rw (r, a) at e)
+      by true None r a e = let n : number_of why ≡ 47 = cc (rw (r, a) at e) in rw (r, a, n)
+      by false f r a e = let n : number_of why ≡ 43 = cc (rw r at e) in rw (r, n)

@@ -1,18 +1,19 @@
 -- The gain by a mission's agreement is the gain for the edition that `ask` answers. Assumes nothing.
 -- The manual, docs/INTERFACE.md: "The gain multiplier".
-use Rattle.std.specs.Prelude.{ℕ, cond, List, map, ◌≡◌, eqb, get_or}
+use Rattle.std.specs.Prelude.{ℕ, cond, List, map, ◌≡◌, eqb, get_or, Option, Result, Ok, Err}
 use Rattle.refusals.specs.Judge.{judge}
 use Rattle.dates.specs.Calendar.{day_count}
-use Rattle.settings.specs.declared.Asked.{Asked}
-use Rattle.settings.specs.declared.Asked.TheVariants.{Given, Refused as RefusedAsked}
+use Rattle.refusals.specs.declared.Refusal.{Refusal}
+use Rattle.settings.specs.declared.Agreement.{Agreement}
+use Rattle.settings.specs.Editions.{edition_number}
 use Rattle.settings.specs.Model.{ask}
 use Rattle.settings.specs.Words.{asked_words}
 use Rattle.settings.specs.Layout.{on_sheet}
 use Rattle.sfdu_headers.specs.Words.{Word, number}
 use Rattle.sfdu_headers.specs.Fields.{year, day}
 use Rattle.sfdu_headers.specs.RsrRecord.{rsr_rules, mission}
-use Rattle.sfdu_gain.specs.declared.GainAnswer.{GainAnswer}
-use Rattle.sfdu_gain.specs.declared.GainAnswer.TheVariants.{Refused}
+use Rattle.sfdu.specs.declared.RecordRefusal.{RecordRefusal}
+use Rattle.sfdu.specs.declared.RecordRefusal.TheVariants.{Alone}
 use Rattle.sfdu_gain.specs.Gain.{words_of, gaining, agreed_gain}
 
 -- The answer of `ask` for the record's mission on its day: 0, edition, first day, frame length; or a refusal's number.
@@ -29,11 +30,12 @@ AgreedIsGain = (sheet s : List ℕ) → agreed_gain sheet s ≡ judge (map numbe
 
 -- The same as a statement about answers. If `ask` gives a setting, the answer is that of `gain` for its edition. If `ask` refuses, the answer is that
 -- refusal, but the refusals of read headers come first.
-abbrev pub Agrees : List ℕ → Asked → GainAnswer → Type 0
-Agrees s (Given edition first frame) r = (g : GainAnswer) → words_of g ≡ gaining edition s → r ≡ g
-Agrees s (RefusedAsked why) r = words_of r ≡ judge (map number) (rsr_rules s) (words_of (Refused why))
+abbrev pub Agrees : List ℕ → Result Agreement Refusal → Result (Option ℕ) RecordRefusal → Type 0
+Agrees s (Ok x) r = (g : Result (Option ℕ) RecordRefusal) → words_of g ≡ gaining (edition_number x.edition) s → r ≡ g
+Agrees s (Err why) r = words_of r ≡ judge (map number) (rsr_rules s) (words_of (Err (Alone why)))
 
 abbrev pub AnswersAgree : Type 0
 AnswersAgree =
-    (sheet s : List ℕ) (asked : Asked) (r : GainAnswer) → asked_words asked ≡ asked_for sheet s → words_of r ≡ agreed_gain sheet s
+    (sheet s : List ℕ) (asked : Result Agreement Refusal) (r : Result (Option ℕ) RecordRefusal)
+    → asked_words asked ≡ asked_for sheet s → words_of r ≡ agreed_gain sheet s
     → Agrees s asked r

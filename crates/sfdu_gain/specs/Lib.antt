@@ -1,3 +1,2 @@
 pub mod Gain
 pub mod Agreed
-pub mod inner

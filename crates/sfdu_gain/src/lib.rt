@@ -3,88 +3,44 @@
 
 #![tactic(auto)]
 
-ghost use Rattle.std.specs.Prelude.{◌≡◌, [], ◌∷◌, ◌≤◌, length};
+ghost use Rattle.std.specs.Prelude.{◌≡◌, ◌≤◌, length};
 ghost use Rattle.sfdu.specs.declared.Kind.TheVariants.{Rsr as RsrKind};
 ghost use Rattle.sfdu.specs.Nesting.{data_value_at};
-ghost use Rattle.sfdu_headers.specs.Words.{number};
-ghost use Rattle.sfdu_gain.specs.Gain.{words_of, gain_of, gaining, agreed_gain};
-ghost use Rattle.sfdu_gain.specs.inner.Told.{told_gain};
+ghost use Rattle.settings.specs.Editions.{edition_number};
+ghost use Rattle.sfdu_gain.specs.Gain.{words_of, gain_word, gain_of, gaining, agreed_gain};
 
 use octets::numbers;
-use refusals::Refusal;
-use settings::Asked;
-use sfdu::{Fault, nesting};
-use sfdu_headers::rsr_record::Rsr;
-
-// The multiplier's four bytes as one number; Nothing in the old edition; or a refusal. `Header` is a refusal 1 to 12 of read headers, with its second number.
-#[derive(Clone, Copy)]
-pub enum GainAnswer {
-    Multiplier(u32),
-    Nothing,
-    Header(Fault),
-    Refused(Refusal),
-}
+use settings::Edition;
+use sfdu::{RecordRefusal, nesting};
 
 // The offset of the multiplier from the record's start.
 const GAIN_AT: usize = nesting::SECONDARY_AT + 208;
 
-pub fn gain(s: &[u8], edition: u32) -> GainAnswer
+// The multiplier's four bytes as one number; nothing in the old edition.
+pub fn gain(s: &[u8], edition: u32) -> Result<Option<u32>, RecordRefusal>
     ensures { words_of result ≡ gaining edition s.now }
 {
-    let found = sfdu_headers::rsr_record::read_rsr(s);
-    match found {
-        Rsr::Record {
-            size: _,
-            mission: _,
-            day_count: _,
-        } => {
-            if !settings::is_known(edition) {
-                return GainAnswer::Refused(Refusal::UnknownEdition);
-            }
-            gain_in(s, edition)
-        }
-        Rsr::Refused(f) => GainAnswer::Header(f),
-        Rsr::WrongKind => GainAnswer::Refused(Refusal::WrongKind),
-    }
+    sfdu_headers::rsr_record::read_rsr(s)?;
+    let edition = Edition::try_from(edition)?;
+    Ok(gain_in(s, edition))
 }
 
 // The gain for the edition of the setting in force for the record's mission on its day.
-pub fn agreed_gain(sheet: &[u8], s: &[u8]) -> GainAnswer
+pub fn agreed_gain(sheet: &[u8], s: &[u8]) -> Result<Option<u32>, RecordRefusal>
     ensures { words_of result ≡ agreed_gain sheet.now s.now }
 {
-    let found = sfdu_headers::rsr_record::read_rsr(s);
-    match found {
-        Rsr::Record {
-            size: _,
-            mission,
-            day_count,
-        } => told_gain(s, settings::ask(sheet, mission, day_count)),
-        Rsr::Refused(f) => GainAnswer::Header(f),
-        Rsr::WrongKind => GainAnswer::Refused(Refusal::WrongKind),
-    }
+    let rsr = sfdu_headers::rsr_record::read_rsr(s)?;
+    let agreement = settings::ask(sheet, rsr.mission, rsr.day_count)?;
+    Ok(gain_in(s, agreement.edition))
 }
 
-fn told_gain(s: &[u8], asked: Asked) -> GainAnswer
+// The gain of a whole RSR record.
+fn gain_in(s: &[u8], edition: Edition) -> Option<u32>
     requires { data_value_at RsrKind ≤ length s.now }
-    ensures { words_of result ≡ told_gain asked s.now }
+    ensures { gain_word result ≡ gain_of (edition_number edition) s.now }
 {
-    match asked {
-        Asked::Given {
-            edition,
-            day: _,
-            frame: _,
-        } => gain_in(s, edition),
-        Asked::Refused(why) => GainAnswer::Refused(why),
+    match edition {
+        Edition::Old => None,
+        Edition::New => Some(numbers::read_u32(s, GAIN_AT)),
     }
-}
-
-// The gain of a whole RSR record in a known edition.
-fn gain_in(s: &[u8], edition: u32) -> GainAnswer
-    requires { data_value_at RsrKind ≤ length s.now }
-    ensures { words_of result ≡ number 0 ∷ gain_of edition s.now ∷ [] }
-{
-    if edition == settings::NEW {
-        return GainAnswer::Multiplier(numbers::read_u32(s, GAIN_AT));
-    }
-    GainAnswer::Nothing
 }

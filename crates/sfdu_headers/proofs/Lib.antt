@@ -4,6 +4,7 @@ pub mod Reading
 pub mod Words
 pub mod Dates
 pub mod Keys
+pub mod Judged
 pub mod Streams
 pub mod Numbers
 pub mod Rules

@@ -4,13 +4,16 @@ use native.Mathlib.Omega.{arith}
 use mathlib.Core.List.{List, [], ◌∷◌}
 use mathlib.Core.Path.{◌≡◌, refl, sym, ap, subst, ◌∙◌}
 use borrow.Author.Tests.{eqb-true, not-false}
+use lib.Dec.{lit<}
 use lib.ListN.{length, get_or}
 use Rattle.refusals.proofs.Judged.{NoneHolds, First, Outcome, none, first, outcome, first-judge, none-applies}
 use Rattle.dates.specs.Calendar.{day_count}
 use Rattle.octets.specs.Octets.{part}
 use Rattle.sfdu.specs.declared.Kind.TheVariants.{Rsr}
+use Rattle.sfdu.specs.declared.RecordRefusal.{RecordRefusal}
+use Rattle.sfdu.specs.declared.RecordRefusal.TheVariants.{Fault as FaultRefusal, Alone}
 use Rattle.sfdu.specs.Nesting.{data_value_at}
-use Rattle.sfdu.specs.Read.{kind_of, record_length, read_rules, accepts, primary_of, data_part}
+use Rattle.sfdu.specs.Read.{kind_of, record_length, read_rules, accepts, primary_of, data_part, refusal_words}
 use Rattle.sfdu.proofs.Accepted.{Found, same_kind}
 use Rattle.sfdu.proofs.Parts.{room, data-part}
 use Rattle.sfdu_headers.specs.Fields.{year, day}
@@ -67,3 +70,8 @@ refused s ws l e = by (outcome (rsr_rules s))
     by : Outcome (rsr_rules s) → First (rsr_rules s) ws
     by (none h) = let n : length ws ≡ 4 = ap length (e ∙ read-accepted s h) in absurd (omega arith)
     by (first g f) = subst (First (rsr_rules s)) (sym (e ∙ first-judge (λ given. given) _ f)) f
+
+-- The words of a refusal.
+pub refused-by : (s : List ℕ) (e : RecordRefusal) → refusal_words e ≡ read_rsr s → First (rsr_rules s) (refusal_words e)
+refused-by s (FaultRefusal f) h = refused s _ (lit< tt) h
+refused-by s (Alone r) h = refused s _ (lit< tt) h

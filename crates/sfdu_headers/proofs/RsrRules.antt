@@ -4,25 +4,24 @@ use native.Mathlib.Omega.{arith}
 use mathlib.Core.Bool.{true, not, false≢true}
 use mathlib.Core.List.{List, [], ◌∷◌, map}
 use mathlib.Core.Path.{◌≡◌, refl, sym, ap, ◌∙◌}
-use lib.Dec.{eqb}
+use lib.Dec.{eqb, lit≤}
 use lib.ListN.{get_or, length}
 use Rattle.refusals.specs.Judge.{◌when◌, judge, answered, each}
 use Rattle.refusals.proofs.Judged.{NoneHolds, Outcome, none, first, outcome, none-judge, first-judge, judge-append}
 use Rattle.dates.specs.Calendar.{day_count}
 use Rattle.sfdu.specs.declared.Kind.{Kind}
 use Rattle.sfdu.specs.declared.Kind.TheVariants.{Telemetry, Rsr}
-use Rattle.sfdu.specs.declared.Primary.{Primary}
 use Rattle.sfdu.specs.Nesting.{kind_number}
-use Rattle.sfdu.specs.Read.{kind_of, record_length, read_rules, ◌giving◌}
+use Rattle.sfdu.specs.declared.RecordRefusal.{RecordRefusal}
+use Rattle.sfdu.specs.declared.RecordRefusal.TheVariants.{Fault as FaultRefusal, Alone}
+use Rattle.sfdu.specs.Read.{refusal_words, kind_of, record_length, read_rules, ◌giving◌}
 use Rattle.sfdu_headers.specs.Words.{Word, number, signed, none as no_number}
 use Rattle.sfdu_headers.specs.Fields.{year, day}
 use Rattle.sfdu_headers.specs.Ranges.{field_rules}
-use Rattle.sfdu_headers.specs.declared.TelemetryFields.{TelemetryFields}
-use Rattle.sfdu_headers.specs.declared.RsrSource.{RsrSource}
-use Rattle.sfdu_headers.specs.declared.RsrSignal.{RsrSignal}
-use Rattle.sfdu_headers.specs.declared.RsrReading.{RsrReading}
-use Rattle.sfdu_headers.specs.declared.ReceivedTime.{ReceivedTime}
-use Rattle.sfdu_headers.specs.declared.Headers.TheVariants.{Telemetry as TelemetryHeaders, Rsr as RsrHeaders}
+use Rattle.std.specs.Prelude.{Ok, Err}
+use Rattle.sfdu_headers.specs.declared.TelemetryHeaders.{TelemetryHeaders}
+use Rattle.sfdu_headers.specs.declared.RsrHeaders.{RsrHeaders}
+use Rattle.sfdu_headers.specs.declared.Headers.TheVariants.{Telemetry as OfTelemetry, Rsr as OfRsr}
 use Rattle.sfdu_headers.specs.Headers.{words_of, wrong_kind, accepted_fields, judged_fields, read_headers}
 use Rattle.sfdu_headers.specs.RsrRecord.{only, rsr_rules, HeadersRefuse, mission, read_rsr}
 use Rattle.sfdu_headers.proofs.Rules.{refuse, first-refuses, refuse-each, judge-each-of}
@@ -89,15 +88,20 @@ module _ (s : List ℕ) where
       by (first g f) =
           same_numbers ws g (e ∙ headers-refuse s ∙ first-judge (map number) (accepted_fields Rsr s) f) ∙ sym (first-judge (λ given. given) _ f)
 
+  short : (r : RecordRefusal) → length (refusal_words r) ≤ 2
+  short (FaultRefusal f) = lit≤ tt
+  short (Alone r) = lit≤ tt
+
+  pub refusal-words : (r : RecordRefusal) → words_of (Err r) ≡ read_headers (kind_number Rsr) s → refusal_words r ≡ read_rsr s
+  refusal-words r e = refused-words (refusal_words r) (short r) e
+
   -- An accepted RSR record, and none of telemetry.
-  pub rsr-words : (size : ℕ) (p : Primary) (from : RsrSource) (signal : RsrSignal) (time : RsrReading) (key day-count : ℕ)
-      → words_of (RsrHeaders size p from signal time key day-count) ≡ read_headers (kind_number Rsr) s
-      → 0 ∷ size ∷ p.mission ∷ day-count ∷ [] ≡ read_rsr s
-  rsr-words size p from signal time key day-count e =
+  pub rsr-headers : (h : RsrHeaders) → words_of (Ok (OfRsr h)) ≡ read_headers (kind_number Rsr) s
+      → 0 ∷ h.size ∷ h.primary.mission ∷ h.day_count ∷ [] ≡ read_rsr s
+  rsr-headers h e =
       let a = accepted-words _ e in
       let at : (i : ℕ) → _ = λ i. ap (λ (l : List Word). get_or (map back l) i 0) a.1 in
       rw (at 2, at 5, at 29) (sym (read-accepted a.0))
 
-  pub telemetry-words : (size : ℕ) (p : Primary) (fields : TelemetryFields) (key : ℕ) (time : ReceivedTime)
-      → words_of (TelemetryHeaders size p fields key time) ≡ read_headers (kind_number Rsr) s → ⊥
-  telemetry-words size p fields key time e = false≢true (cc (accepted-words _ e).1)
+  pub telemetry-headers : (h : TelemetryHeaders) → words_of (Ok (OfTelemetry h)) ≡ read_headers (kind_number Rsr) s → ⊥
+  telemetry-headers h e = false≢true (cc (accepted-words _ e).1)

@@ -1,16 +1,17 @@
 -- Different answers have different words. Assumes nothing.
-use mathlib.Core.Path.{refl, ap}
-use Rattle.sfdu.proofs.Words.{same-fault}
-use Rattle.sfdu_headers.specs.declared.rsr_record.Rsr.TheVariants.{Record, Refused, WrongKind}
-use Rattle.sfdu_headers.specs.RsrRecord.{DifferentRsr}
+use mathlib.Core.Path.{◌≡◌}
+use Rattle.refusals.specs.Words.{Different}
+use Rattle.refusals.proofs.Words.{results-differ}
+use Rattle.sfdu.specs.Read.{refusal_words}
+use Rattle.sfdu.proofs.Words.{same-refusal, refusals-refuse}
+use Rattle.sfdu_headers.specs.RsrRecord.{values_of, DifferentRsr}
+
+same-values : Different values_of
+same-values a b e =
+    let size : a.size ≡ b.size = cc in
+    let mission : a.mission ≡ b.mission = cc in
+    let day-count : a.day_count ≡ b.day_count = cc in
+    λ i. record { size = size i; mission = mission i; day_count = day-count i }
 
 pub same-rsr : DifferentRsr
-same-rsr (Record n m d) (Record o p q) e = cc
-same-rsr (Record n m d) (Refused f) e = cc
-same-rsr (Record n m d) WrongKind e = cc
-same-rsr (Refused f) (Record n m d) e = cc
-same-rsr (Refused f) (Refused g) e = ap Refused (same-fault f g e)
-same-rsr (Refused f) WrongKind e = cc
-same-rsr WrongKind (Record n m d) e = cc
-same-rsr WrongKind (Refused f) e = cc
-same-rsr WrongKind WrongKind e = refl
+same-rsr = results-differ refusal_words values_of refusals-refuse same-refusal same-values

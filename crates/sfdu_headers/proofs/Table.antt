@@ -9,8 +9,9 @@ use lib.Dec.{ltb}
 use lib.ListN.{length, get_or, drop}
 use lib.Seq.{drop-cons}
 use Rattle.refusals.specs.Judge.{judge}
-use Rattle.sfdu.specs.declared.Checked.{Checked}
-use Rattle.sfdu.specs.declared.Checked.TheVariants.{Right, Wrong}
+use Rattle.std.specs.Prelude.{Result, Ok, Err}
+use Rattle.refusals.specs.declared.Refusal.TheVariants.{FieldRange}
+use Rattle.sfdu.specs.declared.Fault.{Fault}
 use Rattle.sfdu.specs.inner.Checked.{checked}
 use Rattle.octets.specs.Octets.{all}
 use Rattle.octets.proofs.Laws.{all-at}
@@ -26,14 +27,14 @@ abbrev no_field : ByteRule
 no_field = record { at = 0; allowed = Between 0 0 }
 
 -- What is left to judge from entry i on.
-unfoldable pub fault_from : List ℕ → ℕ → Checked
-fault_from s i = checked (map (byte_rule s) (drop i judged_bytes))
+unfoldable pub fault_from : List ℕ → ℕ → Result (Unit {0}) Fault
+fault_from s i = checked FieldRange (map (byte_rule s) (drop i judged_bytes))
 
-pub from_start : (s : List ℕ) → checked (byte_rules s) ≡ fault_from s 0
+pub from_start : (s : List ℕ) → checked FieldRange (byte_rules s) ≡ fault_from s 0
 unfolding fault_from
 from_start s = refl
 
-pub from_end : (s : List ℕ) → fault_from s entries ≡ Right
+pub from_end : (s : List ℕ) → fault_from s entries ≡ Ok tt
 unfolding fault_from judged_bytes judge
 from_end s = refl
 
@@ -45,7 +46,7 @@ length-judged = refl
 -- entry lies before the year.
 module _ (table : List ByteRule) (same : table ≡ judged_bytes) (i : ℕ) (h : i < entries) where
   pub fault-here : (s : List ℕ) → in_range (get_or table i no_field).allowed (get_or s (get_or table i no_field).at 0) ≡ false
-      → fault_from s i ≡ Wrong (get_or table i no_field).at
+      → fault_from s i ≡ Err (record { refusal = FieldRange; at = (get_or table i no_field).at })
   unfolding fault_from judge
   fault-here s e =
       let l : i < length judged_bytes = rw length-judged h in

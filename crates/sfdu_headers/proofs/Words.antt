@@ -1,29 +1,33 @@
 -- Different answers have different words. Assumes nothing.
 use Prim.Native.Nat.{ℕ}
 use mathlib.Core.List.{List, ◌∷◌, [], map}
-use mathlib.Core.Path.{◌≡◌, refl, ap}
+use mathlib.Core.Path.{◌≡◌, refl, sym, ap}
 use Rattle.refusals.specs.Table.{number_of}
+use Rattle.refusals.proofs.Laws.{number-positive}
+use Rattle.std.specs.Prelude.{Option, Some, None, Ok, Err}
 use mathlib.Core.Bool.{false≢true}
 use lib.ListN.{take, drop}
 use Rattle.sfdu.specs.declared.Primary.{Primary}
-use Rattle.sfdu.specs.Read.{primary_words}
-use Rattle.sfdu.proofs.Words.{same-primary, same-fault}
-use Rattle.sfdu_headers.specs.declared.Band.{Band}
-use Rattle.sfdu_headers.specs.declared.Band.TheVariants.{Letter, Unused}
+use Rattle.sfdu.specs.Read.{primary_words, refusal_words}
+use Rattle.sfdu.proofs.Words.{same-primary, same-refusal}
+use Rattle.sfdu.specs.declared.RecordRefusal.{RecordRefusal}
+use Rattle.sfdu.specs.declared.RecordRefusal.TheVariants.{Fault as FaultRefusal, Alone}
 use Rattle.sfdu_headers.specs.declared.TelemetryFields.{TelemetryFields}
 use Rattle.sfdu_headers.specs.declared.RsrSource.{RsrSource}
 use Rattle.sfdu_headers.specs.declared.RsrSignal.{RsrSignal}
 use Rattle.sfdu_headers.specs.declared.RsrReading.{RsrReading}
 use Rattle.sfdu_headers.specs.declared.ReceivedTime.{ReceivedTime}
-use Rattle.sfdu_headers.specs.declared.Headers.TheVariants.{Telemetry, Rsr, Refused, WrongKind}
+use Rattle.sfdu_headers.specs.declared.TelemetryHeaders.{TelemetryHeaders}
+use Rattle.sfdu_headers.specs.declared.RsrHeaders.{RsrHeaders}
+use Rattle.sfdu_headers.specs.declared.Headers.TheVariants.{Telemetry, Rsr}
 use Rattle.sfdu_headers.specs.Words.{Word, number}
-use Rattle.sfdu_headers.specs.Headers.{band_word, telemetry_field_words, source_words, signal_words, time_words, received_words, DifferentHeaders}
+use Rattle.sfdu_headers.specs.Headers.{band_word, telemetry_field_words, source_words, signal_words, time_words, received_words, telemetry_words, rsr_words, DifferentHeaders}
 
-same-band : (a b : Band) → band_word a ≡ band_word b → a ≡ b
-same-band (Letter x) (Letter y) e = cc
-same-band (Letter x) Unused e = cc
-same-band Unused (Letter y) e = cc
-same-band Unused Unused e = cc
+same-band : (a b : Option ℕ) → band_word a ≡ band_word b → a ≡ b
+same-band (Some x) (Some y) e = cc
+same-band (Some x) None e = cc
+same-band None (Some y) e = cc
+same-band None None e = refl
 
 same-fields : (f g : TelemetryFields) → telemetry_field_words f ≡ telemetry_field_words g → f ≡ g
 same-fields f g e =
@@ -104,37 +108,47 @@ same-primary-words p q e =
     let d : p.format ≡ q.format = cc in
     same-primary p q (rw (a, b, c, d))
 
-pub same-headers : DifferentHeaders
-same-headers (Telemetry n p f key r) (Telemetry m q g l o) e =
-    let size : n ≡ m = same_number n m (ap (part 2 1) e) in
-    let primary = same-primary-words p q (ap (part 3 4) e) in
-    let fields = same-fields f g (ap (part 7 8) e) in
-    let k : key ≡ l = same_number key l (ap (part 15 1) e) in
-    let received = same_received r o (ap (part 16 3) e) in
-    λ i. Telemetry (size i) (primary i) (fields i) (k i) (received i)
-same-headers (Rsr n p f s t key c) (Rsr m q g u v l d) e =
-    let size : n ≡ m = same_number n m (ap (part 2 1) e) in
-    let primary = same-primary-words p q (ap (part 3 4) e) in
-    let source = same_source f g (ap (part 7 8) e) in
-    let signal = same-signal s u (ap (part 15 10) e) in
-    let time = same-time t v (ap (part 25 3) e) in
-    let k : key ≡ l = same_number key l (ap (part 28 1) e) in
-    let count : c ≡ d = same_number c d (ap (part 29 1) e) in
-    λ i. Rsr (size i) (primary i) (source i) (signal i) (time i) (k i) (count i)
-same-headers (Refused f) (Refused g) e =
+same-telemetry : (a b : TelemetryHeaders) → telemetry_words a ≡ telemetry_words b → a ≡ b
+same-telemetry a b e =
+    let size = same_number a.size b.size (ap (part 2 1) e) in
+    let primary = same-primary-words a.primary b.primary (ap (part 3 4) e) in
+    let fields = same-fields a.fields b.fields (ap (part 7 8) e) in
+    let key = same_number a.key b.key (ap (part 15 1) e) in
+    let received = same_received a.received b.received (ap (part 16 3) e) in
+    λ i. record { size = size i; primary = primary i; fields = fields i; key = key i; received = received i }
+
+same-rsr : (a b : RsrHeaders) → rsr_words a ≡ rsr_words b → a ≡ b
+same-rsr a b e =
+    let size = same_number a.size b.size (ap (part 2 1) e) in
+    let primary = same-primary-words a.primary b.primary (ap (part 3 4) e) in
+    let source = same_source a.source b.source (ap (part 7 8) e) in
+    let signal = same-signal a.signal b.signal (ap (part 15 10) e) in
+    let time = same-time a.time b.time (ap (part 25 3) e) in
+    let key = same_number a.key b.key (ap (part 28 1) e) in
+    let count = same_number a.day_count b.day_count (ap (part 29 1) e) in
+    λ i. record { size = size i; primary = primary i; source = source i; signal = signal i; time = time i; key = key i; day_count = count i }
+
+-- No refusal begins with 0.
+no-refusal : (r : RecordRefusal) (words : List Word) → map number (refusal_words r) ≡ number 0 ∷ words → ⊥
+no-refusal (FaultRefusal f) words e = number-positive f.refusal (cc)
+no-refusal (Alone r) words e = number-positive r (cc)
+
+same-numbers : (a b : RecordRefusal) → map number (refusal_words a) ≡ map number (refusal_words b) → refusal_words a ≡ refusal_words b
+same-numbers (FaultRefusal f) (FaultRefusal g) e =
     let n : number_of f.refusal ≡ number_of g.refusal = cc in
     let at : f.at ≡ g.at = cc in
-    ap Refused (same-fault f g (rw (n, at)))
-same-headers WrongKind WrongKind e = refl
-same-headers (Telemetry n p f key r) (Rsr m q g u v l d) e = absurd (false≢true cc)
-same-headers (Rsr m q g u v l d) (Telemetry n p f key r) e = absurd (false≢true cc)
-same-headers (Telemetry n p f key r) WrongKind e = cc
-same-headers WrongKind (Telemetry n p f key r) e = cc
-same-headers (Rsr m q g u v l d) WrongKind e = cc
-same-headers WrongKind (Rsr m q g u v l d) e = cc
-same-headers (Telemetry n p f key r) (Refused h) e = cc
-same-headers (Refused h) (Telemetry n p f key r) e = cc
-same-headers (Rsr m q g u v l d) (Refused h) e = cc
-same-headers (Refused h) (Rsr m q g u v l d) e = cc
-same-headers WrongKind (Refused h) e = cc
-same-headers (Refused h) WrongKind e = cc
+    rw (n, at)
+same-numbers (FaultRefusal f) (Alone r) e = cc
+same-numbers (Alone r) (FaultRefusal f) e = cc
+same-numbers (Alone r) (Alone s) e = let n : number_of r ≡ number_of s = cc in rw n
+
+pub same-headers : DifferentHeaders
+same-headers (Ok (Telemetry a)) (Ok (Telemetry b)) e = ap (λ h. Ok (Telemetry h)) (same-telemetry a b e)
+same-headers (Ok (Rsr a)) (Ok (Rsr b)) e = ap (λ h. Ok (Rsr h)) (same-rsr a b e)
+same-headers (Ok (Telemetry a)) (Ok (Rsr b)) e = absurd (false≢true cc)
+same-headers (Ok (Rsr a)) (Ok (Telemetry b)) e = absurd (false≢true cc)
+same-headers (Ok (Telemetry a)) (Err r) e = absurd (no-refusal r _ (sym e))
+same-headers (Ok (Rsr a)) (Err r) e = absurd (no-refusal r _ (sym e))
+same-headers (Err r) (Ok (Telemetry a)) e = absurd (no-refusal r _ e)
+same-headers (Err r) (Ok (Rsr a)) e = absurd (no-refusal r _ e)
+same-headers (Err r) (Err t) e = ap Err (same-refusal r t (same-numbers r t e))

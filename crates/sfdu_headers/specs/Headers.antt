@@ -1,6 +1,6 @@
 -- Document 01, "Calls on records": read headers. Assumes nothing.
 -- The manual, docs/INTERFACE.md: "Calls on records".
-use Rattle.std.specs.Prelude.{◌≡◌, ℕ, not, cond, List, [], ◌∷◌, ◌++◌, map, eqb}
+use Rattle.std.specs.Prelude.{◌≡◌, ℕ, Option, Some, None, Result, Ok, Err, not, cond, List, [], ◌∷◌, ◌++◌, map, eqb}
 use Rattle.refusals.specs.Judge.{◌when◌, judge, answered}
 use Rattle.refusals.specs.Table.{number_of}
 use Rattle.refusals.specs.declared.Refusal.TheVariants.{FieldRange, WrongKind as WrongKindRefusal}
@@ -9,16 +9,17 @@ use Rattle.dates.specs.Calendar.{day_count}
 use Rattle.sfdu.specs.declared.Kind.{Kind}
 use Rattle.sfdu.specs.declared.Kind.TheVariants.{Telemetry, Rsr}
 use Rattle.sfdu.specs.Nesting.{kind_number}
-use Rattle.sfdu.specs.Read.{primary_words, fault_words, primary_of, kind_of, record_length, read_rules}
-use Rattle.sfdu_headers.specs.declared.Band.{Band}
-use Rattle.sfdu_headers.specs.declared.Band.TheVariants.{Letter, Unused}
+use Rattle.sfdu.specs.declared.RecordRefusal.{RecordRefusal}
+use Rattle.sfdu.specs.Read.{primary_words, refusal_words, primary_of, kind_of, record_length, read_rules}
 use Rattle.sfdu_headers.specs.declared.TelemetryFields.{TelemetryFields}
 use Rattle.sfdu_headers.specs.declared.RsrSource.{RsrSource}
 use Rattle.sfdu_headers.specs.declared.RsrSignal.{RsrSignal}
 use Rattle.sfdu_headers.specs.declared.RsrReading.{RsrReading}
 use Rattle.sfdu_headers.specs.declared.ReceivedTime.{ReceivedTime}
+use Rattle.sfdu_headers.specs.declared.TelemetryHeaders.{TelemetryHeaders}
+use Rattle.sfdu_headers.specs.declared.RsrHeaders.{RsrHeaders}
 use Rattle.sfdu_headers.specs.declared.Headers.{Headers}
-use Rattle.sfdu_headers.specs.declared.Headers.TheVariants.{Telemetry as TelemetryHeaders, Rsr as RsrHeaders, Refused, WrongKind}
+use Rattle.sfdu_headers.specs.declared.Headers.TheVariants.{Telemetry as OfTelemetry, Rsr as OfRsr}
 use Rattle.sfdu_headers.specs.Words.{Word, number, signed, none}
 use Rattle.sfdu_headers.specs.Fields.{
   spacecraft,
@@ -58,9 +59,9 @@ use Rattle.sfdu_headers.specs.Ranges.{field_rules}
 
 -- ---- the words of an answer: the number and values of each case, in the order of the paper
 
-abbrev pub band_word : Band → Word
-band_word (Letter b) = number b
-band_word Unused = none
+abbrev pub band_word : Option ℕ → Word
+band_word (Some letter) = number letter
+band_word None = none
 
 abbrev pub telemetry_field_words : TelemetryFields → List Word
 telemetry_field_words f =
@@ -102,17 +103,21 @@ out_of_range at = number (number_of FieldRange) ∷ number at ∷ []
 abbrev pub wrong_kind : List Word
 wrong_kind = number (number_of WrongKindRefusal) ∷ []
 
-abbrev pub words_of : Headers → List Word
-words_of (TelemetryHeaders size primary fields key received) =
-    accepted Telemetry size (primary_words primary) (telemetry_field_words fields) key (received_words received)
-words_of (RsrHeaders size primary from signal time key day-count) =
-    accepted Rsr size (primary_words primary) (source_words from ++ signal_words signal ++ time_words time) key (number day-count ∷ [])
-words_of (Refused f) = map number (fault_words f)
-words_of WrongKind = wrong_kind
+abbrev pub telemetry_words : TelemetryHeaders → List Word
+telemetry_words h = accepted Telemetry h.size (primary_words h.primary) (telemetry_field_words h.fields) h.key (received_words h.received)
+
+abbrev pub rsr_words : RsrHeaders → List Word
+rsr_words h =
+    accepted Rsr h.size (primary_words h.primary) (source_words h.source ++ signal_words h.signal ++ time_words h.time) h.key (number h.day_count ∷ [])
+
+abbrev pub words_of : Result Headers RecordRefusal → List Word
+words_of (Ok (OfTelemetry h)) = telemetry_words h
+words_of (Ok (OfRsr h)) = rsr_words h
+words_of (Err refusal) = map number (refusal_words refusal)
 
 -- Different answers have different words.
 abbrev pub DifferentHeaders : Type 0
-DifferentHeaders = (a b : Headers) → words_of a ≡ words_of b → a ≡ b
+DifferentHeaders = (a b : Result Headers RecordRefusal) → words_of a ≡ words_of b → a ≡ b
 
 -- ---- the fields and the key of a record
 

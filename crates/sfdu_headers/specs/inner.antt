@@ -3,3 +3,4 @@ pub mod Parts
 pub mod Fault
 pub mod Numbers
 pub mod Streams
+pub mod Found

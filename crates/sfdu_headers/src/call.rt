@@ -5,34 +5,33 @@ ghost use Rattle.sfdu_headers.specs.Headers.{words_of, read_headers};
 ghost use Rattle.sfdu_headers.specs.inner.Numbers.{number_in};
 ghost use Rattle.sfdu_headers.specs.inner.Streams.{stream_key_in};
 
-use crate::{Headers, StreamKey, rsr, telemetry};
-use sfdu::{Kind, Read, nesting};
+use crate::{Headers, rsr, telemetry};
+use refusals::Refusal;
+use sfdu::{Kind, RecordRefusal, nesting};
 
 // The headers of the first record of a slice, if it is of the wanted kind. Each kind returns its own answer: if both went through one variable, LLVM
 // would copy every field.
-pub fn read_headers(s: &[u8], wanted: u32) -> Headers
+pub fn read_headers(s: &[u8], wanted: u32) -> Result<Headers, RecordRefusal>
     ensures { words_of result ≡ read_headers wanted s.now }
 {
-    let found = sfdu::read_one(s);
-    match found {
-        Read::Record {
-            kind,
-            size,
-            primary,
-        } => {
-            if wanted != nesting::kind_number(kind) {
-                return Headers::WrongKind;
-            }
-            match kind {
-                Kind::Telemetry => return telemetry::fields(s, size, primary),
-                Kind::Rsr => return rsr::fields(s, size, primary),
-            }
+    let found = sfdu::read_one(s)?;
+    let kind = found.kind;
+    if wanted != u32::from(kind) {
+        return Err(RecordRefusal::Alone(Refusal::WrongKind));
+    }
+    match kind {
+        Kind::Telemetry => {
+            let headers = telemetry::headers(s, found.size, found.primary)?;
+            return Ok(Headers::Telemetry(headers));
         }
-        Read::Refused(f) => Headers::Refused(f),
+        Kind::Rsr => {
+            let headers = rsr::headers(s, found.size, found.primary)?;
+            return Ok(Headers::Rsr(headers));
+        }
     }
 }
 
-// The record number of a record of this kind; 0 if the slice is too short for one.
+// The record number of a record of this kind; 0 if the slice is too short for one. A number, since the contract says `number_in`, which is 0 there.
 pub fn record_number(s: &[u8], kind: Kind) -> u32
     ensures { result ≡ number_in kind s.now }
 {
@@ -45,8 +44,8 @@ pub fn record_number(s: &[u8], kind: Kind) -> u32
     }
 }
 
-// The stream key of a record that is known to be whole. Its blocks are not tested again.
-pub fn stream_key(s: &[u8], kind: Kind) -> StreamKey
+// The stream key of a record that is known to be whole, if no field of its header is out of range. Its blocks are not tested again.
+pub fn stream_key(s: &[u8], kind: Kind) -> Option<u64>
     requires { data_value_at kind ≤ length s.now }
     ensures { result ≡ stream_key_in kind s.now }
 {

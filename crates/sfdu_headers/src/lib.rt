@@ -9,23 +9,16 @@ pub mod rsr_record;
 mod telemetry;
 
 pub use call::{read_headers, record_number, stream_key};
-use sfdu::{Checked, Fault, Primary};
+use sfdu::Primary;
 
-// The uplink band of a telemetry record; unused if the predicts mode has no band.
-#[derive(Clone, Copy)]
-pub enum Band {
-    Letter(u8),
-    Unused,
-}
-
-// The fields of a telemetry record's secondary block.
+// The fields of a telemetry record's secondary block. The uplink band is unused if the predicts mode has no band.
 #[derive(Clone, Copy)]
 pub struct TelemetryFields {
     pub spacecraft: u16,
     pub source: u8,
     pub received: u64,
     pub number: u32,
-    pub uplink: Band,
+    pub uplink: Option<u8>,
     pub mode: u8,
     pub stream: u8,
     pub equipment: u16,
@@ -75,14 +68,8 @@ pub struct ReceivedTime {
     pub extended: u16,
 }
 
-// Whether an RSR record's year and day are right; if they are, their day count. (Public because the prover needs it.)
-#[derive(Clone, Copy)]
-pub struct Dated {
-    pub checked: Checked,
-    pub count: u32,
-}
-
-// The values that a tested byte may have. (Public because the prover needs it.)
+// The values that a tested byte may have. (Public because the prover needs it.) Its own enum, since both variants say which values: a range, or the
+// letters of the bands.
 #[derive(Clone, Copy)]
 pub enum Allowed {
     Between(u8, u8),
@@ -96,33 +83,31 @@ pub struct ByteRule {
     pub allowed: Allowed,
 }
 
-// The stream key of a record; none if a field of its header is out of range.
+// A telemetry record: its length, its primary value, its fields, its stream key and its received time.
 #[derive(Clone, Copy)]
-pub enum StreamKey {
-    Key(u64),
-    OutOfRange,
+pub struct TelemetryHeaders {
+    pub size: usize,
+    pub primary: Primary,
+    pub fields: TelemetryFields,
+    pub key: u64,
+    pub received: ReceivedTime,
 }
 
-// The answer of read headers: the record's length, its primary value, its fields, its stream key, and the received time or the day count; or a
-// refusal with its second number; or that the record is of the other kind.
+// An RSR record: its length, its primary value, its fields, its stream key and its day count.
+#[derive(Clone, Copy)]
+pub struct RsrHeaders {
+    pub size: usize,
+    pub primary: Primary,
+    pub source: RsrSource,
+    pub signal: RsrSignal,
+    pub time: RsrReading,
+    pub key: u64,
+    pub day_count: u32,
+}
+
+// What read headers finds.
 #[derive(Clone, Copy)]
 pub enum Headers {
-    Telemetry {
-        size: usize,
-        primary: Primary,
-        fields: TelemetryFields,
-        key: u64,
-        received: ReceivedTime,
-    },
-    Rsr {
-        size: usize,
-        primary: Primary,
-        source: RsrSource,
-        signal: RsrSignal,
-        time: RsrReading,
-        key: u64,
-        day_count: u32,
-    },
-    Refused(Fault),
-    WrongKind,
+    Telemetry(TelemetryHeaders),
+    Rsr(RsrHeaders),
 }

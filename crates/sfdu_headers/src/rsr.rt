@@ -4,15 +4,16 @@ ghost use Rattle.sfdu.specs.declared.Kind.TheVariants.{Rsr};
 ghost use Rattle.sfdu.specs.Nesting.{data_value_at, secondary_at};
 ghost use Rattle.sfdu.specs.Read.{primary_words, primary_of, record_length};
 ghost use Rattle.sfdu.specs.inner.Checked.{checked};
+ghost use Rattle.refusals.specs.declared.Refusal.TheVariants.{FieldRange};
 ghost use Rattle.dates.specs.Calendar.{is_year};
-ghost use Rattle.sfdu_headers.specs.inner.Dated.{IsDated};
+ghost use Rattle.sfdu_headers.specs.inner.Found.{found_words};
+ghost use Rattle.sfdu_headers.specs.inner.Dated.{dated};
 ghost use Rattle.sfdu_headers.specs.inner.Streams.{stream_key_in};
 ghost use Rattle.sfdu_headers.specs.Fields.{record_number, signed_byte, year_at, day_at};
 ghost use Rattle.sfdu_headers.specs.Headers.{
-  words_of,
   accepted_fields,
   judged_fields,
-  out_of_range,
+  rsr_words,
   source_words,
   source_of,
   signal_words,
@@ -26,10 +27,9 @@ ghost use Rattle.sfdu_headers.specs.Words.{number};
 
 use crate as headers;
 use crate::bands;
-use dates::CountAnswer;
 use octets::numbers;
 use refusals::Refusal;
-use sfdu::{Checked, Fault, Primary, nesting};
+use sfdu::{Fault, Primary, nesting};
 
 // The offsets of the fields from the record's start.
 const SOFTWARE_AT: usize = nesting::SECONDARY_AT + 6;
@@ -118,38 +118,25 @@ const BYTE_RULES: [headers::ByteRule; 10] = [
     },
 ];
 
-// The fields, the key and the day count of a whole RSR record; or the offset of the lowest field that is out of range.
-pub(crate) fn fields(s: &[u8], size: usize, primary: Primary) -> headers::Headers
+// The fields, the key and the day count of a whole RSR record; or the offset of the lowest field that is out of range. Said in each, since a struct for
+// what is known of the slice, its length and its primary value would say the same in its invariant, and each contract would speak of the slice in it.
+pub(crate) fn headers(s: &[u8], size: usize, primary: Primary) -> Result<headers::RsrHeaders, Fault>
     requires { (size ≡ record_length s.now) × (primary_words primary ≡ primary_of s.now) × (data_value_at Rsr ≤ length s.now) }
-    ensures { words_of result ≡ judged_fields Rsr s.now }
+    ensures { found_words rsr_words result ≡ judged_fields Rsr s.now }
 {
-    let bytes = byte_fault(s);
-    if let Checked::Wrong(at) = bytes {
-        return out_of_range(at);
-    }
-    let dated = read_date(s);
-    let date = dated.checked;
-    if let Checked::Wrong(at) = date {
-        return out_of_range(at);
-    }
-    read_fields(s, size, primary, dated.count)
+    judge_bytes(s)?;
+    let count = read_date(s)?;
+    Ok(read_fields(s, size, primary, count))
 }
 
 // The stream key, if no field is out of range.
-pub(crate) fn stream_key(s: &[u8]) -> headers::StreamKey
+pub(crate) fn stream_key(s: &[u8]) -> Option<u64>
     requires { data_value_at Rsr ≤ length s.now }
     ensures { result ≡ stream_key_in Rsr s.now }
 {
-    let bytes = byte_fault(s);
-    if let Checked::Wrong(_) = bytes {
-        return headers::StreamKey::OutOfRange;
-    }
-    let dated = read_date(s);
-    let date = dated.checked;
-    if let Checked::Wrong(_) = date {
-        return headers::StreamKey::OutOfRange;
-    }
-    headers::StreamKey::Key(keys::rsr_key_of(
+    judge_bytes(s).ok()?;
+    read_date(s).ok()?;
+    Some(keys::rsr_key_of(
         s[SPACECRAFT_AT],
         s[STATION_AT],
         s[RECEIVER_AT],
@@ -157,19 +144,19 @@ pub(crate) fn stream_key(s: &[u8]) -> headers::StreamKey
     ))
 }
 
-fn out_of_range(at: usize) -> headers::Headers
-    ensures { words_of result ≡ out_of_range at }
+fn out_of_range(at: usize) -> Fault
+    ensures { result ≡ record { refusal = FieldRange; at = at } }
 {
-    headers::Headers::Refused(Fault {
+    Fault {
         refusal: Refusal::FieldRange,
         at,
-    })
+    }
 }
 
-fn read_fields(s: &[u8], size: usize, primary: Primary, count: u32) -> headers::Headers
+fn read_fields(s: &[u8], size: usize, primary: Primary, count: u32) -> headers::RsrHeaders
     requires { (size ≡ record_length s.now) × (primary_words primary ≡ primary_of s.now) × (data_value_at Rsr ≤ length s.now)
         × (number count ∷ [] ≡ added_of Rsr s.now) }
-    ensures { words_of result ≡ accepted_fields Rsr s.now }
+    ensures { rsr_words result ≡ accepted_fields Rsr s.now }
 {
     let source = read_source(s);
     let signal = read_signal(s);
@@ -180,7 +167,7 @@ fn read_fields(s: &[u8], size: usize, primary: Primary, count: u32) -> headers::
         source.receiver,
         source.subchannel,
     );
-    headers::Headers::Rsr {
+    headers::RsrHeaders {
         size,
         primary,
         source,
@@ -191,21 +178,18 @@ fn read_fields(s: &[u8], size: usize, primary: Primary, count: u32) -> headers::
     }
 }
 
-// The lowest tested byte that is out of range. The table is a local before the loop, so LLVM unrolls the loop and each entry is a constant.
-fn byte_fault(s: &[u8]) -> Checked
+// Refuses the lowest tested byte that is out of range. The table is a local before the loop, so LLVM unrolls the loop and each entry is a constant.
+fn judge_bytes(s: &[u8]) -> Result<(), Fault>
     requires { data_value_at Rsr ≤ length s.now }
-    ensures { result ≡ checked (byte_rules s.now) }
+    ensures { result ≡ checked FieldRange (byte_rules s.now) }
 {
     let table = BYTE_RULES;
-    for i in 0..table.len() {
-        let field = table[i];
-        let at = field.at;
-        let allowed = field.allowed;
-        if !in_range(allowed, s[at]) {
-            return Checked::Wrong(at);
+    for rule in &table {
+        if !in_range(rule.allowed, s[rule.at]) {
+            return Err(out_of_range(rule.at));
         }
     }
-    Checked::Right
+    Ok(())
 }
 
 fn in_range(allowed: headers::Allowed, b: u8) -> bool
@@ -217,24 +201,17 @@ fn in_range(allowed: headers::Allowed, b: u8) -> bool
     }
 }
 
-// The year and the day: which of them is out of range, or their day count.
-fn read_date(s: &[u8]) -> headers::Dated
+// The day count of the year and the day; refuses the one of them that is out of range.
+fn read_date(s: &[u8]) -> Result<u32, Fault>
     requires { data_value_at Rsr ≤ length s.now }
-    ensures { IsDated s.now result }
+    ensures { result ≡ dated s.now }
 {
     let year = numbers::read_u16(s, YEAR_AT);
     let day = numbers::read_u16(s, DAY_AT);
-    let answer = dates::day_count(year, day);
-    match answer {
-        CountAnswer::Day(count) => headers::Dated {
-            checked: Checked::Right,
-            count,
-        },
-        CountAnswer::NotADate => headers::Dated {
-            checked: Checked::Wrong(wrong_date_at(year)),
-            count: 0,
-        },
-    }
+    let Some(count) = dates::day_count(year, day) else {
+        return Err(out_of_range(wrong_date_at(year)));
+    };
+    Ok(count)
 }
 
 // The offset of the wrong field, if a year and a day are no date: the year's, or the day's if the year is right.

@@ -3,47 +3,28 @@ ghost use Rattle.std.specs.Prelude.{◌≡◌};
 ghost use Rattle.sfdu_headers.specs.RsrRecord.{words_of, read_rsr};
 
 use crate::Headers;
-use sfdu::{Fault, nesting};
+use refusals::Refusal;
+use sfdu::{Kind, RecordRefusal};
 
-// The record's length, the mission of its primary value, and its day count; or a refusal.
+// The record's length, the mission of its primary value, and its day count.
 #[derive(Clone, Copy)]
-pub enum Rsr {
-    Record {
-        size: usize,
-        mission: u8,
-        day_count: u32,
-    },
-    Refused(Fault),
-    WrongKind,
+pub struct RsrRecord {
+    pub size: usize,
+    pub mission: u8,
+    pub day_count: u32,
 }
 
-pub fn read_rsr(s: &[u8]) -> Rsr
+pub fn read_rsr(s: &[u8]) -> Result<RsrRecord, RecordRefusal>
     ensures { words_of result ≡ read_rsr s.now }
 {
-    let headers = crate::read_headers(s, nesting::RSR_NUMBER);
-    match headers {
-        Headers::Rsr {
-            size,
-            primary,
-            source: _,
-            signal: _,
-            time: _,
-            key: _,
-            day_count,
-        } => Rsr::Record {
-            size,
-            mission: primary.mission,
-            day_count,
-        },
-        Headers::Refused(f) => Rsr::Refused(f),
-        Headers::WrongKind => Rsr::WrongKind,
+    let found = crate::read_headers(s, u32::from(Kind::Rsr))?;
+    match found {
+        Headers::Rsr(headers) => Ok(RsrRecord {
+            size: headers.size,
+            mission: headers.primary.mission,
+            day_count: headers.day_count,
+        }),
         // Cannot happen: the caller wants kind 2.
-        Headers::Telemetry {
-            size: _,
-            primary: _,
-            fields: _,
-            key: _,
-            received: _,
-        } => Rsr::WrongKind,
+        Headers::Telemetry(_) => Err(RecordRefusal::Alone(Refusal::WrongKind)),
     }
 }

@@ -4,16 +4,17 @@ ghost use Rattle.sfdu.specs.declared.Kind.TheVariants.{Telemetry};
 ghost use Rattle.sfdu.specs.Nesting.{data_value_at};
 ghost use Rattle.sfdu.specs.Read.{primary_words, primary_of, record_length};
 ghost use Rattle.sfdu_headers.specs.Fields.{record_number, spacecraft, has_band, uplink};
-ghost use Rattle.sfdu_headers.specs.Headers.{words_of, judged_fields, telemetry_field_words, fields_of, band_word, received_words};
+ghost use Rattle.sfdu_headers.specs.Headers.{telemetry_words, judged_fields, telemetry_field_words, fields_of, band_word, received_words};
 ghost use Rattle.sfdu_headers.specs.inner.Parts.{extended_values, millisecond_values};
+ghost use Rattle.sfdu_headers.specs.inner.Found.{found_words};
 ghost use Rattle.sfdu_headers.specs.inner.Fault.{fault};
 ghost use Rattle.sfdu_headers.specs.inner.Streams.{stream_key_in};
 ghost use Rattle.sfdu_headers.specs.Words.{number, none};
 
-use crate::{Band, Headers, ReceivedTime, StreamKey, TelemetryFields, bands};
+use crate::{ReceivedTime, TelemetryFields, TelemetryHeaders, bands};
 use octets::numbers;
 use refusals::Refusal;
-use sfdu::{Checked, Fault, Primary, nesting};
+use sfdu::{Fault, Primary, nesting};
 
 // The offsets of the fields from the record's start.
 const SPACECRAFT_AT: usize = nesting::SECONDARY_AT + 6;
@@ -37,18 +38,13 @@ const STREAM_AT: usize = nesting::SECONDARY_AT + 30;
 
 const EQUIPMENT_AT: usize = nesting::SECONDARY_AT + 74;
 
-// The fields and the key of a whole telemetry record; or the offset of the band, if it is out of range.
-pub(crate) fn fields(s: &[u8], size: usize, primary: Primary) -> Headers
+// The fields and the key of a whole telemetry record; or the offset of the band, if it is out of range. Said in each, since a struct for what is known
+// of the slice, its length and its primary value would say the same in its invariant, and each contract would speak of the slice in it.
+pub(crate) fn headers(s: &[u8], size: usize, primary: Primary) -> Result<TelemetryHeaders, Fault>
     requires { (size ≡ record_length s.now) × (primary_words primary ≡ primary_of s.now) × (data_value_at Telemetry ≤ length s.now) }
-    ensures { words_of result ≡ judged_fields Telemetry s.now }
+    ensures { found_words telemetry_words result ≡ judged_fields Telemetry s.now }
 {
-    let checked = band_fault(s);
-    if let Checked::Wrong(at) = checked {
-        return Headers::Refused(Fault {
-            refusal: Refusal::FieldRange,
-            at,
-        });
-    }
+    judge_band(s)?;
     let fields = read_fields(s);
     let key = keys::telemetry_key_of(
         fields.spacecraft,
@@ -57,40 +53,40 @@ pub(crate) fn fields(s: &[u8], size: usize, primary: Primary) -> Headers
         fields.stream,
     );
     let received = split(fields.received);
-    Headers::Telemetry {
+    Ok(TelemetryHeaders {
         size,
         primary,
         fields,
         key,
         received,
-    }
+    })
 }
 
 // The stream key, if the band is in range.
-pub(crate) fn stream_key(s: &[u8]) -> StreamKey
+pub(crate) fn stream_key(s: &[u8]) -> Option<u64>
     requires { data_value_at Telemetry ≤ length s.now }
     ensures { result ≡ stream_key_in Telemetry s.now }
 {
-    let checked = band_fault(s);
-    if let Checked::Wrong(_) = checked {
-        return StreamKey::OutOfRange;
-    }
+    judge_band(s).ok()?;
     let equipment = numbers::read_u16(s, EQUIPMENT_AT);
-    StreamKey::Key(keys::telemetry_key_of(spacecraft(s), s[SOURCE_AT], equipment, s[STREAM_AT]))
+    Some(keys::telemetry_key_of(spacecraft(s), s[SOURCE_AT], equipment, s[STREAM_AT]))
 }
 
-// The band's offset, if the record has a band and its letter is not one; else Right.
-fn band_fault(s: &[u8]) -> Checked
+// Refuses a band that is not one of the letters, if the record has a band.
+fn judge_band(s: &[u8]) -> Result<(), Fault>
     requires { data_value_at Telemetry ≤ length s.now }
     ensures { result ≡ fault Telemetry s.now }
 {
     if !has_band(s) {
-        return Checked::Right;
+        return Ok(());
     }
     if bands::is_telemetry_band(s[UPLINK_AT]) {
-        return Checked::Right;
+        return Ok(());
     }
-    Checked::Wrong(UPLINK_AT)
+    Err(Fault {
+        refusal: Refusal::FieldRange,
+        at: UPLINK_AT,
+    })
 }
 
 fn has_band(s: &[u8]) -> bool
@@ -138,14 +134,14 @@ fn spacecraft(s: &[u8]) -> u16
     (s[SPACECRAFT_AT] % 4) as u16 * 256 + s[SPACECRAFT_AT + 1] as u16
 }
 
-fn band(s: &[u8]) -> Band
+fn band(s: &[u8]) -> Option<u8>
     requires { data_value_at Telemetry ≤ length s.now }
     ensures { band_word result ≡ cond (has_band s.now) (number (uplink s.now)) none }
 {
     if has_band(s) {
-        return Band::Letter(s[UPLINK_AT]);
+        return Some(s[UPLINK_AT]);
     }
-    Band::Unused
+    None
 }
 
 pub(crate) fn number(s: &[u8]) -> u32

@@ -13,8 +13,7 @@ use Rattle.sfdu_list_text.specs.Text.{line, last_line, most_last}
 use Rattle.sfdu_list_text.specs.inner.Room.{line_room}
 use Rattle.sfdu_list_text.specs.Listing.{buffer_size}
 use Rattle.sfdu_list_text.specs.Window.{cut_short, most_text}
-use Rattle.sfdu_list_text.specs.declared.Found.TheVariants.{Record, More, Stop}
-use Rattle.sfdu_list_text.specs.inner.Window.{Drains, found_in}
+use Rattle.sfdu_list_text.specs.inner.Window.{Record, More, Stop, Drains, found_in}
 use Rattle.sfdu_list_text.proofs.Judging.{whole-record, FoundRecord, FoundStop, found-record, found-stop, found-more}
 use Rattle.text.proofs.Laid.{nothing, then}
 use Rattle.sfdu_list_text.proofs.Streams.{Underway, begins, goes, stops}

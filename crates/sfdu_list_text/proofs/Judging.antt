@@ -50,11 +50,10 @@ use Rattle.sfdu.proofs.Accepted.{in-range, record-length}
 use Rattle.sfdu_headers.specs.Fields.{record_number}
 use Rattle.sfdu_stream.specs.Walk.{whole_by, full, refusal_by}
 use Rattle.streaming.specs.Window.{over_rule, is_long, is_over, telling, stop_of}
-use Rattle.sfdu_list_text.specs.declared.Found.TheVariants.{Record, More, Stop}
 use Rattle.sfdu_list_text.specs.Listing.{buffer_size, list_rules, or_zero}
 use Rattle.sfdu_list_text.specs.inner.Stops.{whole, stop_words}
 use Rattle.sfdu_list_text.specs.Window.{gives_count, cut_short}
-use Rattle.sfdu_list_text.specs.inner.Window.{stop_found, found_at, found_in}
+use Rattle.sfdu_list_text.specs.inner.Window.{Record, More, Stop, stop_found, found_at, found_in}
 use Rattle.sfdu_list_text.proofs.Rows.{skip, pass, first-front, first-behind, Stands, before, there, behind, stands}
 
 -- ---- the rules between 1 and 6, and behind 6

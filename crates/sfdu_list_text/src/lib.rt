@@ -6,9 +6,11 @@ mod lines;
 mod window;
 
 pub use lines::begin;
+use streaming::window::Stop;
 pub use window::list_piece;
 
 // What stands at a place of the window. (Public because the prover needs it.)
+// Its own enum, since there are three outcomes: a record, too few bytes to say, and a stop.
 #[derive(Clone, Copy)]
 pub enum Found {
     Record {
@@ -18,12 +20,13 @@ pub enum Found {
     },
     // The window ends too early to say, and more of the stream may come.
     More,
-    // The stream's end (0) or the refusal of the record there; and its second number, 0 if there is none.
-    Stop(u32, u64),
+    // Why the record there is refused; nothing at the stream's end.
+    Stop(Option<Stop>),
 }
 
 // The result of listing a window: how many of its bytes are used, where the text ends, and whether the last line is there. (Public because the prover
 // needs it.)
+// A flag, since the counts beside it hold with the last line and without it.
 #[derive(Clone, Copy)]
 pub struct Drained {
     pub used: usize,

@@ -7,9 +7,11 @@ ghost use Rattle.sfdu_list_text.specs.inner.Room.{most_line, line_room};
 ghost use Rattle.streaming.specs.Run.{begun};
 ghost use Rattle.text.specs.Text.{space, Puts};
 ghost use Rattle.sfdu_list_text.specs.Window.{of_streams};
+ghost use Rattle.sfdu_list_text.specs.inner.Window.{number_told, beside_told};
 
 use sfdu::Kind;
 use streaming::State;
+use streaming::window::Stop;
 
 // Writes the first line. Gives the state of a listing that has read nothing yet.
 pub fn begin(out: &mut [u8]) -> State
@@ -55,7 +57,16 @@ pub(crate) fn put_line(
 }
 
 // Writes the last line: the stop place, the stop number, and its second number.
-pub(crate) fn put_last(out: &mut [u8], at: usize, place: u64, number: u32, beside: u64) -> usize
+pub(crate) fn put_last(out: &mut [u8], at: usize, place: u64, stop: Option<Stop>) -> usize
+    requires { at + most_last ≤ length out.old }
+    ensures puts { Puts out.old out.new at result (last_line place (number_told stop ∷ beside_told stop ∷ [])) }
+    ensures upper_bound { result ≤ at + most_last }
+{
+    let (number, beside) = numbers(stop);
+    put_numbers(out, at, place, number, beside)
+}
+
+fn put_numbers(out: &mut [u8], at: usize, place: u64, number: u32, beside: u64) -> usize
     requires { at + most_last ≤ length out.old }
     ensures puts { Puts out.old out.new at result (last_line place (number ∷ beside ∷ [])) }
     ensures upper_bound { result ≤ at + most_last }
@@ -63,4 +74,14 @@ pub(crate) fn put_last(out: &mut [u8], at: usize, place: u64, number: u32, besid
     let a = text::put_numeral(out, at, place, text::SPACE);
     let b = text::put_numeral(out, a, number as u64, text::SPACE);
     text::put_numeral(out, b, beside, text::LINE_END)
+}
+
+// The stop number and its second number, both 0 at the stream's end.
+fn numbers(stop: Option<Stop>) -> (u32, u64)
+    ensures { (result.0 ≡ number_told stop) × (result.1 ≡ beside_told stop) }
+{
+    match stop {
+        None => (0, 0),
+        Some(stop) => (refusals::number(stop.refusal), stop.beside),
+    }
 }

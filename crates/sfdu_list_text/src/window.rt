@@ -4,32 +4,24 @@ ghost use Rattle.streaming.specs.Listing.{Lists};
 ghost use Rattle.sfdu.specs.Read.{fault_words, read_one};
 ghost use Rattle.sfdu_list_text.specs.Listing.{buffer_size};
 ghost use Rattle.sfdu_list_text.specs.Window.{most_text, of_streams};
-ghost use Rattle.sfdu_list_text.specs.inner.Window.{found_in, Drains, Ready};
+ghost use Rattle.sfdu_list_text.specs.inner.Window.{seen, found_in, Drains, Ready};
 
 use crate::{Drained, Found, lines};
-use sfdu::{Fault, Read};
+use sfdu::Fault;
 use streaming::{State, window};
-
-// The stop number of the stream's end.
-const END: u32 = 0;
 
 // The record at the start of `s`, which is the window from a place of the stream on. `last` says that the stream ends with the window.
 fn judge(s: &[u8], place: u64, last: bool) -> Found
     requires { (length s.now ≤ buffer_size) × (place + length s.now < 2 ^ 64) }
-    ensures { result ≡ found_in place s.now last }
+    ensures { seen result ≡ found_in place s.now last }
 {
-    let read = sfdu::read_one(s);
-    match read {
-        Read::Record {
-            kind,
-            size,
-            primary: _,
-        } => Found::Record {
-            kind,
-            size,
-            number: sfdu_headers::record_number(s, kind),
+    match sfdu::read_one(s) {
+        Ok(record) => Found::Record {
+            kind: record.kind,
+            size: record.size,
+            number: sfdu_headers::record_number(s, record.kind),
         },
-        Read::Refused(fault) => stop(s, place, last, fault),
+        Err(fault) => stop(s, place, last, fault),
     }
 }
 
@@ -37,16 +29,16 @@ fn judge(s: &[u8], place: u64, last: bool) -> Found
 // stream, that is its end.
 fn stop(s: &[u8], place: u64, last: bool, fault: Fault) -> Found
     requires { (length s.now ≤ buffer_size) × (place + length s.now < 2 ^ 64) × (fault_words fault ≡ read_one s.now) }
-    ensures { result ≡ found_in place s.now last }
+    ensures { seen result ≡ found_in place s.now last }
 {
     let stop = window::stop_in(s, place, fault);
-    if window::is_count(stop.number) & !last {
+    if window::is_count(stop.refusal) & !last {
         return Found::More;
     }
     if s.len() == 0 {
-        return Found::Stop(END, 0);
+        return Found::Stop(None);
     }
-    Found::Stop(stop.number, stop.beside)
+    Found::Stop(Some(stop))
 }
 
 // Writes a line for each whole record of the window, from index `start` of `out` on; and the last line if the listing is done. `place` is the place
@@ -57,13 +49,14 @@ fn drain(w: &[u8], place: u64, last: bool, out: &mut [u8], start: usize) -> Drai
 {
     let mut at = 0;
     let mut end = start;
+    // By index, since each turn goes on by as many bytes as its record has.
     loop {
         let here = place + at as u64;
         let found = judge(&w[at..], here, last);
         match found {
             Found::Record { kind, size, number } => {
                 end = lines::put_line(out, end, here, size, kind, number);
-                at = at + size;
+                at += size;
             }
             Found::More => {
                 return Drained {
@@ -72,8 +65,8 @@ fn drain(w: &[u8], place: u64, last: bool, out: &mut [u8], start: usize) -> Drai
                     done: false,
                 };
             }
-            Found::Stop(number, beside) => {
-                end = lines::put_last(out, end, here, number, beside);
+            Found::Stop(stop) => {
+                end = lines::put_last(out, end, here, stop);
                 return Drained {
                     used: at,
                     end,

@@ -2,7 +2,6 @@
 use Prim.Native.Nat.{ℕ, ◌+◌, ◌≤◌, ◌<◌}
 use native.Mathlib.Nat.{min-le_left, min-le_right, le_trans}
 use native.Mathlib.Omega.{arith}
-use mathlib.Core.Bool.{true, false}
 use mathlib.Core.List.{List, [], ◌∷◌, ◌++◌, map, map-append}
 use mathlib.Core.Path.{◌≡◌, refl, sym, ap, ◌∙◌}
 use lib.ListN.{length, set, length-append, length-map}
@@ -10,7 +9,8 @@ use Rattle.sfdu_stream.specs.declared.Entry.{Entry}
 use Rattle.sfdu_lists.specs.declared.Turn.{Turn}
 use Rattle.sfdu_stream.specs.Walk.{words_of}
 use Rattle.sfdu_stream.specs.Listing.{Listing, listing, answer, fills, Columns, shortest, fills_columns, list_numbers}
-use Rattle.sfdu_lists.specs.inner.Turn.{TurnAt}
+use Rattle.sfdu_stream.specs.declared.Walked.{Walked}
+use Rattle.sfdu_lists.specs.inner.Turn.{Lists, Stops}
 use Rattle.sfdu_lists.proofs.Filled.{fills-more, fills-length}
 use Rattle.sfdu_lists.proofs.Underway as Underway
 use Rattle.sfdu_lists.proofs.Underway.{Underway}
@@ -95,13 +95,10 @@ pub record Stored (s : List ℕ) (old : Columns) (size i : ℕ) (new : Columns) 
   pub within : Within i new
   pub then : Round s old size t.next (i + 1) (stored new i t.entry)
 
-module _ (s : List ℕ) (old : Columns) (size at i : ℕ) (new : Columns) (u : Round s old size at i new) (t : Turn) (turn : TurnAt s at i size t) where
-  turned : TurnAt s at (length u.es) size t
-  turned = rw u.count turn
-
-  pub stores : t.listed ≡ true → Stored s old size i new t
-  stores l =
-      let further = Underway.goes s size at u.es t turned u.free u.under l in
+module _ (s : List ℕ) (old : Columns) (size at i : ℕ) (new : Columns) (u : Round s old size at i new) where
+  pub stores : (t : Turn) → Lists s at i size t → Stored s old size i new t
+  stores t turn =
+      let further = Underway.goes s size at u.es t (rw u.count turn) u.free u.under in
       let h : length u.es < shortest old = omega (arith, further.within, u.least) in
       let n = no_longer old (i + 1) (omega (arith, u.count)) in
       let k = same u in
@@ -129,12 +126,12 @@ module _ (s : List ℕ) (old : Columns) (size at i : ℕ) (new : Columns) (u : R
         };
       }
 
-  pub finished : t.listed ≡ false → ◌≡◌ {A = List ℕ × Columns} (words_of t.answer, new) (list_numbers s old)
+  pub finished : (w : Walked) → Stops s at i size w → ◌≡◌ {A = List ℕ × Columns} (words_of w, new) (list_numbers s old)
   unfolding list_numbers
-  finished l =
-      let done = Underway.finished s size at u.es t turned u.free u.under l in
+  finished w end =
+      let done = Underway.finished s size at u.es w (rw u.count end) u.free u.under in
       let e : listing size s 0 ≡ listing (shortest old) s 0 = ap (λ (n : ℕ). listing n s 0) u.least in
-      let answers : words_of t.answer ≡ answer (listing (shortest old) s 0) = done.answers ∙ ap answer e in
+      let answers : words_of w ≡ answer (listing (shortest old) s 0) = done.answers ∙ ap answer e in
       let entries : u.es ≡ (listing (shortest old) s 0).entries = sym done.entries ∙ ap (λ (x : Listing). x.entries) e in
       let columns : new ≡ fills_columns (listing (shortest old) s 0).entries old = u.lists ∙ ap (λ (es : List Entry). fills_columns es old) entries in
       λ j. (answers j, columns j)

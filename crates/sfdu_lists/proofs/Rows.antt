@@ -1,7 +1,6 @@
 -- What holds of the table each time the loop of `list_entries` comes round. Assumes nothing.
 use Prim.Native.Nat.{ℕ, ◌+◌, ◌<◌}
 use native.Mathlib.Omega.{arith}
-use mathlib.Core.Bool.{true, false}
 use mathlib.Core.List.{List, [], ◌∷◌, ◌++◌}
 use mathlib.Core.Path.{◌≡◌, refl}
 use lib.ListN.{length, set, length-append}
@@ -9,7 +8,8 @@ use Rattle.sfdu_stream.specs.declared.Entry.{Entry}
 use Rattle.sfdu_lists.specs.declared.Turn.{Turn}
 use Rattle.sfdu_stream.specs.Walk.{words_of}
 use Rattle.sfdu_stream.specs.Listing.{fills, list_entries}
-use Rattle.sfdu_lists.specs.inner.Turn.{TurnAt}
+use Rattle.sfdu_stream.specs.declared.Walked.{Walked}
+use Rattle.sfdu_lists.specs.inner.Turn.{Lists, Stops}
 use Rattle.sfdu_lists.proofs.Filled.{fills-more, fills-length}
 use Rattle.sfdu_lists.proofs.Underway as Underway
 use Rattle.sfdu_lists.proofs.Underway.{Underway}
@@ -36,13 +36,10 @@ pub record Stored (s : List ℕ) (old : List Entry) (size i : ℕ) (new : List E
   pub within : i < length new
   pub then : Round s old size t.next (i + 1) (set new i t.entry)
 
-module _ (s : List ℕ) (old : List Entry) (size at i : ℕ) (new : List Entry) (u : Round s old size at i new) (t : Turn) (turn : TurnAt s at i size t) where
-  turned : TurnAt s at (length u.es) size t
-  turned = rw u.count turn
-
-  pub stores : t.listed ≡ true → Stored s old size i new t
-  stores l =
-      let further = Underway.goes s size at u.es t turned u.free u.under l in
+module _ (s : List ℕ) (old : List Entry) (size at i : ℕ) (new : List Entry) (u : Round s old size at i new) where
+  pub stores : (t : Turn) → Lists s at i size t → Stored s old size i new t
+  stores t turn =
+      let further = Underway.goes s size at u.es t (rw u.count turn) u.free u.under in
       let k = same u in
       record {
         less = omega (arith, further.within, u.count);
@@ -57,5 +54,7 @@ module _ (s : List ℕ) (old : List Entry) (size at i : ℕ) (new : List Entry) 
         };
       }
 
-  pub finished : t.listed ≡ false → ◌≡◌ {A = List ℕ × List Entry} (words_of t.answer, new) (list_entries s old)
-  finished l = rw u.rows (Underway.filled_is s old at u.es t (rw (← u.whole_table) turned) u.free (rw (← u.whole_table) u.under) l)
+  pub finished : (w : Walked) → Stops s at i size w → ◌≡◌ {A = List ℕ × List Entry} (words_of w, new) (list_entries s old)
+  finished w end =
+      let stops : Stops s at (length u.es) size w = rw u.count end in
+      rw u.rows (Underway.filled_is s old at u.es w (rw (← u.whole_table) stops) u.free (rw (← u.whole_table) u.under))

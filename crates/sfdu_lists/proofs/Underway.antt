@@ -7,19 +7,18 @@ use mathlib.Core.List.{List, [], ◌∷◌, ◌++◌, append_assoc, append-nil}
 use mathlib.Core.Path.{◌≡◌, refl, sym, ap, ◌∙◌}
 use lib.Dec.{ltb}
 use lib.ListN.{length, take, drop, length-append}
-use borrow.Author.Tests.{le-ltb, lt-ltb, ltb-true}
-use Rattle.laws.proofs.Bools.{and_split}
+use borrow.Author.Tests.{le-ltb, lt-ltb}
 use Rattle.sfdu.specs.declared.Kind.{Kind}
 use Rattle.sfdu.specs.Nesting.{kind_number}
 use Rattle.sfdu_headers.specs.Fields.{record_number}
 use Rattle.sfdu_stream.specs.declared.Entry.{Entry}
 use Rattle.sfdu_lists.specs.declared.Turn.{Turn}
 use Rattle.sfdu_stream.specs.declared.Walked.{Walked}
-use Rattle.sfdu_stream.specs.Walk.{words_of, whole, past, full}
+use Rattle.sfdu_stream.specs.Walk.{words_of, whole, full}
 use Rattle.sfdu_stream.specs.inner.Refusal.{refusal}
 use Rattle.sfdu_stream.specs.Listing.{Listing, entry_at, stopped, prepend, listing, answer, fills, list_entries, entry_of}
 use Rattle.sfdu_stream.specs.inner.Record.{RecordAt}
-use Rattle.sfdu_lists.specs.inner.Turn.{TurnAt, no_turn}
+use Rattle.sfdu_lists.specs.inner.Turn.{Lists, Stops}
 use Rattle.sfdu_stream.proofs.Places.{from-there, StepNone}
 use Rattle.sfdu_stream.proofs.Listings.{lists, lists-none, lists-full}
 
@@ -33,29 +32,11 @@ entry-is s at k n r kind number e q =
     rw (e, q, f, r.kind, r.size)
 
 module _ (s : List ℕ) (at count size : ℕ) where
-  pub turn-lists : (e : Entry) (next : ℕ) (w : Walked) → whole s at ≡ true → count < size → e ≡ entry_at s at → next ≡ past s at
-      → TurnAt s at count size (record { listed = true; entry = e; next = next; answer = w })
-  turn-lists e next w is_whole free same moved = record {
-    listed = rw (is_whole, lt-ltb count size free);
-    entry = λ _. same;
-    next = λ _. moved;
-    answer = λ z. cc;
-  }
+  pub turn-full : (w : Walked) → whole s at ≡ true → size ≤ count → words_of w ≡ count ∷ at ∷ full → Stops s at count size w
+  turn-full w is_whole full words = record { none = rw (is_whole, le-ltb count size full); answer = rw is_whole words }
 
-  turn-stops : (w : Walked) → whole s at && ltb count size ≡ false → words_of w ≡ count ∷ at ∷ cond (whole s at) full (refusal s at)
-      → TurnAt s at count size (no_turn w)
-  turn-stops w none words = record {
-    listed = sym none;
-    entry = λ z. cc;
-    next = λ z. cc;
-    answer = λ _. words;
-  }
-
-  pub turn-full : (w : Walked) → whole s at ≡ true → size ≤ count → words_of w ≡ count ∷ at ∷ full → TurnAt s at count size (no_turn w)
-  turn-full w is_whole full words = turn-stops w (rw (is_whole, le-ltb count size full)) (rw is_whole words)
-
-  pub turn-none : (w : Walked) (place : ℕ) (why : List ℕ) → StepNone s at place why → words_of w ≡ count ∷ at ∷ why → TurnAt s at count size (no_turn w)
-  turn-none w place why n words = turn-stops w (rw n.none) (rw (n.none, n.number) words)
+  pub turn-none : (w : Walked) (place : ℕ) (why : List ℕ) → StepNone s at place why → words_of w ≡ count ∷ at ∷ why → Stops s at count size w
+  turn-none w place why n words = record { none = rw n.none; answer = rw (n.none, n.number) words }
 
 -- ---- the list
 
@@ -74,54 +55,51 @@ pub record Next (s : List ℕ) (n free : ℕ) (es : List Entry) (t : Turn) : Typ
   pub within : length es < n
   pub then : Underway s n left t.next (es ++ (t.entry ∷ []))
 
--- After one that lists none, the list is done.
-pub record Finished (s : List ℕ) (n : ℕ) (es : List Entry) (t : Turn) : Type 0 where
-  pub answers : words_of t.answer ≡ answer (listing n s 0)
+-- Where there is none, the list is done.
+pub record Finished (s : List ℕ) (n : ℕ) (es : List Entry) (w : Walked) : Type 0 where
+  pub answers : words_of w ≡ answer (listing n s 0)
   pub entries : (listing n s 0).entries ≡ es
 
-module _ (s : List ℕ) (n at : ℕ) (es : List Entry) (t : Turn) (turn : TurnAt s at (length es) n t) where
-  pub goes : (free : ℕ) → Underway s n free at es → t.listed ≡ true → Next s n free es t
-  goes zero u l =
-      let b = and_split (whole s at) (ltb (length es) n) (sym turn.listed ∙ l) in
-      absurd (omega (arith, ltb-true (length es) n b.1, u.room))
-  goes (suc free) u l =
-      let b = and_split (whole s at) (ltb (length es) n) (sym turn.listed ∙ l) in
-      record {
-        left = free;
-        fewer = omega arith;
-        within = ltb-true (length es) n b.1;
-        then = record {
-          room = simp length-append (omega (arith, u.room));
-          rest = u.rest ∙ rw (lists free s at b.0, turn.entry l, turn.next l, append_assoc);
-        };
-      }
+module _ (s : List ℕ) (n at : ℕ) (es : List Entry) where
+  pub goes : (t : Turn) → Lists s at (length es) n t → (free : ℕ) → Underway s n free at es → Next s n free es t
+  goes t turn zero u = absurd (omega (arith, turn.free, u.room))
+  goes t turn (suc free) u = record {
+    left = free;
+    fewer = omega arith;
+    within = turn.free;
+    then = record {
+      room = simp length-append (omega (arith, u.room));
+      rest = u.rest ∙ rw (lists free s at turn.is_whole, turn.entry, turn.next, append_assoc);
+    };
+  }
 
-  stops : (free : ℕ) → Underway s n free at es → t.listed ≡ false → listing free s at ≡ stopped at (cond (whole s at) full (refusal s at))
-  stops zero u l = by (whole s at) refl
+  stops : (w : Walked) → Stops s at (length es) n w → (free : ℕ) → Underway s n free at es
+      → listing free s at ≡ stopped at (cond (whole s at) full (refusal s at))
+  stops w end zero u = by (whole s at) refl
     where
       by : (b : Bool) → whole s at ≡ b → listing 0 s at ≡ stopped at (cond (whole s at) full (refusal s at))
       by true e = lists-full s at e ∙ rw e
       by false e = lists-none 0 s at e ∙ rw e
-  stops (suc free) u l =
+  stops w end (suc free) u =
       let b : ltb (length es) n ≡ true = lt-ltb (length es) n (omega (arith, u.room)) in
-      by (whole s at) refl (rw b at (sym turn.listed ∙ l))
+      by (whole s at) refl (rw b at end.none)
     where
       by : (b : Bool) → whole s at ≡ b → whole s at && true ≡ false → listing (suc free) s at ≡ stopped at (cond (whole s at) full (refusal s at))
       by true e z = let q = rw e at z in cc
       by false e z = lists-none (suc free) s at e ∙ rw e
 
-  pub finished : (free : ℕ) → Underway s n free at es → t.listed ≡ false → Finished s n es t
-  finished free u l =
+  pub finished : (w : Walked) → Stops s at (length es) n w → (free : ℕ) → Underway s n free at es → Finished s n es w
+  finished w end free u =
       let all-of-it : listing n s 0 ≡ record { entries = es; stop = at; why = cond (whole s at) full (refusal s at) } =
-      u.rest ∙ rw (stops free u l, append-nil) in
-      record { answers = turn.answer l ∙ sym (ap answer all-of-it); entries = ap (λ (x : Listing). x.entries) all-of-it }
+      u.rest ∙ rw (stops w end free u, append-nil) in
+      record { answers = end.answer ∙ sym (ap answer all-of-it); entries = ap (λ (x : Listing). x.entries) all-of-it }
 
 -- What a table holds then, and the answer.
-pub filled_is : (s : List ℕ) (old : List Entry) (at : ℕ) (es : List Entry) (t : Turn) → TurnAt s at (length es) (length old) t
-    → (free : ℕ) → Underway s (length old) free at es → t.listed ≡ false
-    → ◌≡◌ {A = List ℕ × List Entry} (words_of t.answer, fills es old) (list_entries s old)
+pub filled_is : (s : List ℕ) (old : List Entry) (at : ℕ) (es : List Entry) (w : Walked) → Stops s at (length es) (length old) w
+    → (free : ℕ) → Underway s (length old) free at es
+    → ◌≡◌ {A = List ℕ × List Entry} (words_of w, fills es old) (list_entries s old)
 unfolding list_entries
-filled_is s old at es t turn free u l =
-    let done = finished s (length old) at es t turn free u l in
+filled_is s old at es w end free u =
+    let done = finished s (length old) at es w end free u in
     let table : fills es old ≡ fills (listing (length old) s 0).entries old = ap (λ (x : List Entry). fills x old) (sym done.entries) in
     λ j. (done.answers j, table j)

@@ -23,7 +23,7 @@ use Rattle.sfdu_samples.specs.Packing.{
   packed,
   all_coded,
 }
-use Rattle.sfdu_samples.specs.inner.Unpacking.{Width}
+use Rattle.sfdu_samples.specs.inner.Widths.{IsWidth}
 use Rattle.sfdu_samples.proofs.Values.{codes-some, value-code, code-value}
 use Rattle.sfdu_samples.proofs.Judged.{per-some}
 use Rattle.sfdu_samples.proofs.Unpacking.{length-samples, length-unpacked}
@@ -89,7 +89,7 @@ number-again v ys h = number-first (bytes_of 4 v) ys 0 4 (rw length-bytes_of (om
 
 -- ---- words
 
-word-again : (w v : ℕ) (ys : List ℤ) → Width w → v < 256 ^ 4 → sample_word_of w (samples_of w v ++ ys) ≡ v
+word-again : (w v : ℕ) (ys : List ℤ) → IsWidth w → v < 256 ^ 4 → sample_word_of w (samples_of w v ++ ys) ≡ v
 unfolding sample_word_of samples_of
 word-again w v ys h l =
     let i : v % half_sample_word < (2 ^ w) ^ per_half w = rw h.whole (omega arith) in
@@ -103,7 +103,7 @@ word-again w v ys h l =
 bytes_drop : (n : ℕ) (s : List ℕ) → Bytes s → Bytes (drop n s)
 bytes_drop n s b k = rw get_or-drop (b (n + k))
 
-pub packed-again : (w n : ℕ) (s : List ℕ) → Width w → Bytes s → length s ≡ n * 4 → packed_sample_words w n (unpacked_sample_words w n s) ≡ s
+pub packed-again : (w n : ℕ) (s : List ℕ) → IsWidth w → Bytes s → length s ≡ n * 4 → packed_sample_words w n (unpacked_sample_words w n s) ≡ s
 unfolding packed_sample_words unpacked_sample_words
 packed-again w zero [] h b l = refl
 packed-again w zero (x ∷ s) h b l = absurd (omega arith)
@@ -119,7 +119,7 @@ packed-again w (suc n) s h b l =
       take-append-drop,
     )
 
-samples-again : (w : ℕ) (xs : List ℤ) → Width w → Coded w xs → per_sample_word w ≤ length xs
+samples-again : (w : ℕ) (xs : List ℤ) → IsWidth w → Coded w xs → per_sample_word w ≤ length xs
     → (sample_word_of w xs < 256 ^ 4) × (samples_of w (sample_word_of w xs) ≡ take (per_sample_word w) xs)
 unfolding sample_word_of samples_of
 samples-again w xs h c l =
@@ -132,7 +132,7 @@ samples-again w xs h c l =
     half_sample_word ≡ half_of w (per_half w) (drop 1 xs) = omega arith in
     (omega arith, rw (low, high) (pairs-again w h.some (per_half w) xs c l))
 
-pub unpacked-again : (w n : ℕ) (xs : List ℤ) → Width w → Coded w xs → length xs ≡ n * per_sample_word w
+pub unpacked-again : (w n : ℕ) (xs : List ℤ) → IsWidth w → Coded w xs → length xs ≡ n * per_sample_word w
     → unpacked_sample_words w n (packed_sample_words w n xs) ≡ xs
 unfolding packed_sample_words unpacked_sample_words
 unpacked-again w zero [] h c l = refl
@@ -185,7 +185,7 @@ every-word w (suc n) s p =
 pub packed-whole : (w : ℕ) (xs : List ℤ) → length (packed w xs) % 4 ≡ 0
 packed-whole w xs = rw length-packed (mul-mod_left (length xs / per_sample_word w) 4)
 
-module _ (w : ℕ) (h : Width w) where
+module _ (w : ℕ) (h : IsWidth w) where
   per : 0 < per_sample_word w
   per = per-some w h
 

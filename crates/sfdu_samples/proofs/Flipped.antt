@@ -9,7 +9,7 @@ use lib.Bits.{bit_xor, xor_shifted, xor_comm, xor_block, xor_self, xor_zero_r}
 use Rattle.octets.specs.Octets.{all}
 use Rattle.octets.proofs.Laws.{all-at}
 use Rattle.sfdu_samples.specs.Packing.{twos, per_half, half_sample_word}
-use Rattle.sfdu_samples.specs.inner.Unpacking.{Width}
+use Rattle.sfdu_samples.specs.inner.Widths.{IsWidth}
 use Rattle.sfdu_samples.proofs.Values.{minus, negated, doubled, codes-most}
 
 -- ---- a number in a run of digits
@@ -55,7 +55,7 @@ or_right : (a b : Bool) → a ≡ true → (not a || b) ≡ true → b ≡ true
 or_right true b e h = h
 or_right false b e h = cc
 
-pub half-bits : (w : ℕ) → Width w → w * per_half w ≡ 16
+pub half-bits : (w : ℕ) → IsWidth w → w * per_half w ≡ 16
 half-bits w h =
     let less : w < 17 = omega (arith, h.most) in
     let width : fills_half w ≡ true = rw (lt-ltb 0 w h.some, le-leb w 16 h.most, eq-eqb _ _ h.whole) in
@@ -92,7 +92,7 @@ pub record Flip (w c : ℕ) : Type 0 where
   pub twice : SFits w32 (pos 2 *ℤ twos w c)
   pub value : (n : ℕ) → n < 2 → SFits w32 (pos 2 *ℤ twos w c +ℤ pos n)
 
-pub flip : (w c : ℕ) → Width w → c < 2 ^ w → Flip w c
+pub flip : (w c : ℕ) → IsWidth w → c < 2 ^ w → Flip w c
 unfolding twos
 flip w c h l = by (ltb c (2 ^ (w - 1))) refl
   where
@@ -157,7 +157,7 @@ pub record Turn (w left word : ℕ) : Type 0 where
   pub most : w * left ≤ 16
   pub up : 16 + w * left - w ≡ 16 + w * (left - 1)
 
-pub turn : (w left word : ℕ) → Width w → 0 < left → left ≤ per_half w → Turn w left word
+pub turn : (w left word : ℕ) → IsWidth w → 0 < left → left ≤ per_half w → Turn w left word
 turn w left word h p l =
     let j = per_half w - left in
     let filled = half-bits w h in

@@ -12,12 +12,13 @@ use Rattle.sfdu_headers.proofs.RsrRules.{all-refuse}
 use Rattle.sfdu_samples.specs.Calls.{fills, writes, size_of, rate_of, data_rules, unpack_rules, unpacking, pack_rules, packing}
 use Rattle.sfdu_samples.specs.Packing.{per_half, per_sample_word, unpacked_sample_words, packed_sample_words, unpacked, packed, all_coded}
 use Rattle.sfdu_samples.specs.Rates.{is_listed}
-use Rattle.sfdu_samples.specs.inner.Unpacking.{Width, unpacking_data}
+use Rattle.sfdu_samples.specs.inner.Unpacking.{unpacking_data}
+use Rattle.sfdu_samples.specs.inner.Widths.{IsWidth}
 use Rattle.sfdu_samples.proofs.Packed.{length-packed}
 use Rattle.sfdu_samples.proofs.Runs.{sets-fills}
 use Rattle.sfdu_samples.proofs.Unpacking.{length-unpacked}
 
-pub per-some : (w : ℕ) → Width w → 0 < per_sample_word w
+pub per-some : (w : ℕ) → IsWidth w → 0 < per_sample_word w
 per-some w h =
     let p : 1 ≤ per_half w = (le-div_iff_mul-le {k = w} {x = 1} {y = 16} h.some).1 (omega (arith, h.most)) in
     omega arith

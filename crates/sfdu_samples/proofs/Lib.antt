@@ -11,5 +11,4 @@ pub mod Again
 pub mod RoundTrip
 pub mod Examples
 pub mod Words
-pub mod Table
 pub mod Contracts

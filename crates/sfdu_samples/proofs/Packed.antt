@@ -6,7 +6,7 @@ use lib.Seq.{sets}
 use Rattle.octets.specs.Octets.{bytes_of}
 use Rattle.octets.proofs.Laws.{all-at, length-bytes_of}
 use Rattle.sfdu_samples.specs.Packing.{has_code, code_of, per_half, per_sample_word, half_sample_word, half_of, sample_word_of, packed_sample_words, all_coded}
-use Rattle.sfdu_samples.specs.inner.Unpacking.{Width}
+use Rattle.sfdu_samples.specs.inner.Widths.{IsWidth}
 use Rattle.sfdu_samples.proofs.Values.{codes-some, code-value}
 use Rattle.sfdu_samples.proofs.Runs.{sets-append}
 
@@ -51,7 +51,7 @@ half_lt w (suc n) xs s c h =
     rw pow-suc
     (room _ (2 ^ w) ((2 ^ w) ^ n) _ (half_lt w n (drop 2 xs) s (coded-drop w 2 xs c) rest) (code-value w _ s (c 0 first)).less)
 
-pub half-small : (w n : ℕ) (xs : List ℤ) → Width w → Coded w xs → n ≤ per_half w → 2 * n ≤ length xs + 1 → half_of w n xs < half_sample_word
+pub half-small : (w n : ℕ) (xs : List ℤ) → IsWidth w → Coded w xs → n ≤ per_half w → 2 * n ≤ length xs + 1 → half_of w n xs < half_sample_word
 half-small w n xs h c m l =
     let most : (2 ^ w) ^ n ≤ (2 ^ w) ^ per_half w = pow-le-pow_right {n = 2 ^ w} (codes-some w) {i = n} {j = per_half w} m in
     omega (arith, half_lt w n xs h.some c l, most, h.whole)
@@ -61,7 +61,7 @@ pub record Turn (w left at half : ℕ) (xs : List ℤ) : Type 0 where
   pub is : half * 2 ^ w + code_of w (get_or xs (at + 2 * (left - 1)) (pos 0)) ≡ half_of w (per_half w - (left - 1)) (drop (at + 2 * (left - 1)) xs)
   pub less : half * 2 ^ w + code_of w (get_or xs (at + 2 * (left - 1)) (pos 0)) < half_sample_word
 
-pub turn : (w left at half : ℕ) (xs : List ℤ) → Width w → Coded w xs → 0 < left → left ≤ per_half w → at + per_sample_word w ≤ length xs + 1
+pub turn : (w left at half : ℕ) (xs : List ℤ) → IsWidth w → Coded w xs → 0 < left → left ≤ per_half w → at + per_sample_word w ≤ length xs + 1
     → half ≡ half_of w (per_half w - left) (drop (at + 2 * left) xs) → Turn w left at half xs
 turn w left at half xs h c p l m e =
     let here : half * 2 ^ w + code_of w (get_or xs (at + 2 * (left - 1)) (pos 0)) ≡ half_of w (per_half w - (left - 1)) (drop (at + 2 * (left - 1)) xs) =

@@ -7,7 +7,8 @@ use mathlib.Core.Bool.{false≢true, and-true, and-false}
 use borrow.Author.Tests.{eqb-false}
 use Rattle.laws.proofs.Bools.{and_split}
 use Rattle.sfdu_samples.specs.Packing.{twos, value_of, has_code, code_of, per_half}
-use Rattle.sfdu_samples.specs.inner.Unpacking.{Width, raised}
+use Rattle.sfdu_samples.specs.inner.Unpacking.{raised}
+use Rattle.sfdu_samples.specs.inner.Widths.{IsWidth}
 
 -- ---- integers
 
@@ -46,7 +47,7 @@ multiple-of b (suc n) p e = by (b ^ n) (one-le-pow n b p) (sym (pow-suc b n) ∙
         let e : (16383 + 16384 * m) * b ≡ 16383 * b + 16384 * (m * b) = add-mul 16383 (16384 * m) b ∙ rw mul_assoc in
         record { rest = 16383 + 16384 * m; is = omega (arith, e, f, suc-mul m b) }
 
-pub multiple : (w : ℕ) → Width w → Multiple (2 ^ w)
+pub multiple : (w : ℕ) → IsWidth w → Multiple (2 ^ w)
 multiple w h = multiple-of (2 ^ w) (per_half w) (codes-some w) h.whole
 
 -- ---- values
@@ -159,7 +160,7 @@ raised-neg b n p m = by (ltb n b) (eqb (n % 2) 0) refl refl
 codes-even : (w : ℕ) → 0 < w → 2 ^ w % 2 ≡ 0
 codes-even w s = let d = doubled w s in omega arith
 
-pub raised-has : (w : ℕ) (z : ℤ) → Width w → raised_has (2 ^ w) (raised z) ≡ has_code w z
+pub raised-has : (w : ℕ) (z : ℤ) → IsWidth w → raised_has (2 ^ w) (raised z) ≡ has_code w z
 unfolding has_code raised
 raised-has w (pos n) m = raised-pos (2 ^ w) n (codes-some w)
 raised-has w (negsuc n) m = raised-neg (2 ^ w) n (codes-even w m.some) (codes-most w m.most)
@@ -179,7 +180,7 @@ raised-code-neg b n m o l =
     let e : (2147483648 - suc n) / 2 ≡ b - suc (n / 2) + m.rest * b = omega arith in
     rw e (within b (b - suc (n / 2)) m.rest (omega arith))
 
-pub raised-code : (w : ℕ) (z : ℤ) → Width w → has_code w z ≡ true → raised z / 2 % 2 ^ w ≡ code_of w z
+pub raised-code : (w : ℕ) (z : ℤ) → IsWidth w → has_code w z ≡ true → raised z / 2 % 2 ^ w ≡ code_of w z
 unfolding has_code code_of raised
 raised-code w (pos n) h c =
     let b = and_split (eqb (n % 2) 1) (ltb n (2 ^ w)) c in

@@ -5,13 +5,13 @@ use Rattle.laws.proofs.Bools.{and_split}
 use Rattle.sfdu_samples.specs.declared.rates.Listed.{Listed}
 use Rattle.sfdu_samples.specs.Rates.{table, among, is_listed}
 use Rattle.sfdu_samples.specs.Packing.{per_half, half_sample_word}
-use Rattle.sfdu_samples.specs.inner.Unpacking.{Width}
+use Rattle.sfdu_samples.specs.inner.Widths.{IsWidth}
 
 -- Samples of w bits fill a half word, as a test.
 abbrev fills_half : ℕ → Bool
 fills_half w = ltb 0 w && leb w 16 && eqb ((2 ^ w) ^ per_half w) half_sample_word
 
-is-width : (w : ℕ) → fills_half w ≡ true → Width w
+is-width : (w : ℕ) → fills_half w ≡ true → IsWidth w
 is-width w e =
     let a = and_split (ltb 0 w && leb w 16) (eqb ((2 ^ w) ^ per_half w) half_sample_word) e in
     let b = and_split (ltb 0 w) (leb w 16) a.0 in
@@ -31,6 +31,6 @@ among-width size rate (row ∷ rows) t e =
     by true q later = rw (eqb-true row.size size q) at (and_split (fills_half row.size) (each_fills rows) t).0
     by false q later = later (rw q at e)
 
-pub listed-width : (size rate : ℕ) → is_listed size rate ≡ true → Width size
+pub listed-width : (size rate : ℕ) → is_listed size rate ≡ true → IsWidth size
 unfolding table
 listed-width size rate e = is-width size (among-width size rate table refl e)

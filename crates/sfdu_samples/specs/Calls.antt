@@ -1,25 +1,22 @@
 -- Document 02, Req 08: the refusals of unpack and pack, their answers, and the lent list after a call. Assumes nothing.
 -- The manual, docs/INTERFACE.md: "Samples".
-use Rattle.std.specs.Prelude.{◌≡◌, ℕ, ◌%◌, not, List, [], ◌∷◌, ◌++◌, length, drop, ℤ, ◌==◌, nat_lt}
+use Rattle.std.specs.Prelude.{ℕ, ◌%◌, not, List, [], ◌∷◌, ◌++◌, length, drop, ℤ, ◌==◌, nat_lt, Result}
 use Rattle.refusals.specs.Judge.{Rule, ◌when◌, judge}
-use Rattle.refusals.specs.Table.{number_of}
-use Rattle.sfdu.specs.Read.{fault_words, data_part}
+use Rattle.refusals.specs.Words.{result_words, one_word, Different}
+use Rattle.sfdu.specs.declared.RecordRefusal.{RecordRefusal}
+use Rattle.sfdu.specs.Read.{refusal_words, data_part}
 use Rattle.sfdu_headers.specs.Fields.{byte_at, field_at}
 use Rattle.sfdu_headers.specs.RsrRecord.{only, rsr_rules}
-use Rattle.sfdu_samples.specs.declared.Answer.{Answer}
-use Rattle.sfdu_samples.specs.declared.Answer.TheVariants.{Count, Header, Refused}
 use Rattle.sfdu_samples.specs.Rates.{is_listed}
 use Rattle.sfdu_samples.specs.Packing.{per_sample_word, unpacked, packed, all_coded}
 
 -- The words of an answer: 0 and the count; or the refusal's number, with its second number if it has one.
-abbrev pub words_of : Answer → List ℕ
-words_of (Count n) = 0 ∷ n ∷ []
-words_of (Header f) = fault_words f
-words_of (Refused r) = only (number_of r)
+abbrev pub words_of : Result ℕ RecordRefusal → List ℕ
+words_of answer = result_words refusal_words one_word answer
 
 -- Different answers have different words.
 abbrev pub DifferentAnswers : Type 0
-DifferentAnswers = (a b : Answer) → words_of a ≡ words_of b → a ≡ b
+DifferentAnswers = Different words_of
 
 -- A list whose first elements become xs; the others are unchanged.
 abbrev pub fills : {A : Type 0} → List A → List A → List A

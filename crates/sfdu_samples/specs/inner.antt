@@ -1,2 +1,3 @@
 pub mod Unpacking
 pub mod Stored
+pub mod Widths

@@ -92,12 +92,7 @@ const LISTED: [Listed; 36] = [
 pub fn is_listed(size: u32, rate: u32) -> bool
     ensures { result ≡ is_listed size rate }
 {
-    let table = LISTED;
-    for i in 0..table.len() {
-        let row = table[i];
-        if (row.size == size) & (row.rate == rate) {
-            return true;
-        }
-    }
-    false
+    LISTED
+        .iter()
+        .any(|row| (row.size == size) & (row.rate == rate))
 }

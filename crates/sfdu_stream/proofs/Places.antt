@@ -4,6 +4,7 @@ use native.Mathlib.Omega.{arith}
 use mathlib.Core.Bool.{Bool, true, false, cond, false≢true}
 use mathlib.Core.List.{List, [], ◌∷◌}
 use mathlib.Core.Path.{◌≡◌, refl, sym, ap, ◌∙◌}
+use Rattle.std.specs.Prelude.{Option, Some, None, Ok}
 use lib.Dec.{eqb, leb}
 use lib.ListN.{length, take, drop, length-drop}
 use lib.Seq.{take-length}
@@ -11,13 +12,14 @@ use borrow.Author.Tests.{le-leb, lt-leb, leb-true, leb-false, eq-eqb, ne_eqb}
 use Rattle.refusals.specs.Judge.{judge}
 use Rattle.refusals.proofs.Judged.{Outcome, none, first, outcome, none-judge, first-judge}
 use Rattle.sfdu.specs.declared.Kind.{Kind}
+use Rattle.sfdu.specs.declared.Record.{Record}
 use Rattle.sfdu.specs.Nesting.{kind_number, data_value_at}
-use Rattle.sfdu.specs.Read.{kind_of, record_length, read_rules, in_stream, accepts, record_words, read_one}
+use Rattle.sfdu.specs.Read.{primary_words, kind_of, record_length, read_rules, in_stream, accepts, record_words, read_one}
 use Rattle.sfdu.specs.inner.Checked.{whole_size}
 use Rattle.sfdu.proofs.Placed.{placed}
 use Rattle.sfdu.proofs.Accepted.{accepted, found, words-refused, accepted-words, Reads, accepted-one, refused-one, reads}
 use Rattle.sfdu.proofs.Within.{second-inside}
-use Rattle.sfdu_stream.specs.Walk.{at_end, whole, past, full, step, whole_by, refusal_by}
+use Rattle.sfdu_stream.specs.Walk.{found_words, at_end, whole, past, full, step, whole_by, refusal_by}
 use Rattle.sfdu_stream.specs.inner.Refusal.{refusal}
 use Rattle.sfdu_stream.specs.inner.Record.{RecordAt}
 
@@ -66,7 +68,7 @@ headers-there s at k n r =
     let p = placed (kind_of (drop at s)) in
     rw r.kind (omega arith)
 
--- ---- the size of the record there, 0 where none is whole
+-- ---- the size of the record there, if one is whole
 
 -- The place n bytes on is the one past a whole record.
 pub record OnePast (s : List ℕ) (at n : ℕ) : Type 0 where
@@ -75,30 +77,28 @@ pub record OnePast (s : List ℕ) (at n : ℕ) : Type 0 where
   pub further : at < at + n
   pub within : at + n ≤ length s
 
-module _ (s : List ℕ) (at n : ℕ) (e : n ≡ whole_size (take (length s - at) (drop at s))) where
-  size-there : n ≡ cond (whole s at) (record_length (drop at s)) 0
+module _ (s : List ℕ) (at : ℕ) (found : Option ℕ) (e : found ≡ whole_size (take (length s - at) (drop at s))) where
+  size-there : found ≡ cond (whole s at) (Some (record_length (drop at s))) None
   unfolding whole_size whole whole_by accepts
   size-there = e ∙ ap whole_size (from-there s at)
 
-  pub size-whole : (n ≡ 0 → ⊥) → OnePast s at n
+  pub size-whole : (n : ℕ) → found ≡ Some n → OnePast s at n
   unfolding past
-  size-whole h = by (whole s at) refl
+  size-whole n h = by (whole s at) refl
     where
       by : (b : Bool) → whole s at ≡ b → OnePast s at n
       by true w =
-          let m : at + n ≡ past s at = ap (λ (m : ℕ). at + m) (size-there ∙ rw w) in
+          let size : n ≡ record_length (drop at s) = cc (h, rw w at size-there) in
+          let m : at + n ≡ past s at = ap (λ (m : ℕ). at + m) size in
           let r = whole-record s at w in
           record { is_whole = w; next = m; further = omega (arith, m, r.further); within = omega (arith, m, r.within) }
-      by false w = absurd (h (size-there ∙ rw w))
+      by false w = cc (h, rw w at size-there)
 
-  pub size_none : n ≡ 0 → whole s at ≡ false
-  unfolding past
-  size_none z = by (whole s at) refl
+  pub size_none : found ≡ None → whole s at ≡ false
+  size_none h = by (whole s at) refl
     where
       by : (b : Bool) → whole s at ≡ b → whole s at ≡ false
-      by true w =
-          let m : n ≡ record_length (drop at s) = size-there ∙ rw w in
-          absurd (omega (arith, (whole-record s at w).further))
+      by true w = cc (h, rw w at size-there)
       by false w = w
 
 -- ---- a step, from what read one answers at the place
@@ -206,3 +206,9 @@ offset-there s at place n m e = by (leb (length s) at) refl
         let i = second-inside (drop at s) n m (refused-words s at place n m e) in
         let l = length-drop at s in
         omega arith
+
+-- A step that is not refused where no whole record stands is done.
+pub no-record : (s : List ℕ) (at place : ℕ) (found : Option Record) → whole s at ≡ false → place ∷ found_words (Ok found) ≡ step s at → at_end ≡ refusal s at
+no-record s at place (Some r) n e =
+    let f = found-there s at r.kind r.size (primary_words r.primary) place e in absurd (false≢true (sym n ∙ f.there.is_whole))
+no-record s at place None n e = sym (done-there s at place e).number

@@ -1,48 +1,36 @@
 -- Different answers have different words. Assumes nothing.
-use mathlib.Core.Path.{◌≡◌, refl, ap}
+use mathlib.Core.Path.{◌≡◌, refl, sym, ap}
+use Rattle.std.specs.Prelude.{Some, None, Result, Ok, Err}
+use Rattle.refusals.specs.Words.{Different}
 use Rattle.refusals.proofs.Laws.{number-positive}
-use Rattle.sfdu.specs.Nesting.{kind_number}
-use Rattle.sfdu.specs.Read.{primary_words, fault_words}
-use Rattle.sfdu.proofs.Accepted.{same_kind}
-use Rattle.sfdu.proofs.Words.{same-primary, same-fault}
-use Rattle.sfdu_stream.specs.declared.Cursor.{Cursor}
-use Rattle.sfdu_stream.specs.declared.Step.TheVariants.{Found, Done, Refused}
-use Rattle.sfdu_stream.specs.declared.Stop.{Stop}
-use Rattle.sfdu_stream.specs.declared.Stop.TheVariants.{End, Refused as StopRefused}
-use Rattle.sfdu_stream.specs.Walk.{stop_words, DifferentSteps, DifferentWalks}
+use Rattle.sfdu.specs.declared.Fault.{Fault}
+use Rattle.sfdu.specs.Read.{values_of}
+use Rattle.sfdu.proofs.Words.{same-values, same-fault, faults-refuse}
+use Rattle.sfdu_stream.specs.Walk.{found_words, stop_words, DifferentSteps, DifferentWalks}
 
-same-cursor : (c d : Cursor) → c.at ≡ d.at → c ≡ d
-same-cursor c d e = λ j. record { at = e j }
+same-found : Different found_words
+same-found (Ok (Some r)) (Ok (Some o)) e = let words : values_of r ≡ values_of o = cc in ap (λ x. Ok (Some x)) (same-values r o words)
+same-found (Ok (Some r)) (Ok None) e = cc
+same-found (Ok (Some r)) (Err f) e = absurd (faults-refuse f _ (sym e))
+same-found (Ok None) (Ok (Some o)) e = cc
+same-found (Ok None) (Ok None) e = refl
+same-found (Ok None) (Err f) e = cc
+same-found (Err f) (Ok (Some o)) e = absurd (faults-refuse f _ e)
+same-found (Err f) (Ok None) e = cc
+same-found (Err f) (Err g) e = ap Err (same-fault f g e)
 
 pub same_step : DifferentSteps
-same_step (Found k n p c) (Found l m q d) e =
-    let kinds : kind_number k ≡ kind_number l = cc in
-    let words : primary_words p ≡ primary_words q = cc in
-    let places : c.at ≡ d.at = cc in
-    let kind : k ≡ l = same_kind k l kinds in
-    let primary : p ≡ q = same-primary p q words in
-    let size : n ≡ m = cc in
-    let cursor : c ≡ d = same-cursor c d places in
-    cc
-same_step (Found k n p c) (Done d) e = cc
-same_step (Found k n p c) (Refused r d) e = cc
-same_step (Done c) (Found l m q d) e = cc
-same_step (Done c) (Done d) e = let places : c.at ≡ d.at = cc in ap Done (same-cursor c d places)
-same_step (Done c) (Refused r d) e = cc
-same_step (Refused r c) (Found l m q d) e = cc
-same_step (Refused r c) (Done d) e = cc
-same_step (Refused f c) (Refused g d) e =
-    let words : fault_words f ≡ fault_words g = cc in
-    let places : c.at ≡ d.at = cc in
-    let fault : f ≡ g = same-fault f g words in
-    let cursor : c ≡ d = same-cursor c d places in
-    cc
+same_step a b e =
+    let words : found_words a.found ≡ found_words b.found = cc in
+    let found = same-found a.found b.found words in
+    let places : a.next.at ≡ b.next.at = cc in
+    λ j. record { found = found j; next = record { at = places j } }
 
-same_stop : (a b : Stop) → stop_words a ≡ stop_words b → a ≡ b
-same_stop End End e = refl
-same_stop End (StopRefused f) e = absurd (number-positive f.refusal (cc))
-same_stop (StopRefused f) End e = absurd (number-positive f.refusal (cc))
-same_stop (StopRefused f) (StopRefused g) e = ap StopRefused (same-fault f g e)
+same_stop : (a b : Result (Unit {0}) Fault) → stop_words a ≡ stop_words b → a ≡ b
+same_stop (Ok u) (Ok v) e = refl
+same_stop (Ok u) (Err f) e = absurd (number-positive f.refusal (cc))
+same_stop (Err f) (Ok v) e = absurd (number-positive f.refusal (cc))
+same_stop (Err f) (Err g) e = ap Err (same-fault f g e)
 
 pub same-walked : DifferentWalks
 same-walked a b e =

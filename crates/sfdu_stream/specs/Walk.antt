@@ -1,22 +1,24 @@
 -- Document 01, "Calls on records": the words of the answers, what stands at a place of a stream, and the step. Assumes nothing.
 -- The manual, docs/INTERFACE.md: "Streams".
-use Rattle.std.specs.Prelude.{◌≡◌, ℕ, ◌+◌, Bool, cond, List, [], ◌∷◌, length, drop, eqb, leb}
+use Rattle.std.specs.Prelude.{◌≡◌, ℕ, Option, Some, None, Result, Ok, Err, ◌+◌, Bool, cond, List, [], ◌∷◌, length, drop, eqb, leb}
 use Rattle.refusals.specs.Judge.{Rule, judge, none_applies}
-use Rattle.sfdu.specs.Nesting.{kind_number}
-use Rattle.sfdu.specs.Read.{primary_words, fault_words, record_length, read_rules, in_stream, read_one}
+use Rattle.sfdu.specs.Read.{values_of, fault_words, record_length, read_rules, in_stream, read_one}
+use Rattle.sfdu.specs.declared.Record.{Record}
+use Rattle.sfdu.specs.declared.Fault.{Fault}
 use Rattle.sfdu_stream.specs.declared.Step.{Step}
-use Rattle.sfdu_stream.specs.declared.Step.TheVariants.{Found, Done, Refused}
-use Rattle.sfdu_stream.specs.declared.Stop.{Stop}
-use Rattle.sfdu_stream.specs.declared.Stop.TheVariants.{End, Refused as StopRefused}
 use Rattle.sfdu_stream.specs.declared.Walked.{Walked}
 
 -- ---- the words of the answers
 
--- The words of a step: the place of the cursor that it gives back; then 0 and the record, or nothing for "done", or the refusal, as read one gives them.
+-- What a step finds: 0 and the record, or nothing for "done", or the refusal, as read one gives them.
+abbrev pub found_words : Result (Option Record) Fault → List ℕ
+found_words (Ok (Some r)) = 0 ∷ values_of r
+found_words (Ok None) = []
+found_words (Err f) = fault_words f
+
+-- The words of a step: the place of the cursor that it gives back; then those of what it finds.
 abbrev pub step_words : Step → List ℕ
-step_words (Found kind n p next) = next.at ∷ 0 ∷ kind_number kind ∷ n ∷ primary_words p
-step_words (Done c) = c.at ∷ []
-step_words (Refused f c) = c.at ∷ fault_words f
+step_words t = t.next.at ∷ found_words t.found
 
 -- Different answers have different words.
 abbrev pub DifferentSteps : Type 0
@@ -26,9 +28,9 @@ DifferentSteps = (a b : Step) → step_words a ≡ step_words b → a ≡ b
 abbrev pub at_end : List ℕ
 at_end = 0 ∷ 0 ∷ []
 
-abbrev pub stop_words : Stop → List ℕ
-stop_words End = at_end
-stop_words (StopRefused f) = fault_words f
+abbrev pub stop_words : Result (Unit {0}) Fault → List ℕ
+stop_words (Ok end) = at_end
+stop_words (Err f) = fault_words f
 
 -- The answer of a walk or a list: how many records, the stop place, the stop number and its second number.
 abbrev pub words_of : Walked → List ℕ

@@ -6,76 +6,66 @@ ghost use Rattle.sfdu_stream.specs.Walk.{step_words, stop_words, words_of, whole
 ghost use Rattle.sfdu_stream.specs.inner.Refusal.{refusal};
 ghost use Rattle.sfdu_stream.specs.Listing.{walked};
 
-use crate::{Cursor, Step, Stop, Walked};
+use crate::{Cursor, Step, Walked};
 use refusals::Refusal;
-use sfdu::{Fault, Read};
+use sfdu::{Fault, Record};
 
 impl Cursor {
-    // Reads the record at the cursor, and gives back the cursor behind it.
+    // Reads the record at the cursor, and gives back the cursor behind it. At the stream's end there is none.
     pub fn step(self, s: &[u8]) -> Step
         ensures { step_words result ≡ step s.now self.at }
     {
         let at = self.at;
         if s.len() <= at {
-            return Step::Done(Cursor { at });
+            return self.stays(Ok(None));
         }
-        let found = sfdu::read_one(&s[at..]);
-        match found {
-            Read::Record {
-                kind,
-                size,
-                primary,
-            } => Step::Found {
-                kind,
-                size,
-                primary,
-                next: Cursor { at: at + size },
+        match sfdu::read_one(&s[at..]) {
+            Ok(found) => Step {
+                found: Ok(Some(found)),
+                next: Cursor {
+                    at: at + found.size,
+                },
             },
-            Read::Refused(f) => Step::Refused(f, Cursor { at }),
+            Err(fault) => self.stays(Err(fault)),
         }
+    }
+
+    fn stays(self, found: Result<Option<Record>, Fault>) -> Step
+        ensures { result ≡ record { found = found; next = self } }
+    {
+        Step { found, next: self }
     }
 }
 
-// Counts the whole records from the stream's start to its end, or to the first record that read one refuses.
+// Counts the whole records from the stream's start to its end, or to the first record that read one refuses. By index, since each record's length
+// tells where the next one begins.
 pub fn walk(s: &[u8]) -> Walked
     ensures { words_of result ≡ walked s.now }
 {
     let mut at = 0;
     let mut count = 0;
-    loop {
-        let size = sfdu::whole_size(&s[at..]);
-        if size == 0 {
-            return stopped(count, at, stop_at(s, at));
-        }
-        at = at + size;
-        count = count + 1;
+    while let Some(size) = sfdu::whole_size(&s[at..]) {
+        at += size;
+        count += 1;
+    }
+    Walked {
+        count,
+        place: at,
+        stop: stop_at(s, at),
     }
 }
 
 // Why a walk stops at a place where there is no whole record.
-fn stop_at(s: &[u8], at: usize) -> Stop
+fn stop_at(s: &[u8], at: usize) -> Result<(), Fault>
     requires { whole s.now at ≡ false }
     ensures { stop_words result ≡ refusal s.now at }
 {
-    let cursor = Cursor { at };
-    let found = cursor.step(s);
-    match found {
-        // Cannot happen: no whole record is here.
-        Step::Found {
-            kind: _,
-            size: _,
-            primary: _,
-            next: _,
-        } => Stop::End,
-        Step::Done(_) => Stop::End,
-        Step::Refused(f, _) => Stop::Refused(in_stream(s, at, f)),
+    let step = Cursor { at }.step(s);
+    match step.found {
+        // The stream's end, since no whole record is here.
+        Ok(_) => Ok(()),
+        Err(fault) => Err(in_stream(s, at, fault)),
     }
-}
-
-pub fn stopped(count: usize, place: usize, stop: Stop) -> Walked
-    ensures { result ≡ record { count = count; place = place; stop = stop } }
-{
-    Walked { count, place, stop }
 }
 
 // The refusal of the record at a place, with its offset counted from the stream's start. A count of bytes does not change.
@@ -98,6 +88,5 @@ pub fn in_stream(s: &[u8], place: usize, fault: Fault) -> Fault
 fn is_count(refusal: Refusal) -> bool
     ensures { result ≡ is_count (number_of refusal) }
 {
-    let n = refusals::number(refusal);
-    (n == refusals::number(Refusal::TooShort)) | (n == refusals::number(Refusal::Truncated))
+    matches!(refusal, Refusal::TooShort | Refusal::Truncated)
 }

@@ -1,14 +1,13 @@
 -- Document 01, "Calls on records": write one, and refusals 14 and 13. Assumes nothing.
 -- The manual, docs/INTERFACE.md: "Calls on records".
-use Rattle.std.specs.Prelude.{◌≡◌, ℕ, ◌+◌, ◌-◌, Bool, not, cond, ◌&&◌, ◌||◌, List, [], ◌∷◌, ◌++◌, length, drop, eqb, leb, ltb}
+use Rattle.std.specs.Prelude.{ℕ, Result, ◌+◌, ◌-◌, Bool, not, cond, ◌&&◌, ◌||◌, List, [], ◌∷◌, ◌++◌, length, drop, eqb, leb, ltb}
 use Rattle.refusals.specs.Judge.{◌when◌, judge}
-use Rattle.refusals.specs.Table.{number_of}
+use Rattle.refusals.specs.declared.Refusal.{Refusal}
+use Rattle.refusals.specs.Words.{answer_words, one_word, Different}
 use Rattle.octets.specs.Octets.{bytes_of}
 use Rattle.sfdu.specs.declared.Kind.{Kind}
 use Rattle.sfdu.specs.declared.Kind.TheVariants.{Telemetry, Rsr}
 use Rattle.sfdu.specs.declared.Primary.{Primary}
-use Rattle.sfdu_write.specs.declared.Write.{Write}
-use Rattle.sfdu_write.specs.declared.Write.TheVariants.{Written, Refused}
 use Rattle.sfdu.specs.Nesting.{
   kind_number,
   authority,
@@ -30,13 +29,12 @@ use Rattle.sfdu.specs.Nesting.{
 use Rattle.sfdu.specs.Read.{primary_words}
 
 -- The answer of write one: 0 and N, or the refusal's number.
-abbrev pub words_of : Write → List ℕ
-words_of (Written n) = 0 ∷ n ∷ []
-words_of (Refused r) = number_of r ∷ []
+abbrev pub words_of : Result ℕ Refusal → List ℕ
+words_of answer = answer_words one_word answer
 
 -- Different answers have different words.
 abbrev pub DifferentWrites : Type 0
-DifferentWrites = (a b : Write) → words_of a ≡ words_of b → a ≡ b
+DifferentWrites = Different words_of
 
 -- ---- the bytes of a record
 

@@ -11,45 +11,42 @@ use octets::numbers;
 use refusals::Refusal;
 use sfdu::{Kind, Primary, nesting};
 
-// The answer of write one: the length of the record in bytes.
-#[derive(Clone, Copy)]
-pub enum Write {
-    Written(usize),
-    Refused(Refusal),
-}
-
-// Writes a record at the start of `out` and answers its length. The rest of `out` is unchanged. A refusal leaves all of `out` unchanged.
+// Writes a record at the start of `out` and answers its length in bytes. The rest of `out` is unchanged. A refusal leaves all of `out` unchanged.
+// A number, since the contract refuses the number of a kind that is none.
 pub fn write_one(
     kind: u32,
     primary: Primary,
     secondary: &[u8],
     value: &[u8],
     out: &mut [u8],
-) -> Write
+) -> Result<usize, Refusal>
     ensures { (words_of result, out.new) ≡ write_one kind primary secondary.now value.now out.old }
 {
-    if kind == nesting::TELEMETRY_NUMBER {
-        return write_kind(Kind::Telemetry, primary, secondary, value, out);
-    }
-    if kind == nesting::RSR_NUMBER {
-        return write_kind(Kind::Rsr, primary, secondary, value, out);
-    }
-    Write::Refused(Refusal::WriterInput)
+    let Ok(kind) = Kind::try_from(kind) else {
+        return Err(Refusal::WriterInput);
+    };
+    write_kind(kind, primary, secondary, value, out)
 }
 
 // The same for a kind.
-fn write_kind(kind: Kind, primary: Primary, secondary: &[u8], value: &[u8], out: &mut [u8]) -> Write
+fn write_kind(
+    kind: Kind,
+    primary: Primary,
+    secondary: &[u8],
+    value: &[u8],
+    out: &mut [u8],
+) -> Result<usize, Refusal>
     ensures { (words_of result, out.new) ≡ write_one (kind_number kind) primary secondary.now value.now out.old }
 {
     if !is_input(kind, secondary, value) {
-        return Write::Refused(Refusal::WriterInput);
+        return Err(Refusal::WriterInput);
     }
     let size = nesting::data_value_at(kind) + value.len();
     if out.len() < size {
-        return Write::Refused(Refusal::WriterSpace);
+        return Err(Refusal::WriterSpace);
     }
     write_record(kind, primary, secondary, value, out);
-    Write::Written(size)
+    Ok(size)
 }
 
 // Whether the kind has secondary values of this length, and the data is not too long.

@@ -3,7 +3,7 @@ use Prim.Native.Nat.{ℕ, ◌+◌, ◌*◌, ◌≤◌, ◌<◌, ◌^◌}
 use native.Mathlib.Nat.{mul-suc}
 use native.Mathlib.Numerals.{add-one}
 use native.Mathlib.Omega.{arith}
-use mathlib.Core.Bool.{Bool, true, false, true≢false, ◌||◌}
+use mathlib.Core.Bool.{true, false, true≢false}
 use mathlib.Core.List.{List, [], ◌++◌, append_assoc, append-nil}
 use mathlib.Core.Logic.{inl, inr}
 use mathlib.Core.Path.{◌≡◌, refl, sym, ap, ◌∙◌, subst}
@@ -12,23 +12,15 @@ use lib.ListN.{length, take, drop, length-append, length-drop}
 use lib.Seq.{take-add, length-take-le}
 use Rattle.text.proofs.Laid.{grown}
 use Rattle.streaming.specs.declared.State.{State}
-use Rattle.streaming.specs.declared.Said.{Said}
-use Rattle.streaming.specs.declared.Turn.{Turn}
+use Rattle.std.specs.Prelude.{Result, Ok, Err}
+use Rattle.streaming.specs.declared.Failure.{Failure}
 use Rattle.streaming.specs.State.{emptied}
-use Rattle.streaming.specs.Said.{says_failed}
+use Rattle.streaming.specs.Failure.{says_failed}
 use Rattle.streaming.specs.Listing.{Listing, Lists}
 use Rattle.streaming.specs.Run.{Run, begins, lists, writes, begun}
 use Rattle.streaming.specs.Turn.{text_size, most_turns, Stands, Onward, Turns, Ends, EndsWhole}
 use Rattle.streaming.specs.inner.Reading.{Behind}
-use Rattle.streaming.specs.inner.Turn.{Going, Round, Writes, enough}
-
-or-false : (a b : Bool) → (a || b) ≡ false → (a ≡ false) × (b ≡ false)
-or-false true b e = absurd (true≢false e)
-or-false false b e = (refl, e)
-
-or-other : (a b : Bool) → (a || b) ≡ true → a ≡ false → b ≡ true
-or-other true b e f = cc
-or-other false b e f = e
+use Rattle.streaming.specs.inner.Turn.{Sized, Going, Round, Writes, enough}
 
 module _ {l : Listing} where
   -- ---- from one state to another
@@ -100,23 +92,23 @@ module _ {l : Listing} where
 
   -- ---- a turn
 
-  module _ (w w₁ out : List ℕ) (s : State) (want got : ℕ) (said : Said) (going : Going l w out s) (behind : Behind w s.have want w₁ got) where
+  module _ (w w₁ out : List ℕ) (s : State) (want got : ℕ) (going : Going l w out s) (behind : Behind w s.have want w₁ got) where
     -- The read failed: what stands behind the bytes that are held counts for nothing.
-    pub turn-fails : says_failed said ≡ true → Turns l w out s w₁ out (record { state = s; said = said })
-    turn-fails e = record {
+    pub turn-fails : (why : Failure) → Turns l w out s w₁ out s (Err why)
+    turn-fails why = record {
       onward = onward-none w w₁ out s behind.held;
-      heard = said;
-      fails = λ _. (refl, refl);
+      heard = Err why;
+      fails = λ v e. let same : why ≡ v = cc in (ap Err same, refl);
       text = omega (arith, going.text, going.buffer);
-      next = λ f. absurd (true≢false (sym e ∙ f));
+      next = λ f. absurd (true≢false f);
       far = omega arith;
     }
 
     -- What was read is listed, and the text is written where there is enough of it.
-    pub turn-lists : (w' out' : List ℕ) (r : State) (t : Turn) → says_failed said ≡ false → want ≡ l.window_size → length w₁ ≡ length w
-        → Lists l w₁ out s got w' out' r → enough + l.most_text ≤ text_size → Writes r said t → Turns l w out s w' out' t
+    pub turn-lists : (w' out' : List ℕ) (r t : State) (said : Result (Unit {0}) Failure) → want ≡ l.window_size → length w₁ ≡ length w
+        → Lists l w₁ out s got w' out' r → enough + l.most_text ≤ text_size → Writes r t said → Turns l w out s w' out' t said
     unfolding onward-lists onward-writes
-    turn-lists w' out' r t fine all same listed free wrote = by wrote
+    turn-lists w' out' r t said all same listed free wrote = by wrote
       where
         room : want ≤ length w₁
         room = omega (arith, going.window)
@@ -130,17 +122,17 @@ module _ {l : Listing} where
         far : r.place ≤ s.place + l.window_size
         far = omega (arith, listed.count, behind.within)
 
-        fails : {p : Turn} → says_failed said ≡ true → (p.said ≡ said) × (p.state ≡ s)
-        fails e = absurd (true≢false (sym e ∙ fine))
+        fails : {p : State} (why : Failure) → Ok got ≡ Err why → (said ≡ Err why) × (p ≡ s)
+        fails why e = absurd (cc)
 
-        by : Writes r said t → Turns l w out s w' out' t
+        by : Writes r t said → Turns l w out s w' out' t said
         by (inl kept) =
             subst
-            (Turns l w out s w' out')
+            (λ (q : State). Turns l w out s w' out' q said)
             (sym kept.1)
             (record {
               onward = onward;
-              heard = said;
+              heard = Ok got;
               fails = fails;
               text = listed.within;
               next = λ _ e. (some e, (listed.room e).1, omega (arith, kept.0));
@@ -148,11 +140,11 @@ module _ {l : Listing} where
             })
         by (inr written) =
             subst
-            (λ (q : State). Turns l w out s w' out' (record { state = q; said = t.said }))
+            (λ (q : State). Turns l w out s w' out' q said)
             (sym written)
             (record {
               onward = onward-writes onward;
-              heard = said;
+              heard = Ok got;
               fails = fails;
               text = omega arith;
               next = λ _ e. (some e, (listed.room e).1, omega arith);
@@ -174,24 +166,23 @@ module _ (l : Listing) where
 
   module _ (w₀ out₀ : List ℕ) (s₀ : State) (w out : List ℕ) (s : State) (turns : ℕ) (u : Under w₀ out₀ s₀ w out s turns) where
     -- no turn is left
-    pub under-gives-up : (said : Said) → turns ≡ 0 → Ends l w₀ out₀ s₀ w out (record { state = s; said = said })
+    pub under-gives-up : (said : Result (Unit {0}) Failure) → turns ≡ 0 → Ends l w₀ out₀ s₀ w out s said
     under-gives-up said none = record {
       onward = u.onward;
       text = omega (arith, u.round.going.text, u.round.going.buffer);
       over = λ _. inr (omega (arith, u.spent));
     }
 
-    module _ (w' out' : List ℕ) (t : Turn) (turned : Turns l w out s w' out' t) where
+    module _ (w' out' : List ℕ) (t : State) (said : Result (Unit {0}) Failure) (turned : Turns l w out s w' out' t said) where
       -- after a turn that did not fail and did not end the listing
-      pub under_goes : length w' ≡ length w → length out' ≡ length out → (says_failed t.said || t.state.done) ≡ false
-          → (n : ℕ) → n + 1 ≡ turns → l.window_size ≤ text_size → Under w₀ out₀ s₀ w' out' t.state n
+      pub under_goes : length w' ≡ length w → length out' ≡ length out → says_failed said ≡ false → t.done ≡ false
+          → (n : ℕ) → n + 1 ≡ turns → l.window_size ≤ text_size → Under w₀ out₀ s₀ w' out' t n
       unfolding onward_then
-      under_goes a b e n less small =
-          let o = or-false (says_failed t.said) t.state.done e in
-          let next = turned.next o.0 o.1 in
+      under_goes a b fine on n less small =
+          let next = turned.next fine on in
           let size = l.window_size in
           let one_less : size * turns ≡ size * n + size = ap (λ (k : ℕ). size * k) (sym less ∙ add-one n) ∙ mul-suc size n in
-          let low : t.state.place + size * n ≤ 2 ^ 63 = omega (arith, u.round.low, turned.far) in
+          let low : t.place + size * n ≤ 2 ^ 63 = omega (arith, u.round.low, turned.far) in
           record {
             round = record {
               going = record {
@@ -200,7 +191,7 @@ module _ (l : Listing) where
                 room = next.1;
                 text = next.2;
                 place = omega (arith, low, small);
-                on = o.1;
+                on = on;
               };
               low = low;
             };
@@ -209,22 +200,16 @@ module _ (l : Listing) where
           }
 
       -- after one that did
-      pub under-ends : (says_failed t.said || t.state.done) ≡ true → Ends l w₀ out₀ s₀ w' out' t
+      pub under-ends : (says_failed said ≡ false → t.done ≡ true) → Ends l w₀ out₀ s₀ w' out' t said
       under-ends e = record {
         onward = onward_then u.onward turned.onward;
         text = turned.text;
-        over = λ f. inl (or-other (says_failed t.said) t.state.done e f);
+        over = λ f. inl (e f);
       }
 
   -- ---- from the beginning
 
-  -- The sizes of a listing: there is room for a byte, for the first line and the text of a window, and the place stays low.
-  pub record Sized : Type 0 where
-    pub some : 0 < l.window_size
-    pub small : l.window_size ≤ text_size
-    pub text : length l.heading + l.most_text ≤ text_size
-
-  pub round-begins : (w out : List ℕ) (s : State) → Sized → s ≡ begun l → length w ≡ l.window_size → length out ≡ text_size → Round l w out s most_turns
+  pub round-begins : (w out : List ℕ) (s : State) → Sized l → s ≡ begun l → length w ≡ l.window_size → length out ≡ text_size → Round l w out s most_turns
   round-begins w out s sized e wide long =
       rw e
       (record {
@@ -239,9 +224,9 @@ module _ (l : Listing) where
         low = omega (arith, sized.small);
       })
 
-  pub whole-ends : (w out w' out' : List ℕ) (s : State) (t : Turn) → s ≡ begun l → take s.text out ≡ l.heading
-      → Ends l w out s w' out' t → EndsWhole l w' out' t
-  whole-ends w out w' out' s t e first ends =
+  pub whole-ends : (w out w' out' : List ℕ) (s t : State) (said : Result (Unit {0}) Failure) → s ≡ begun l → take s.text out ≡ l.heading
+      → Ends l w out s w' out' t said → EndsWhole l w' out' t said
+  whole-ends w out w' out' s t said e first ends =
       let start : Stands l [] false [] w out s = subst (λ (q : State). take q.text out ≡ l.heading → Stands l [] false [] w out q) (sym e)
       (λ f. subst (λ (h : List ℕ). Run l [] false [] (begun l) [] h) (sym f) begins) first in
       let x = ends.onward.stands [] false [] start in

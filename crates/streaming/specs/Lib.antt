@@ -1,5 +1,5 @@
 pub mod State
-pub mod Said
+pub mod Failure
 pub mod Listing
 pub mod Run
 pub mod Turn

@@ -5,7 +5,6 @@ use Rattle.std.specs.Prelude.{ℕ, Bool, false, cond, ◌&&◌, List, [], ◌∷
 use Rattle.refusals.specs.Judge.{Rule, ◌when◌}
 use Rattle.sfdu.specs.Nesting.{label_size}
 use Rattle.sfdu.specs.Read.{record_length, in_stream}
-use Rattle.streaming.specs.declared.window.Stop.{Stop}
 
 -- The bytes of the window: the longest record that a program takes.
 abbrev pub window_size : ℕ
@@ -27,11 +26,16 @@ is_over s (number ∷ count ∷ rest) = eqb number 6 && is_long s
 is_over s (number ∷ []) = false
 is_over s [] = false
 
+-- What is told of a stop: the refusal's number, and the number beside it.
+pub record Told : Type 0 where
+  pub number : ℕ
+  pub beside : ℕ
+
 -- These words told, 0 for the second where there is none.
-abbrev pub telling : List ℕ → Stop
+abbrev pub telling : List ℕ → Told
 telling words = record { number = get_or words 0 0; beside = get_or words 1 0 }
 
 -- Of such a record 17, with 0. Else the refusal's number; the count of bytes that goes with 1 and 6 stays, and an offset is counted from
 -- the stream's start (`in_stream`).
-unfoldable pub stop_of : (place : ℕ) (s refusal : List ℕ) → Stop
+unfoldable pub stop_of : (place : ℕ) (s refusal : List ℕ) → Told
 stop_of place s refusal = cond (is_over s refusal) (record { number = 17; beside = 0 }) (telling (in_stream place refusal))

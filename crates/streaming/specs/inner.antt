@@ -1,3 +1,4 @@
 pub mod Reading
 pub mod Turn
 pub mod Writing
+pub mod Stops

@@ -1,7 +1,9 @@
 // A window onto a stream of records: the longest record that a program takes, and why a stream stops at a record.
 ghost use Rattle.std.specs.Prelude.{◌&&◌, ◌≡◌, ◌+◌, ◌<◌, ◌^◌, eqb};
+ghost use Rattle.refusals.specs.Table.{number_of};
 ghost use Rattle.sfdu.specs.Read.{fault_words, is_count};
 ghost use Rattle.streaming.specs.Window.{is_long, stop_of};
+ghost use Rattle.streaming.specs.inner.Stops.{told};
 
 use octets::numbers;
 use refusals::Refusal;
@@ -10,10 +12,10 @@ use sfdu::{Fault, nesting};
 // The window's length.
 pub const WINDOW: usize = 65536;
 
-// The refusal's number and the number beside it, 0 where none goes with it.
+// The refusal and the number beside it, 0 where none goes with it.
 #[derive(Clone, Copy)]
 pub struct Stop {
-    pub number: u32,
+    pub refusal: Refusal,
     pub beside: u64,
 }
 
@@ -21,42 +23,40 @@ pub struct Stop {
 // is judged before 6. Of the other refusals those that count bytes keep their count, and an offset is counted from the stream's start.
 pub fn stop_in(s: &[u8], place: u64, fault: Fault) -> Stop
     requires { place + fault.at < 2 ^ 64 }
-    ensures { result ≡ stop_of place s.now (fault_words fault) }
+    ensures { told result ≡ stop_of place s.now (fault_words fault) }
 {
-    let why = fault.refusal;
+    let refusal = fault.refusal;
     let at = fault.at;
-    let number = refusals::number(why);
-    if is_over(s, number) {
+    if is_over(s, refusal) {
         return Stop {
-            number: refusals::number(Refusal::BufferSize),
+            refusal: Refusal::BufferSize,
             beside: 0,
         };
     }
-    if is_count(number) {
+    if is_count(refusal) {
         return Stop {
-            number,
+            refusal,
             beside: at as u64,
         };
     }
     Stop {
-        number,
+        refusal,
         beside: place + at as u64,
     }
 }
 
 // Whether a refusal gives a count of bytes.
-pub fn is_count(number: u32) -> bool
-    ensures { result ≡ is_count number }
+pub fn is_count(refusal: Refusal) -> bool
+    ensures { result ≡ is_count (number_of refusal) }
 {
-    (number == refusals::number(Refusal::TooShort))
-        | (number == refusals::number(Refusal::Truncated))
+    matches!(refusal, Refusal::TooShort | Refusal::Truncated)
 }
 
 // Whether a record is cut off and too long for the window, even if it were whole.
-fn is_over(s: &[u8], number: u32) -> bool
-    ensures { result ≡ (eqb number 6 && is_long s.now) }
+fn is_over(s: &[u8], refusal: Refusal) -> bool
+    ensures { result ≡ (eqb (number_of refusal) 6 && is_long s.now) }
 {
-    (number == refusals::number(Refusal::Truncated)) & is_long(s)
+    matches!(refusal, Refusal::Truncated) && is_long(s)
 }
 
 // Whether there is a label, and it says more bytes than the window has.

@@ -18,7 +18,7 @@ pub fn put_text(out: &mut [u8], at: usize, source: &[u8]) -> usize
     at + source.len()
 }
 
-// Writes a number in decimal, and a byte behind it.
+// Writes a number in decimal, and a byte behind it. A fixed array, since the text crates use no heap, and a u64 has at most 20 digits.
 pub fn put_numeral(out: &mut [u8], at: usize, n: u64, after: u8) -> usize
     requires { at + most_numeral ≤ length out.old }
     ensures puts { Puts out.old out.new at result (numeral n after) }

@@ -5,8 +5,8 @@ use Rattle.refusal_words.specs.Written.{words_of}
 use borrow.Author.Rules.{rules}
 use Rattle.answers.proofs.text.Goals as goal
 
-pub returns-in-Bytes : goal.returns-in-Bytes
-returns-in-Bytes c = few-along (λ a. plain (words_of a)) c.in-Bytes.is (search rules)
+pub returns-in-Ok : goal.returns-in-Ok
+returns-in-Ok c = few-along (λ a. plain (words_of a)) c.in-Ok.is (search rules)
 
-pub returns-in-Refused : goal.returns-in-Refused
-returns-in-Refused c = few-along (λ a. plain (words_of a)) c.in-Refused.is c.refused.ensures
+pub returns-in-Err : goal.returns-in-Err
+returns-in-Err c = few-along (λ a. plain (words_of a)) c.in-Err.is c.refused.ensures

@@ -1,14 +1,12 @@
 -- The numbers of an answer as inner functions give them. Assumes nothing.
-use Rattle.std.specs.Prelude.{ℕ, ◌-◌, ◌^◌, ◌<◌, List, ◌++◌, ◌≡◌, get_or, replicate}
+use Rattle.std.specs.Prelude.{ℕ, ◌-◌, ◌^◌, ◌<◌, List, ◌++◌, ◌≡◌, get_or, replicate, Option, Some, None}
 use Rattle.sfdu_headers.specs.Words.{Word}
-use Rattle.idr.specs.declared.Count.{Count}
-use Rattle.idr.specs.declared.Count.TheVariants.{Samples, Unknown}
 use Rattle.answers.specs.Numbers.{number_count, all_ones, numbers_of}
 
 -- The number of a sample count; a none if the count is unknown.
-abbrev pub count_number : Count → ℕ
-count_number (Samples n) = n
-count_number Unknown = all_ones
+abbrev pub count_number : Option ℕ → ℕ
+count_number (Some n) = n
+count_number None = all_ones
 
 -- A list is the numbers of these words, and the first number, which a call returns, fits 32 bits.
 abbrev pub Numbers : List ℕ → List Word → Type 0

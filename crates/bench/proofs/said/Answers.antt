@@ -5,6 +5,6 @@ use mathlib.Core.Path.{ap, sym, ◌∙◌}
 use Rattle.ledger_sheet.specs.Words.{answer_words}
 use Rattle.bench.proofs.said.Goals as goal
 
-pub returns-in-Refused : goal.returns-in-Refused
-returns-in-Refused c =
-    ap (λ (n : ℕ). n ∷ []) c.number.ensures ∙ ap answer_words (sym c.in-Refused.is)
+pub returns-in-Err : goal.returns-in-Err
+returns-in-Err c =
+    ap (λ (n : ℕ). n ∷ []) c.number.ensures ∙ ap answer_words (sym c.in-Err.is)

@@ -7,6 +7,3 @@ use Rattle.bench.proofs.xor_of.Given as goal
 
 abbrev pub invariant-loop-i : goal.invariant-loop-i
 invariant-loop-i l = (l.i ≤ 32) × (length l.numbers ≡ 32) × (l.all ≡ xor_of (drop l.i l.numbers))
-
-abbrev pub decreases-loop-i : goal.decreases-loop-i
-decreases-loop-i l = l.i

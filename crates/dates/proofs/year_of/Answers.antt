@@ -1,46 +1,50 @@
 -- `year_of` meets its contract: the mean's year is the one that the count falls in, or the one after it. Assumes nothing.
-use Prim.Native.Nat.{ℕ, ◌+◌, ◌-◌, ◌*◌, ◌/◌, ◌<◌}
+use Prim.Native.Nat.{ℕ, ◌+◌, ◌-◌, ◌*◌, ◌/◌, ◌<◌, ◌≤◌}
 use native.Mathlib.Omega.{arith}
-use mathlib.Core.Path.{◌≡◌}
+use mathlib.Core.Path.{◌≡◌, sym, ◌∙◌}
 use mathlib.Core.List.{List}
-use lib.ListN.{get_or}
-use Rattle.dates.specs.Calendar.{first_year, new_year}
+use mathlib.Core.Bool.{false}
+use lib.Dec.{ltb}
+use lib.ListN.{get_or, length}
+use borrow.Author.Tests.{ltb-false}
+use Rattle.dates.specs.Calendar.{first_year, last_count, new_year}
 use Rattle.dates.specs.Table.{NewYears}
 use Rattle.dates.proofs.Computed.{quotient}
 use Rattle.dates.proofs.Mean.{mean-year, past-table, not_first, mean-before}
 use Rattle.dates.proofs.year_of.Goals as goal
-use Rattle.dates.proofs.year_of.Goals.{Then-count-table}
-
--- The years that the mean leads to.
-abbrev mean : (count : ℕ) → ℕ
-mean count = (count * 400 + 496) / 146097
+use Rattle.dates.proofs.year_of.Goals.{in_default-via-in-Some+else-start-count, in_default-via-in_default}
 
 -- The table's entry by its place.
-entry : (table : List ℕ) → NewYears table → (i : ℕ) → i < 1101 → get_or table i 0 ≡ new_year (first_year + i)
-entry table t i h =
+entry : (table : List ℕ) → NewYears table → (i start : ℕ) → (i < length table) × ((d : ℕ) → start ≡ get_or table i d) → start ≡ new_year (first_year + i)
+entry table t i start found =
+    let within : i < 1101 = omega (arith, found.0, t.years) in
     let at : first_year + i - first_year ≡ i = omega arith in
-    rw at at (t.entry (first_year + i) (omega arith) (omega arith))
+    found.1 0 ∙ (rw at at (t.entry (first_year + i) (omega arith) (omega arith)))
 
-pub returns-then-i-ge-YEARS : goal.returns-then-i-ge-YEARS
-returns-then-i-ge-YEARS c =
+-- The new year of a place past the table is past every count.
+past : (table : List ℕ) → NewYears table → (count i : ℕ) → count ≤ last_count → false ≡ ltb i (length table) → count < new_year (first_year + i)
+past table t count i h none = past-table count i h (omega (arith, ltb-false i (length table) (sym none), t.years))
+
+pub overflow_sub-i : goal.overflow_sub-i
+overflow_sub-i c =
+    not_first _ _
+    (elim c.in_default.branch [
+      | in_default-via-in-Some+else-start-count w ↦ rw (entry _ c.new_years-table.ensures _ _ w.in-Some.ensures.lookup.3) at w.if-start-count.false
+      | in_default-via-in_default w ↦ past _ c.new_years-table.ensures _ _ c.requires w.in_default.ensures.lookup.0
+    ])
+
+pub returns-in-Some : goal.returns-in-Some
+returns-in-Some c =
     let y = c.year_at.ensures in
-    let past = past-table _ _ c.requires c.if-i-ge-YEARS.true in
-    (rw y.0 (mean-before _ _ (quotient 146097 _ (omega arith)) c.requires past), y.1)
-
--- The new year that the mean leads to is past the count.
-late : (c : Then-count-table) → let count = c.args.count in count < new_year (first_year + mean count)
-late c = rw (entry _ c.new_years-table.ensures _ c.if-i-ge-YEARS.false) at c.if-count-table.true
-
-pub overflow_sub-i-then-count-table : goal.overflow_sub-i-then-count-table
-overflow_sub-i-then-count-table c = not_first _ _ (late (goal.at.overflow_sub-i-then-count-table c).Then-count-table)
-
-pub returns-then-count-table : goal.returns-then-count-table
-returns-then-count-table c =
-    let y = c.year_at-then-count-table.ensures in
-    (rw y.0 (mean-before _ _ (quotient 146097 _ (omega arith)) c.requires (late (goal.at.returns-then-count-table c).Then-count-table)), y.1)
-
-pub returns : goal.returns
-returns c =
-    let y = c.year_at-2.ensures in
-    let begun = rw (entry _ c.new_years-table.ensures _ c.if-i-ge-YEARS.false) at c.if-count-table.false in
+    let begun = rw (entry _ c.new_years-table.ensures _ _ c.in-Some.ensures.lookup.3) at c.if-start-count.true in
     (rw y.0 (mean-year _ _ (quotient 146097 _ (omega arith)) c.requires begun), y.1)
+
+pub returns-in_default : goal.returns-in_default
+returns-in_default c =
+    let y = c.year_at-in_default.ensures in
+    let late : c.args.count < new_year (first_year + (c.args.count * 400 + 496) / 146097) =
+    elim c.in_default.branch [
+      | in_default-via-in-Some+else-start-count w ↦ rw (entry _ c.new_years-table.ensures _ _ w.in-Some.ensures.lookup.3) at w.if-start-count.false
+      | in_default-via-in_default w ↦ past _ c.new_years-table.ensures _ _ c.requires w.in_default.ensures.lookup.0
+    ] in
+    (rw y.0 (mean-before _ _ (quotient 146097 _ (omega arith)) c.requires late), y.1)

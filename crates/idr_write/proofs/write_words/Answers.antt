@@ -14,10 +14,7 @@ use Rattle.idr_write.proofs.write_words.Goals as goal
 
 pub loop-i-init : goal.loop-i-init
 unfolding word_bytes
-loop-i-init c = (omega arith, sym (put-none _ 0), refl)
-
-pub wide-requires : goal.wide-requires
-wide-requires c = tt
+loop-i-init c = (sym (put-none _ 0), refl)
 
 pub loop-i-preserved : goal.loop-i-preserved
 loop-i-preserved c =
@@ -25,13 +22,13 @@ loop-i-preserved c =
     let w = g.words.now in
     let x = get_or w c.loop-i.i 0 in
     let l : length (take c.loop-i.i w) ≡ c.loop-i.i = length-take-le c.loop-i.i w (omega arith) in
-    let stored = rw c.wide.ensures at c.write_be.ensures in
-    let next = put_next g.out.now 0 (word_bytes (take c.loop-i.i w)) (c.loop-i.i * word_size) (bytes_of word_size x) c.loop-i.invariant.1 stored
+    let stored = rw c.from.ensures at c.write_be.ensures in
+    let next = put_next g.out.now 0 (word_bytes (take c.loop-i.i w)) (c.loop-i.i * word_size) (bytes_of word_size x) c.loop-i.invariant.0 stored
     (omega (arith, length-word_bytes (take c.loop-i.i w))) (omega (arith, length-bytes_of word_size x)) in
-    (omega arith, rw (word_bytes-more w c.loop-i.i (omega arith)) next, omega arith)
+    (rw (word_bytes-more w c.loop-i.i (omega arith)) next, omega arith)
 
 pub returns : goal.returns
 returns c =
     let g = c.args in
     let all : take c.loop-i.i g.words.now ≡ g.words.now = take_all c.loop-i.i g.words.now (omega arith) in
-    rw all at c.loop-i.invariant.1
+    rw all at c.loop-i.invariant.0

@@ -6,31 +6,27 @@ use Rattle.ledger_model.specs.Counts.{place_report}
 use Rattle.ledger_model.specs.Step.{Ask, RowReport, refusals, asked, after_refusal}
 use Rattle.ledger_layout.proofs.Readers.{row-there, row-read-on}
 use Rattle.ledger_counts.specs.inner.Counts.{report_words}
-use Rattle.ledger_judged.proofs.Judged.{refused-is, answered-is, fine-is}
+use Rattle.ledger_judged.proofs.Judged.{handed, refused-is, answered-is, fine-is}
 use Rattle.ledger.proofs.row_report.Goals as goal
 
-pub row_verdict-verdict-requires : goal.row_verdict-verdict-requires
-row_verdict-verdict-requires c = c.is_sheet.ensures
-
-pub returns-in-Refused : goal.returns-in-Refused
+pub returns-in_err-row_verdict : goal.returns-in_err-row_verdict
 unfolding after_refusal
-returns-in-Refused c =
+returns-in_err-row_verdict c =
     let g = c.args in
-    refused-is (Ask (RowReport g.row)) g.s.now c.row_verdict-verdict.ensures c.shared_slice_known-1.given (λ _. refl)
-    c.in-Refused.why c.in-Refused.is
+    rw (handed c.from_residual.ensures)
+    (refused-is (Ask (RowReport g.row)) g.s.now c.shared_slice_known-1.given (λ _. refl) _ c.in_err-row_verdict.ensures)
 
 pub row_report-requires : goal.row_report-requires
 unfolding refusals
 row_report-requires c =
     let g = c.args in
-    let fine = fine-is (Ask (RowReport g.row)) g.s.now c.row_verdict-verdict.ensures c.in_default.is in
+    let fine = fine-is (Ask (RowReport g.row)) g.s.now c.in_ok-row_verdict.ensures in
     (fine.0.1, omega (arith, row-there _ _ fine.1.0))
 
 pub returns : goal.returns
 unfolding refusals asked report_words
 returns c =
     let g = c.args in
-    let fine = fine-is (Ask (RowReport g.row)) g.s.now c.row_verdict-verdict.ensures c.in_default.is in
+    let fine = fine-is (Ask (RowReport g.row)) g.s.now c.in_ok-row_verdict.ensures in
     ap (λ w. (w, g.s.now)) (c.row_report.ensures ∙ ap (λ p. 0 ∷ place_report p) (sym (row-read-on g.s.now g.row fine.1.0)))
-    ∙ answered-is (RowReport g.row) g.s.now c.shared_slice_known-1.given c.row_verdict-verdict.ensures
-    c.in_default.is
+    ∙ answered-is (RowReport g.row) g.s.now c.shared_slice_known-1.given c.in_ok-row_verdict.ensures

@@ -15,13 +15,13 @@ clear-requires c = simp length-set (omega arith)
 pub write_row-requires : goal.write_row-requires
 write_row-requires c =
     let kept = simp length-set at c.clear.auto.s in
-    (omega arith, c.requires.ticks.0)
+    omega arith
 
 pub write_row-requires-2 : goal.write_row-requires-2
 write_row-requires-2 c =
     let kept = simp length-set at c.clear.auto.s in
     let kept-2 = c.write_row.auto.s in
-    (omega arith, c.requires.ticks.1)
+    omega arith
 
 pub shape_of-new : goal.shape_of-new
 shape_of-new c =

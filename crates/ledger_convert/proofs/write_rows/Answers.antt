@@ -4,7 +4,7 @@ use mathlib.Core.Path.{◌≡◌}
 use native.Mathlib.Omega.{arith}
 use Rattle.ledger_sheet.specs.Sheet.{key_start}
 use Rattle.ledger_sheet.specs.Sheet.{used}
-use Rattle.ledger_convert.proofs.Read.{few, long, value-ticks}
+use Rattle.ledger_convert.proofs.Read.{few, long}
 use Rattle.ledger_convert.proofs.Laying.{row_laid, rows-laid, row_copied}
 use Rattle.ledger_convert.proofs.write_rows.Goals as goal
 
@@ -27,10 +27,8 @@ pub write_row-requires : goal.write_row-requires
 write_row-requires c =
     let old = c.args.old.now in
     let rows = few old c.requires.right_sheet.0 in
-    let bytes = long old c.requires.right_sheet.0 in (
-      omega (arith, c.loop-i.invariant.1.long, rows, bytes, c.requires.right_sheet.1),
-      value-ticks old _ _ (omega (arith, rows, bytes, c.requires.right_sheet.1)) c.read_row-row.ensures,
-    )
+    let bytes = long old c.requires.right_sheet.0 in
+    omega (arith, c.loop-i.invariant.1.long, rows, bytes, c.requires.right_sheet.1)
 
 pub loop-i-preserved : goal.loop-i-preserved
 loop-i-preserved c =

@@ -6,15 +6,6 @@ use Rattle.ledger_counts.specs.inner.Blocks.{block_bits, last_block_at}
 use Rattle.ledger_counts.proofs.Starts.{some_one, block-ticked, ticked-join, starts-at}
 use Rattle.ledger_counts.proofs.ticks_start.Goals as goal
 
-pub returns-then-tick_block : goal.returns-then-tick_block
-returns-then-tick_block c l = absurd (omega arith)
-
-pub returns-then-not-is_full_between : goal.returns-then-not-is_full_between
-returns-then-not-is_full_between c l = absurd (omega arith)
-
-pub returns-then-block-eq0 : goal.returns-then-block-eq0
-returns-then-block-eq0 c l = absurd (omega arith)
-
 pub overflow_cast-start : goal.overflow_cast-start
 overflow_cast-start c = omega (arith, some_one block_bits c.tick_block-block.result (omega arith) c.if-block-eq0.false)
 
@@ -27,18 +18,15 @@ overflow_cast-start-2 c = omega (arith, some_one block_bits c.tick_block-block.r
 pub overflow_shr-start : goal.overflow_shr-start
 overflow_shr-start c = omega (arith, some_one block_bits c.tick_block-block.result (omega arith) c.if-block-eq0.false)
 
-pub returns-then-block-start : goal.returns-then-block-start
-returns-then-block-start c l = absurd (omega arith)
-
 pub overflow_cast-result : goal.overflow_cast-result
 overflow_cast-result c = omega (arith, some_one block_bits c.tick_block-block.result (omega arith) c.if-block-eq0.false)
 
 pub returns : goal.returns
-returns c l =
+returns c =
     let g = c.args in
     let w = c.tick_block-block.result in
     let middle = c.is_full_between.ensures (not-false _ c.if-not-is_full_between.false-raw) in
     let ended = block-ticked g.s.now g.a 15 c.tick_block.result c.tick_block.ensures c.if-tick_block.false in
     let behind = ticked-join g.s.now g.a block_bits last_block_at row_length middle ended in
-    starts-at g.s.now g.a w c.tick_block-block.ensures
-    (omega (arith, some_one block_bits w (omega arith) c.if-block-eq0.false)) c.if-block-start.false behind
+    let few = some_one block_bits w (omega arith) c.if-block-eq0.false in
+    (omega (arith, few), starts-at g.s.now g.a w c.tick_block-block.ensures (omega (arith, few)) c.if-block-start.false behind)

@@ -1,42 +1,49 @@
 -- `ledger_judged::find` meets its contract. Assumes nothing.
-use Prim.Native.Nat.{ℕ, ◌≤◌}
 use native.Mathlib.Omega.{arith}
-use mathlib.Core.List.{List}
-use mathlib.Core.Path.{◌≡◌, refl}
-use Rattle.ledger_model.specs.Step.{Ask, Find, asked, after_refusal}
-use Rattle.ledger_model.specs.Book.{place, place_with}
-use Rattle.ledger_sheet.specs.Sheet.{row_count}
-use Rattle.ledger_layout.specs.Layout.{book_of}
-use Rattle.ledger_layout.specs.inner.Scans.{is_row_of}
-use Rattle.ledger_layout.proofs.Scans.{lowest-within, with-key}
-use Rattle.ledger_judged.proofs.Judged.{refused-is, answered-is, fine-is}
+use mathlib.Core.Bool.{not}
+use mathlib.Core.Path.{◌≡◌, refl, sym, ap, ◌∙◌}
+use Rattle.std.proofs.Common.{None, Some, rules}
+use Rattle.refusals.specs.declared.Refusal.TheVariants.{NoRow}
+use Rattle.refusals.specs.Judge.{◌when◌}
+use Rattle.keys.specs.Key.{valid_key}
+use Rattle.ledger_model.specs.Step.{Ask, Find, asked, refusals, after_refusal}
+use Rattle.ledger_layout.proofs.Scans.{none-with, some-with}
+use Rattle.ledger_judged.proofs.Judged.{Begun, begun, handed, refused-first, refused-is, answered-is, stops, passes, none_left}
 use Rattle.ledger_judged.proofs.find.Goals as goal
+use Rattle.ledger_judged.proofs.find.Goals.{In_ok-key_verdict}
 
-pub find_verdict-verdict-requires : goal.find_verdict-verdict-requires
-find_verdict-verdict-requires c = c.requires
-
-pub returns-in-Refused : goal.returns-in-Refused
-unfolding after_refusal
-returns-in-Refused c =
+pub returns-in_err-key_verdict : goal.returns-in_err-key_verdict
+unfolding refusals after_refusal
+returns-in_err-key_verdict c =
     let g = c.args in
-    refused-is (Ask (Find g.key)) g.s.now c.find_verdict-verdict.ensures c.shared_slice_known-1.given (λ _. refl) c.in-Refused.why
-    c.in-Refused.is
+    rw (handed c.from_residual.ensures)
+    (refused-is (Ask (Find g.key)) g.s.now c.shared_slice_known-1.given (λ _. refl) _
+    (refused-first _ c.requires _ _ c.in_err-key_verdict.ensures _))
+
+-- Where the first two rules pass.
+begins : (c : In_ok-key_verdict) → let a = c.args in Begun a.s.now (22 when not (valid_key a.key))
+begins c = begun _ c.requires _ (omega arith) c.in_ok-key_verdict.ensures
 
 pub find_row-requires : goal.find_row-requires
-find_row-requires c =
+find_row-requires c = (begins c).is-sheet
+
+pub returns-in_err-row : goal.returns-in_err-row
+unfolding refusals after_refusal
+returns-in_err-row c =
     let g = c.args in
-    (fine-is (Ask (Find g.key)) g.s.now c.find_verdict-verdict.ensures c.in_default.is).0
-
--- What it finds is a place, or 32.
-few : (s : List ℕ) (key : ℕ) {r : ℕ} → r ≡ place_with key (book_of s).places → r ≤ row_count
-few s key e = omega (arith, e, with-key s key, lowest-within row_count (λ i. is_row_of key (place (book_of s) i)))
-
-pub overflow_cast-result : goal.overflow_cast-result
-overflow_cast-result c = omega (arith, few _ _ c.find_row.ensures)
+    let none : c.find_row.result ≡ None = search rules in
+    let why : c.in_err-row.field-0.0 ≡ NoRow = search rules in
+    let fails = none-with g.s.now g.key (sym c.find_row.ensures ∙ none) in
+    rw (handed c.from_residual-in_err-row.ensures, why)
+    (refused-is (Ask (Find g.key)) g.s.now c.shared_slice_known-1.given (λ _. refl) NoRow
+    (sym ((begins (goal.at.returns-in_err-row c).In_ok-key_verdict).rest _ ∙ stops _ _ (ap not fails))))
 
 pub returns : goal.returns
-unfolding asked
+unfolding refusals asked
 returns c =
     let g = c.args in
-    rw c.find_row.ensures
-    (answered-is (Find g.key) g.s.now c.shared_slice_known-1.given c.find_verdict-verdict.ensures c.in_default.is)
+    let some : c.find_row.result ≡ Some c.in_ok-row.row = search rules in
+    let found = some-with g.s.now g.key (sym c.find_row.ensures ∙ some) in
+    rw found.1
+    (answered-is (Find g.key) g.s.now c.shared_slice_known-1.given
+    (sym ((begins (goal.at.returns c).In_ok-key_verdict).rest _ ∙ passes _ _ (ap not found.0) ∙ none_left)))

@@ -2,23 +2,21 @@
 use mathlib.Core.List.{[], ◌∷◌}
 use mathlib.Core.Path.{refl, ap, ◌∙◌}
 use Rattle.ledger_model.specs.Step.{Strike, refusals, effect, after_refusal}
-use Rattle.ledger_judged.proofs.Judged.{refused-is, accepted-is, fine-is}
+use Rattle.ledger_judged.proofs.Judged.{handed, refused-is, accepted-is, fine-is}
 use Rattle.ledger_judged.proofs.strike.Goals as goal
 
-pub strike_verdict-verdict-requires : goal.strike_verdict-verdict-requires
-strike_verdict-verdict-requires c = c.requires
-
-pub returns-in-Refused : goal.returns-in-Refused
+pub returns-in_err-strike_verdict : goal.returns-in_err-strike_verdict
 unfolding after_refusal
-returns-in-Refused c =
+returns-in_err-strike_verdict c =
     let g = c.args in
-    refused-is (Strike g.row) g.s.now c.strike_verdict-verdict.ensures c.slice_known-1.given (λ _. refl) c.in-Refused.why c.in-Refused.is
+    rw (handed c.from_residual.ensures)
+    (refused-is (Strike g.row) g.s.now c.slice_known-1.given (λ _. refl) _ c.in_err-strike_verdict.ensures)
 
 pub strike_row-requires : goal.strike_row-requires
 unfolding refusals
 strike_row-requires c =
     let g = c.args in
-    let fine = fine-is (Strike g.row) g.s.now c.strike_verdict-verdict.ensures c.in_default.is in
+    let fine = fine-is (Strike g.row) g.s.now c.in_ok-strike_verdict.ensures in
     (fine.0, fine.1.0, fine.1.1.0)
 
 pub returns : goal.returns
@@ -26,4 +24,4 @@ unfolding effect
 returns c =
     let g = c.args in
     ap (λ t. (0 ∷ [], t)) c.strike_row.ensures
-    ∙ accepted-is (Strike g.row) g.s.now c.strike_verdict-verdict.ensures c.in_default.is
+    ∙ accepted-is (Strike g.row) g.s.now c.in_ok-strike_verdict.ensures

@@ -1,10 +1,11 @@
 -- `ledger_receive::tally` meets its contract. Assumes nothing.
 use native.Mathlib.Omega.{arith}
-use borrow.Author.Tests.{eq-eqb, ne_eqb}
+use borrow.Author.Tests.{ne_eqb}
+use Rattle.refusals.proofs.Laws.{number-positive}
 use Rattle.ledger_receive.proofs.tally.Goals as goal
 
-pub returns-then-outcome-eq0 : goal.returns-then-outcome-eq0
-returns-then-outcome-eq0 c = rw (eq-eqb c.args.outcome 0 c.if-outcome-eq0.true)
+pub returns-in-Ok : goal.returns-in-Ok
+returns-in-Ok c = rw c.in-Ok.is
 
-pub returns : goal.returns
-returns c = rw (ne_eqb c.args.outcome 0 c.if-outcome-eq0.false) (omega arith)
+pub returns-in-Err : goal.returns-in-Err
+returns-in-Err c = rw (c.in-Err.is, ne_eqb _ _ (number-positive c.in-Err.field-0)) (omega arith)

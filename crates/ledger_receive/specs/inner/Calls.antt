@@ -1,17 +1,23 @@
 -- The parts of a receive on a right sheet. Assumes nothing.
-use Rattle.std.specs.Prelude.{ℕ, ◌≡◌, true, List, [], ◌∷◌}
+use Rattle.std.specs.Prelude.{ℕ, ◌≡◌, true, List, [], ◌∷◌, Option, Some, None, Result, Ok, Err}
+use Rattle.refusals.specs.declared.Refusal.{Refusal}
+use Rattle.refusals.specs.Table.{number_of}
 use Rattle.ledger_model.specs.Book.{Book, closed, desk, is_desk}
 use Rattle.ledger_model.specs.Step.{Open, Tick, Answer, step, run}
 use Rattle.ledger_sheet.specs.Sheet.{right}
 use Rattle.ledger_layout.specs.Layout.{layout, book_of}
 use Rattle.ledger_receive.specs.declared.Arrival as Code
-use Rattle.ledger_receive.specs.declared.Arrival.TheVariants as Case
 use Rattle.ledger_receive.specs.Visits.{Arrival, unread, arrived, tick_answer, leaving, refusal_in, visit, outcome}
 
 -- What a record says, as the model's type.
-abbrev pub brought_by : Code.Arrival → Arrival
-brought_by Case.Unread = unread
-brought_by (Case.Arrived key number) = arrived key number
+abbrev pub brought_by : Option Code.Arrival → Arrival
+brought_by None = unread
+brought_by (Some a) = arrived a.key a.number
+
+-- The number of an outcome: 0 if the record is ticked and saved, else the refusal's.
+abbrev pub outcome_of : Result (Unit {0}) Refusal → ℕ
+outcome_of (Ok u) = 0
+outcome_of (Err r) = number_of r
 
 -- A right sheet, and a desk with no row open in it.
 pub record Ready (d : ℕ) (s : List ℕ) : Type 0 where

@@ -21,7 +21,7 @@ pub play-requires : goal.play-requires
 play-requires c =
     let parts = trace-parts _ (passed c.is_trace.ensures c.if-not-is_trace.false-raw) in
     let laid = right-laid _ c.slice_known-1.given (passed c.is_sheet.ensures c.if-not-is_sheet.false-raw) in
-    record { whole = (parts.long, omega (arith, parts.header.filled), parts.header.few); laid = laid }
+    record { whole = (parts.long, omega (arith, parts.header.filled), parts.header.few); lines = parts.lines; laid = laid }
 
 pub returns : goal.returns
 unfolding replay_on_sheet refused_or judge

@@ -1,23 +1,12 @@
 -- Definitions that only the contracts of the inner functions of `replay` cite. Assumes nothing.
-use Rattle.std.specs.Prelude.{ℕ, cond, List, ◌≡◌, eqb}
+use Rattle.std.specs.Prelude.{ℕ, List, ◌≡◌}
 use Rattle.ledger_model.specs.Book.{Book}
-use Rattle.ledger_model.specs.Step.{Call, Open, Tick, Untick, Save, Drop, Strike, answer_words}
+use Rattle.ledger_model.specs.Step.{Call, answer_words}
 use Rattle.ledger_model.specs.WellFormed.{WellFormed}
 use Rattle.ledger_layout.specs.Layout.{layout, call, on_sheet}
-use Rattle.ledger_replay.specs.declared.Line.{Line}
-use Rattle.ledger_replay.specs.declared.CallAnswer.{CallAnswer}
-use Rattle.ledger_replay.specs.Trace.{open_call, tick_call, untick_call, save_call, drop_call, answer_in}
-use Rattle.ledger_replay.specs.Replay.{call_answer}
-
--- The call of an entry that is a save, drop or strike; and of one that is no enrolment.
-unfoldable pub last_in : Line → Call
-last_in x = cond (eqb x.call save_call) (Save x.desk) (cond (eqb x.call drop_call) (Drop x.desk) (Strike x.row))
-
-unfoldable pub plain_in : Line → Call
-plain_in x =
-    cond (eqb x.call open_call) (Open x.desk x.row)
-    (cond (eqb x.call tick_call) (Tick x.desk x.number)
-    (cond (eqb x.call untick_call) (Untick x.desk x.number) (last_in x)))
+use Rattle.ledger_replay.specs.Trace.{Line}
+use Rattle.ledger_replay.specs.Trace.{answer_in}
+use Rattle.ledger_replay.specs.Replay.{CallAnswer, call_answer}
 
 -- What a replay compares of the call's answer, and the sheet that the call leaves.
 unfoldable pub made : Call → List ℕ → CallAnswer × List ℕ

@@ -1,8 +1,10 @@
 -- `are_keys_new` meets its contract. The invariant: the keys of the first sheets are read. Assumes nothing.
 use mathlib.Core.Path.{◌≡◌, refl, ap, ◌∙◌}
+use lib.ListN.{take}
+use Rattle.std.proofs.Math.Seq.{take-length}
 use Rattle.ledger_season.specs.inner.Gathered.{distinct}
 use native.Mathlib.Omega.{arith}
-use Rattle.ledger_season.proofs.Sheets.{sheet-part, length-sheet}
+use Rattle.ledger_season.proofs.Sheets.{length-sheet}
 use Rattle.ledger_season.proofs.Keys.{all-keyed-none, all-keyed-more, all-keyed, new-distinct}
 use Rattle.ledger_season.proofs.are_keys_new.Goals as goal
 
@@ -14,15 +16,12 @@ read_keys-found-requires c =
     let g = c.args in
     let at = c.loop-k.invariant.1 in
     let long = length-sheet g.s.now g.n c.loop-k.k (omega arith) c.requires.1 in
-    (rw (sheet-part g.s.now c.loop-k.k) long, at.long, omega (arith, at.few))
+    (rw c.sheet_of.ensures long, at.long, omega (arith, at.few))
 
 pub loop-k-preserved : goal.loop-k-preserved
 loop-k-preserved c =
     let s = c.args.s.now in
-    (omega arith, all-keyed-more s _ _ _ c.loop-k.k (omega arith) c.loop-k.invariant.1 _ _ (rw (sheet-part s c.loop-k.k) at c.read_keys-found.ensures))
-
-pub are_new-requires : goal.are_new-requires
-are_new-requires c = omega (arith, c.loop-k.invariant.1.few)
+    (omega arith, all-keyed-more s _ _ _ c.loop-k.k (omega arith) c.loop-k.invariant.1 _ _ (rw c.sheet_of.ensures at c.read_keys-found.ensures))
 
 pub returns : goal.returns
 returns c =
@@ -30,5 +29,5 @@ returns c =
     let end : c.loop-k.k ≡ g.n = omega arith in
     let at = rw end at c.loop-k.invariant.1 in
     c.are_new.ensures
-    ∙ new-distinct c.loop-k.keys c.loop-k.found (omega (arith, at.few, at.long))
-    ∙ ap distinct (all-keyed g.s.now g.n _ _ at)
+    ∙ new-distinct (take c.loop-k.found c.loop-k.keys) _ (omega arith)
+    ∙ ap distinct (take-length _ ∙ all-keyed g.s.now g.n _ _ at)

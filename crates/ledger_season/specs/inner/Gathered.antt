@@ -1,13 +1,12 @@
 -- What the steps of the report give. Assumes nothing.
-use Rattle.std.specs.Prelude.{ℕ, ◌+◌, ◌*◌, ◌≤◌, Bool, true, false, not, ◌&&◌, ◌||◌, List, [], ◌∷◌, ◌++◌, ◌≡◌, eqb, length, get_or, take}
+use Rattle.std.specs.Prelude.{ℕ, ◌+◌, ◌*◌, ◌≤◌, Bool, true, false, not, ◌&&◌, ◌||◌, List, [], ◌∷◌, ◌++◌, ◌≡◌, eqb, length, get_or, take, Option, Some, None}
 use Rattle.octets.specs.Octets.{all}
 use Rattle.ledger_model.specs.Positions.{row_length, size, missing}
 use Rattle.ledger_model.specs.Book.{place_count, Place, free, row, Book, ticks_of}
 use Rattle.ledger_model.specs.Counts.{first_gap_from}
 use Rattle.ledger_model.specs.Tally.{ticked}
 use Rattle.ledger_season.specs.Report.{most_sheets, missed}
-use Rattle.ledger_season.specs.declared.RowGap.{RowGap}
-use Rattle.ledger_season.specs.declared.RowGap.TheVariants as R
+use Rattle.ledger_sheet.specs.declared.Gap.{Gap}
 use Rattle.ledger_season.specs.declared.Counted.{Counted}
 
 -- The keys of the used places, in order; and those of all books.
@@ -52,9 +51,9 @@ pub record Keyed (before : List ℕ) (found : ℕ) (ps : List Place) (after : Li
   pub keys_are : take now after ≡ take found before ++ keys_of ps
 
 -- A row's gap; if there is none, `further`.
-abbrev pub or_else : RowGap → List ℕ → List ℕ
-or_else R.Nothing further = further
-or_else (R.Gap number r) further = number ∷ r ∷ []
+abbrev pub or_else : Option Gap → List ℕ → List ℕ
+or_else None further = further
+or_else (Some g) further = g.number ∷ g.row ∷ []
 
 -- The counts of the places ps.
 pub record Counts (ps : List Place) (r : Counted) : Type 0 where

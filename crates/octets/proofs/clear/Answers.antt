@@ -1,22 +1,17 @@
--- `octets::clear` meets its contract. The invariant: the first i bytes are replaced. Assumes nothing.
-use lib.ListN.{length-replicate, get_or-replicate}
-use Prim.Native.Nat.{ℕ}
-use lib.ListN.{replicate, length-set}
-use Rattle.octets.proofs.Laws.{putting-none, putting-more, putting-all}
-use mathlib.Core.Path.{refl}
+-- `octets::clear` meets its contract. Assumes nothing.
 use native.Mathlib.Omega.{arith}
+use mathlib.Core.Path.{sym, ap, ◌∙◌}
+use lib.Seq.{paste}
+use lib.ListN.{replicate, length-replicate}
+use Rattle.std.proofs.lemmas.Slice.{put_mid-paste}
+use Rattle.octets.proofs.Laws.{put_all}
+use Rattle.octets.proofs.Parts.{length-lent}
 use Rattle.octets.proofs.clear.Goals as goal
 
-pub loop-i-init : goal.loop-i-init
-loop-i-init c = (omega arith, putting-none _ _ _, refl)
-
-pub loop-i-preserved : goal.loop-i-preserved
-loop-i-preserved c =
-    let n = c.args.n in
-    let i = c.loop-i.i in
-    let zero = get_or-replicate {A = ℕ} n i 0 0 (omega arith) in
-    let step = putting-more _ _ (replicate n 0) i 0 c.loop-i.invariant.1 zero (omega arith) (simp length-replicate (omega arith)) in
-    (omega arith, step, rw length-set c.loop-i.invariant.2)
-
 pub returns : goal.returns
-returns c = putting-all _ _ _ _ c.loop-i.invariant.1 (simp length-replicate (omega arith))
+returns c =
+    let g = c.args in
+    let zeros = c.fill.ensures.after (λ y e. e) ∙ ap (λ n. replicate n 0) (length-lent g.s.now g.a g.n (omega arith)) in
+    let size = length-replicate g.n 0 in
+    put_mid-paste _ _ _ _ (replicate g.n 0) g.n zeros (omega arith) (sym size)
+    ∙ ap (λ n. paste g.s.now g.a (replicate g.n 0) n) (sym size) ∙ put_all g.s.now g.a (replicate g.n 0)

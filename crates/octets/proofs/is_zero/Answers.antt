@@ -1,22 +1,25 @@
--- `octets::is_zero` meets its contract. The invariant: `any` is zero exactly if the first i bytes are.
--- Assumes nothing.
-use Prim.Native.Nat.{◌+◌}
-use lib.ListN.{get_or}
-use mathlib.Core.Path.{◌≡◌, refl, sym}
+-- `octets::is_zero` meets its contract. Assumes nothing.
 use native.Mathlib.Omega.{arith}
+use mathlib.Core.Path.{◌≡◌, sym, ap}
+use lib.Dec.{eqb}
 use Rattle.octets.specs.Octets.{zero_at}
 use Rattle.octets.proofs.Laws.{all_none, gathered}
+use Rattle.octets.proofs.Parts.{length-lent, lent_at}
 use Rattle.octets.proofs.is_zero.Goals as goal
 
-pub loop-i-init : goal.loop-i-init
+pub loop-b-init : goal.loop-b-init
 unfolding zero_at
-loop-i-init c = (omega arith, sym (all_none _))
+loop-b-init c = sym (all_none _)
 
-pub loop-i-preserved : goal.loop-i-preserved
+pub loop-b-preserved : goal.loop-b-preserved
 unfolding zero_at
-loop-i-preserved c =
+loop-b-preserved c =
     let g = c.args in
-    (omega arith, gathered _ _ c.loop-i.any (get_or g.s.now (g.a + c.loop-i.i) 0) c.loop-i.invariant.1 refl)
+    let read = lent_at g.s.now g.a g.n c.loop-b.b-index c.requires c.loop-b-test.true in
+    gathered _ c.loop-b.b-index c.loop-b.any _ c.loop-b.invariant (ap (λ x. eqb x 0) read)
 
 pub returns : goal.returns
-returns c = let e : c.args.n ≡ c.loop-i.i = omega arith in rw e c.loop-i.invariant.1
+returns c =
+    let g = c.args in
+    let whole : c.loop-b.b-index ≡ g.n = omega (arith, length-lent g.s.now g.a g.n c.requires, c.loop-b-test.false) in
+    rw (← whole) c.loop-b.invariant

@@ -1,16 +1,17 @@
 -- What the writing functions require and keep true. Assumes nothing.
-use Rattle.std.specs.Prelude.{◌≡◌, ℕ, ◌+◌, ◌^◌, ◌<◌, ◌≤◌, Bool, true, cond, List, length, take, ℤ}
+use Rattle.std.specs.Prelude.{◌≡◌, ℕ, ◌+◌, ◌^◌, ◌<◌, ◌≤◌, Bool, true, cond, List, length, take, ℤ, Result}
 use Rattle.rsr_samples_text.specs.inner.Room.{most_number}
-use Rattle.streaming.specs.declared.Piece.{Piece}
+use Rattle.streaming.specs.declared.Failure.{Failure}
+use Rattle.streaming.specs.Failure.{got_of}
 use Rattle.streaming.specs.Window.{window_size}
-use Rattle.rsr_samples.specs.declared.Step.{Step}
-use Rattle.rsr_samples.specs.declared.Step.TheVariants as S
+use Rattle.rsr_samples.specs.Step.{Step}
+use Rattle.rsr_samples.specs.Step as S
 use Rattle.rsr_samples.specs.Judging.{most_numbers}
 use Rattle.rsr_samples.specs.Parts.{OfOne, Came}
 
 -- The buffers and the place that `take_record` requires.
-pub record Ready (place : ℕ) (piece : Piece) (window : List ℕ) (zs : List ℤ) (out : List ℕ) : Type 0 where
-  pub one : OfOne window piece.got
+pub record Ready (place : ℕ) (piece : Result ℕ Failure) (window : List ℕ) (zs : List ℤ) (out : List ℕ) : Type 0 where
+  pub one : OfOne window (got_of piece)
   pub list : length zs ≡ most_numbers
   pub size : length window ≡ window_size
   pub near : place + window_size < 2 ^ 64

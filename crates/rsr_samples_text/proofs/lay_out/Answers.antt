@@ -1,9 +1,9 @@
 -- `rsr_samples_text::lay_out` meets its contract: what is laid out so far is the text of the numbers up to i, and each number takes some
 -- bytes at most, so that a part with no room left is not empty. Assumes nothing.
 use native.Mathlib.Omega.{arith}
-use mathlib.Core.Path.{ap, ◌∙◌, subst}
+use mathlib.Core.Path.{◌≡◌, ap, ◌∙◌, subst}
 use lib.IntN.{pos}
-use lib.ListN.{get_or}
+use lib.ListN.{get_or, length}
 use mir.Syntax.{w32}
 use mir.ValLaws.{to_z-of_z}
 use borrow.Author.Rules.{rules, sfits_of}
@@ -35,5 +35,6 @@ loop-i-preserved c =
 
 pub returns : goal.returns
 returns c =
-    let inv = c.loop-i.invariant in
-    record { puts = inv.6; room = inv.5; least = inv.2; most = inv.3; goes = λ h. omega arith }
+    let end : c.loop-i.i ≡ length c.args.list.now = omega arith in
+    let inv = rw end at c.loop-i.invariant in
+    record { puts = inv.6; room = inv.5; least = inv.2; most = inv.3; goes = λ h. h }

@@ -13,6 +13,3 @@ invariant-loop-i l =
     (l.room + most_number ≡ length l.initial.out) × (length l.out ≡ length l.initial.out) × (l.from ≤ l.i) × (l.i ≤ length l.list) ×
     (l.at ≤ most_number * (l.i - l.from)) × (l.at ≤ length l.initial.out)
     × Puts l.initial.out l.out 0 l.at (part_text l.raw l.list l.from l.i)
-
-abbrev pub decreases-loop-i : goal.decreases-loop-i
-decreases-loop-i l = length l.list - l.i

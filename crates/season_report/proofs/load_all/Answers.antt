@@ -3,11 +3,11 @@ use Prim.Native.Nat.{◌+◌, ◌*◌, ◌-◌, ◌≤◌}
 use native.Mathlib.Omega.{arith}
 use mathlib.Core.Path.{refl}
 use lib.ListN.{drop, length-take}
-use borrow.Author.Tests.{not-false}
 use borrow.Author.Rules.{rules}
 use Rattle.season_report_text.specs.Page.{name_size}
+use Rattle.season_report.specs.inner.Places.{sheet_found}
 use Rattle.season_report.proofs.Names.{short_none, short-more}
-use Rattle.season_report.proofs.Sheets.{all-loaded, one-wrong, one_more}
+use Rattle.season_report.proofs.Sheets.{all-loaded, one_more}
 use Rattle.season_report.proofs.load_all.Goals as goal
 
 pub loop-i-init : goal.loop-i-init
@@ -31,31 +31,23 @@ loop-i-init c = (
 pub returns-then-count-i : goal.returns-then-count-i
 returns-then-count-i c = all-loaded c.loop-i.invariant.3 (λ _. c.if-count-i.true)
 
-pub returns-then-not-found : goal.returns-then-not-found
-returns-then-not-found c =
-    let so_far = c.loop-i.invariant.3 in
-    let named = so_far.named in (
-      record { few = named.few; slots = search rules; all = named.all; short = named.short },
-      one-wrong so_far (omega arith) c.load-file.new.room c.load-file.new.slot,
-    )
-
 pub loop-i-preserved : goal.loop-i-preserved
 loop-i-preserved c =
     let so_far = c.loop-i.invariant.3 in
     let named = so_far.named in
     let few = length-take (name_size * c.loop-i.i + name_size - name_size * c.loop-i.i) (drop (name_size * c.loop-i.i) c.loop-i.names) in
-    let short : c.load-file.result.size ≤ name_size = omega (arith, few, c.load-file.ensures.0) in
-    let taken = c.load-file.result.taken in (
+    let short : c.in_ok-file.file.size ≤ name_size = omega (arith, few, c.in_ok-file.ensures.0) in
+    let taken = c.in_ok-file.file.taken in (
       omega arith,
       search rules,
       search rules,
-      one_more so_far (omega arith) c.load-file.new.room c.load-file.new.slot _ taken.found c.load-file.result.size taken.got _
-          (search rules) (search rules) (omega arith) c.load-file.ensures.1 (not-false _ c.if-not-found.false)
+      one_more so_far (omega arith) c.load.new.room c.load.new.slot _ (sheet_found taken.converted) c.in_ok-file.file.size taken.got _
+          (search rules) (search rules) (omega arith) c.in_ok-file.ensures.1 refl
           (record {
             few = omega arith;
             slots = search rules;
             all = search rules;
-            short = short-more c.loop-i.files.sizes c.loop-i.i c.load-file.result.size named.short (omega (arith, named.all)) short;
+            short = short-more c.loop-i.files.sizes c.loop-i.i c.in_ok-file.file.size named.short (omega (arith, named.all)) short;
           }),
     )
 

@@ -4,5 +4,4 @@ use Rattle.season_report.proofs.tell.Goals as goal
 
 pub slice_bounds-page-end : goal.slice_bounds-page-end
 slice_bounds-page-end c =
-    let paged = rw c.in-Page.is at c.lay_out-told.ensures in
-    omega (arith, paged.room)
+    omega (arith, c.in-Ok.ensures.room)

@@ -1,38 +1,35 @@
 -- `sfdu_gain::agreed_gain` meets its contract. Assumes nothing.
 use native.Mathlib.Omega.{arith}
-use mathlib.Core.Path.{sym, ap, ◌∙◌}
 use mathlib.Core.List.{List}
+use mathlib.Core.Path.{sym, ap}
 use Prim.Native.Nat.{ℕ}
-use lib.Dec.{lit<}
-use Rattle.sfdu_headers.specs.RsrRecord.{words_of}
-use Rattle.sfdu_headers.proofs.RsrFound.{Whole, whole, refused}
-use Rattle.sfdu_gain.proofs.Judged.{agreed-refused, agreed-told}
+use Rattle.std.proofs.lemmas.Result.{err_from_is_err_and}
+use Rattle.sfdu_headers.proofs.RsrFound.{Whole, whole, refused-by}
+use Rattle.sfdu_gain.proofs.Judged.{agreed-refused, agreed-given, agreed-not}
 use Rattle.sfdu_gain.proofs.agreed_gain.Goals as goal
-use Rattle.sfdu_gain.proofs.agreed_gain.Goals.{In-Record}
+use Rattle.sfdu_gain.proofs.agreed_gain.Goals.{In_ok-rsr}
 
 -- What the answer of `read_rsr` says of the record.
-found : (c : In-Record)
-    → Whole c.args.s.now c.in-Record.size c.in-Record.mission c.in-Record.day_count
-found c = whole _ _ _ _ (sym (ap words_of c.in-Record.is) ∙ c.read_rsr-found.ensures)
+found : (c : In_ok-rsr) → let rsr = c.in_ok-rsr.rsr in Whole c.args.s.now rsr.size rsr.mission rsr.day_count
+found c = whole _ _ _ _ c.in_ok-rsr.ensures
 
-pub told_gain-requires : goal.told_gain-requires
-told_gain-requires c = let w = found (goal.at.told_gain-requires c).In-Record in omega arith
+pub returns-in_err-rsr : goal.returns-in_err-rsr
+returns-in_err-rsr c =
+    let p = err_from_is_err_and c.from_residual.result c.from_residual.ensures.1 in
+    rw (p.1, p.2) (sym (agreed-refused c.args.sheet.now c.args.s.now _ (refused-by c.args.s.now _ c.in_err-rsr.ensures)))
 
-pub returns-in-Record : goal.returns-in-Record
-returns-in-Record c =
-    let w = found (goal.at.returns-in-Record c).In-Record in
-    let g = c.args in
-    let words = ap (λ (p : List ℕ × List ℕ). p.0) c.ask.ensures in
-    c.told_gain.ensures ∙ agreed-told g.sheet.now g.s.now w.headers c.ask.result (rw (w.mission-is, w.day-is) at words)
+pub returns-in_err-agreement : goal.returns-in_err-agreement
+returns-in_err-agreement c =
+    let w = found (goal.at.returns-in_err-agreement c).In_ok-rsr in
+    let p = err_from_is_err_and c.from_residual-in_err-agreement.result c.from_residual-in_err-agreement.ensures.1 in
+    let words = ap (λ (p : List ℕ × List ℕ). p.0) c.in_err-agreement.ensures in
+    rw (p.1, p.2) (agreed-not c.args.sheet.now c.args.s.now w.headers _ (rw (w.mission-is, w.day-is) at words))
 
-pub returns-in-Refused : goal.returns-in-Refused
-returns-in-Refused c =
-    let g = c.args in
-    let words = sym (ap words_of c.in-Refused.is) ∙ c.read_rsr-found.ensures in
-    sym (agreed-refused g.sheet.now g.s.now _ (refused g.s.now _ (lit< tt) words))
+pub gain_in-requires : goal.gain_in-requires
+gain_in-requires c = let w = found (goal.at.gain_in-requires c).In_ok-rsr in omega arith
 
-pub returns-in-WrongKind : goal.returns-in-WrongKind
-returns-in-WrongKind c =
-    let g = c.args in
-    let words = sym (ap words_of c.in-WrongKind.is) ∙ c.read_rsr-found.ensures in
-    sym (agreed-refused g.sheet.now g.s.now _ (refused g.s.now _ (lit< tt) words))
+pub returns : goal.returns
+returns c =
+    let w = found (goal.at.returns c).In_ok-rsr in
+    let words = ap (λ (p : List ℕ × List ℕ). p.0) c.in_ok-agreement.ensures in
+    rw c.gain_in.ensures (agreed-given c.args.sheet.now c.args.s.now w.headers c.in_ok-agreement.agreement (rw (w.mission-is, w.day-is) at words))

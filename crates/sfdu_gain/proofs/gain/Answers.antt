@@ -1,42 +1,34 @@
 -- `sfdu_gain::gain` meets its contract. Assumes nothing.
 use native.Mathlib.Omega.{arith}
-use mathlib.Core.Path.{sym, ap, ◌∙◌}
-use lib.Dec.{lit<}
-use Rattle.laws.proofs.Bools.{passed, failed}
-use Rattle.sfdu_headers.specs.RsrRecord.{words_of}
-use Rattle.sfdu_headers.proofs.RsrFound.{Whole, whole, refused}
+use mathlib.Core.Path.{sym}
+use Rattle.std.proofs.lemmas.Result.{err_from_is_err_and}
+use Rattle.settings.proofs.Editions.{known-of, unknown-of}
+use Rattle.sfdu_headers.proofs.RsrFound.{Whole, whole, refused-by}
 use Rattle.sfdu_gain.proofs.Judged.{gain-refused, gain-unknown, gain-known}
 use Rattle.sfdu_gain.proofs.gain.Goals as goal
-use Rattle.sfdu_gain.proofs.gain.Goals.{In-Record}
+use Rattle.sfdu_gain.proofs.gain.Goals.{In_ok-read_rsr}
 
 -- What the answer of `read_rsr` says of the record.
-found : (c : In-Record)
-    → Whole c.args.s.now c.in-Record.size c.in-Record.mission c.in-Record.day_count
-found c = whole _ _ _ _ (sym (ap words_of c.in-Record.is) ∙ c.read_rsr-found.ensures)
+found : (c : In_ok-read_rsr) → let rsr = c.in_ok-read_rsr.field-0 in Whole c.args.s.now rsr.size rsr.mission rsr.day_count
+found c = whole _ _ _ _ c.in_ok-read_rsr.ensures
 
-pub returns-then-not-is_known : goal.returns-then-not-is_known
-returns-then-not-is_known c =
-    let g = c.args in
-    let w = found (goal.at.returns-then-not-is_known c).In-Record in
-    sym (gain-unknown g.edition g.s.now w.headers (failed c.is_known.ensures c.if-not-is_known.true-raw))
+pub returns-in_err-read_rsr : goal.returns-in_err-read_rsr
+returns-in_err-read_rsr c =
+    let p = err_from_is_err_and c.from_residual.result c.from_residual.ensures.1 in
+    rw (p.1, p.2) (sym (gain-refused c.args.edition c.args.s.now _ (refused-by c.args.s.now _ c.in_err-read_rsr.ensures)))
+
+pub returns-in_err-edition : goal.returns-in_err-edition
+returns-in_err-edition c =
+    let w = found (goal.at.returns-in_err-edition c).In_ok-read_rsr in
+    let p = err_from_is_err_and c.from_residual-in_err-edition.result c.from_residual-in_err-edition.ensures.1 in
+    let u = unknown-of c.args.edition _ c.in_err-edition.ensures in
+    rw (p.1, p.2, u.1) (sym (gain-unknown c.args.edition c.args.s.now w.headers u.0))
 
 pub gain_in-requires : goal.gain_in-requires
-gain_in-requires c = let w = found (goal.at.gain_in-requires c).In-Record in omega arith
+gain_in-requires c = let w = found (goal.at.gain_in-requires c).In_ok-read_rsr in omega arith
 
-pub returns-else-not-is_known : goal.returns-else-not-is_known
-returns-else-not-is_known c =
-    let g = c.args in
-    let w = found (goal.at.returns-else-not-is_known c).In-Record in
-    c.gain_in.ensures ∙ sym (gain-known g.edition g.s.now w.headers (passed c.is_known.ensures c.if-not-is_known.false-raw))
-
-pub returns-in-Refused : goal.returns-in-Refused
-returns-in-Refused c =
-    let g = c.args in
-    let words = sym (ap words_of c.in-Refused.is) ∙ c.read_rsr-found.ensures in
-    sym (gain-refused g.edition g.s.now _ (refused g.s.now _ (lit< tt) words))
-
-pub returns-in-WrongKind : goal.returns-in-WrongKind
-returns-in-WrongKind c =
-    let g = c.args in
-    let words = sym (ap words_of c.in-WrongKind.is) ∙ c.read_rsr-found.ensures in
-    sym (gain-refused g.edition g.s.now _ (refused g.s.now _ (lit< tt) words))
+pub returns : goal.returns
+returns c =
+    let w = found (goal.at.returns c).In_ok-read_rsr in
+    let k = known-of c.args.edition c.in_ok-edition.edition c.in_ok-edition.ensures in
+    rw (c.gain_in.ensures, k.1) (sym (gain-known c.args.edition c.args.s.now w.headers k.0))

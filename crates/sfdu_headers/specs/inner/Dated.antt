@@ -1,12 +1,12 @@
 -- What `read_date` gives. Assumes nothing.
-use Rattle.std.specs.Prelude.{ℕ, List, ◌≡◌}
-use Rattle.sfdu.specs.declared.Checked.TheVariants.{Right}
-use Rattle.sfdu.specs.inner.Checked.{checked}
+use Rattle.std.specs.Prelude.{ℕ, List, Result, Ok, Err}
+use Rattle.refusals.specs.Judge.{judge}
+use Rattle.refusals.specs.declared.Refusal.TheVariants.{FieldRange}
 use Rattle.dates.specs.Calendar.{day_count}
-use Rattle.sfdu_headers.specs.declared.Dated.{Dated}
+use Rattle.sfdu.specs.declared.Fault.{Fault}
 use Rattle.sfdu_headers.specs.Fields.{year, day}
 use Rattle.sfdu_headers.specs.Ranges.{date_rules}
 
-pub record IsDated (s : List ℕ) (r : Dated) : Type 0 where
-  pub judged : r.checked ≡ checked (date_rules s)
-  pub counted : r.checked ≡ Right → r.count ≡ day_count (year s) (day s)
+-- The day count of a record's year and day; or the refusal, with the offset of the one that is out of range.
+unfoldable pub dated : List ℕ → Result ℕ Fault
+dated s = judge (λ at. Err (record { refusal = FieldRange; at = at })) (date_rules s) (Ok (day_count (year s) (day s)))

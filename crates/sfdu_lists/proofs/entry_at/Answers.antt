@@ -19,5 +19,5 @@ slice_bounds-record_number-start c =
 pub returns : goal.returns
 returns c =
     let there = headers-there c.args.s.now c.args.at c.args.kind c.args.size c.requires in
-    entry-is c.args.s.now c.args.at c.args.kind c.args.size c.requires _ _ c.kind_number.ensures
+    entry-is c.args.s.now c.args.at c.args.kind c.args.size c.requires _ _ c.from.ensures
     (c.record_number.ensures ∙ number-long _ _ there)

@@ -4,8 +4,8 @@ use Prim.Native.Nat.{◌-◌}
 use Rattle.sfdu_lists.proofs.Rows.{Round}
 use Rattle.sfdu_lists.proofs.list_entries.Given as goal
 
-abbrev pub invariant-loop-at : goal.invariant-loop-at
-invariant-loop-at l = Round l.s l.initial.table l.size l.at l.i l.table
+abbrev pub invariant-loop-turn : goal.invariant-loop-turn
+invariant-loop-turn l = Round l.s l.initial.table l.size l.at l.i l.table
 
-abbrev pub decreases-loop-at : goal.decreases-loop-at
-decreases-loop-at l = l.size - l.i
+abbrev pub decreases-loop-turn : goal.decreases-loop-turn
+decreases-loop-turn l = l.size - l.i

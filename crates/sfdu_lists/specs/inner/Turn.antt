@@ -1,19 +1,22 @@
 -- What the inner functions of the lists give. Assumes nothing.
-use Rattle.std.specs.Prelude.{ℕ, true, false, cond, ◌&&◌, List, ◌∷◌, ◌≡◌, ltb}
+use Rattle.std.specs.Prelude.{ℕ, true, false, cond, ◌&&◌, List, ◌∷◌, Result, MatchResult, ◌≡◌, ◌<◌, ltb}
 use Rattle.sfdu_stream.specs.declared.Walked.{Walked}
 use Rattle.sfdu_stream.specs.Walk.{words_of, whole, past, full}
 use Rattle.sfdu_stream.specs.inner.Refusal.{refusal}
 use Rattle.sfdu_stream.specs.Listing.{entry_at}
 use Rattle.sfdu_lists.specs.declared.Turn.{Turn}
 
--- The turn of a list that stops with this answer.
-abbrev pub no_turn : Walked → Turn
-no_turn w = record { listed = false; entry = record { place = 0; length = 0; kind = 0; number = 0 }; next = 0; answer = w }
+-- A turn at a place of a list of `size` entries, of which `count` are filled, that lists the record at the place: it is whole, and an entry is free.
+pub record Lists (s : List ℕ) (at count size : ℕ) (t : Turn) : Type 0 where
+  pub is_whole : whole s at ≡ true
+  pub free : count < size
+  pub entry : t.entry ≡ entry_at s at
+  pub next : t.next ≡ past s at
 
--- The turn at a place of a list of `size` entries, of which `count` are filled. It lists the record at the place if that is whole and an entry is
--- free; else it gives the list's answer.
-pub record TurnAt (s : List ℕ) (at count size : ℕ) (t : Turn) : Type 0 where
-  pub listed : t.listed ≡ whole s at && ltb count size
-  pub entry : t.listed ≡ true → t.entry ≡ entry_at s at
-  pub next : t.listed ≡ true → t.next ≡ past s at
-  pub answer : t.listed ≡ false → words_of t.answer ≡ count ∷ at ∷ cond (whole s at) full (refusal s at)
+-- There is no such turn, and this is the list's answer.
+pub record Stops (s : List ℕ) (at count size : ℕ) (w : Walked) : Type 0 where
+  pub none : whole s at && ltb count size ≡ false
+  pub answer : words_of w ≡ count ∷ at ∷ cond (whole s at) full (refusal s at)
+
+abbrev pub TurnAt : List ℕ → (at count size : ℕ) → Result Turn Walked → Type 0
+TurnAt s at count size found = MatchResult found (Lists s at count size) (Stops s at count size)

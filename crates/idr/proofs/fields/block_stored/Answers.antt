@@ -3,4 +3,4 @@ use native.Mathlib.Omega.{arith}
 use Rattle.idr.proofs.fields.block_stored.Goals as goal
 
 pub returns : goal.returns
-returns c = (rw c.field.ensures.0 at c.long.ensures, omega (arith, c.shared_slice_known-2-1.given 12))
+returns c = (rw c.field.ensures.0 at c.long.ensures, omega (arith, c.fits-w 12))

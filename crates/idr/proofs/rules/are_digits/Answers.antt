@@ -1,36 +1,19 @@
--- `idr::rules::are_digits` meets its contract. The invariant: the digits before k are at most 9. Assumes nothing.
-use Prim.Native.Nat.{◌≤◌, ◌<◌}
-use native.Mathlib.Omega.{arith}
-use mathlib.Core.Path.{◌≡◌, sym}
-use borrow.Author.Tests.{le-leb, lt-leb}
-use Rattle.octets.proofs.Laws.{all_none, all_more, all-fails}
+-- `idr::rules::are_digits` meets its contract. Assumes nothing.
+use mathlib.Core.Bool.{true, false}
+use mathlib.Core.Path.{◌≡◌, refl}
+use lib.Dec.{leb}
+use borrow.Author.Tests.{tests}
+use Rattle.std.proofs.Common.{rules}
+use Rattle.std.proofs.lemmas.Iterator.{cases_from_all, YieldsList-from_range}
 use Rattle.idr.specs.Fields.{digit, digit_count}
 use Rattle.idr.specs.Rules.{are_digits}
+use Rattle.idr.proofs.Ranges.{all-range}
 use Rattle.idr.proofs.rules.are_digits.Goals as goal
-
-pub loop-k-init : goal.loop-k-init
-loop-k-init c = (omega arith, all_none _)
-
-pub digit_at-requires : goal.digit_at-requires
-digit_at-requires c = (c.requires, omega arith)
-
-pub returns-then-digit_at-gt9 : goal.returns-then-digit_at-gt9
-unfolding are_digits
-returns-then-digit_at-gt9 c =
-    let w = c.args.w.now in
-    let k = c.loop-k.k in
-    let over : 9 < digit w k = omega (arith, c.digit_at.ensures.0) in
-    sym (all-fails digit_count k _ (omega arith) (lt-leb _ _ over))
-
-pub loop-k-preserved : goal.loop-k-preserved
-loop-k-preserved c =
-    let w = c.args.w.now in
-    let k = c.loop-k.k in
-    let right : digit w k ≤ 9 = omega (arith, c.digit_at.ensures.0) in
-    (omega arith, all_more _ _ c.loop-k.invariant.1 (le-leb _ _ right))
 
 pub returns : goal.returns
 unfolding are_digits
 returns c =
-    let e : c.loop-k.k ≡ digit_count = omega arith in
-    sym (rw e at c.loop-k.invariant.1)
+    let w = c.args.w.now in
+    all-range digit_count (λ k. leb (digit w k) 9) c.all.result
+    (cases_from_all _ _ _ (λ k. leb (digit w k) 9 ≡ true) (λ k. leb (digit w k) 9 ≡ false) c.all.ensures.ran
+    (YieldsList-from_range 0 9 9 refl refl) (λ x q k. search (rules, tests)) (λ x q k. search (rules, tests)))

@@ -5,9 +5,11 @@ use Rattle.refusals.specs.Judge.{judge}
 use Rattle.idr.proofs.Judging.{header-verdict}
 use Rattle.idr.proofs.rules.judge.Goals as goal
 
-pub returns-then-w-ne-HEADER : goal.returns-then-w-ne-HEADER
+pub returns-in_default : goal.returns-in_default
 unfolding judge
-returns-then-w-ne-HEADER c = rw (ne_eqb _ _ c.if-w-ne-HEADER.true)
+returns-in_default c = rw (ne_eqb _ _ c.in_default.ensures.1)
 
 pub returns : goal.returns
-returns c = c.judge_words.ensures ∙ sym (header-verdict c.args.w.now c.if-w-ne-HEADER.false)
+returns c =
+    let whole = c.in-Ok.ensures.1 in
+    rw whole.same at c.judge_words.ensures ∙ sym (header-verdict c.args.w.now whole.long)

@@ -9,6 +9,7 @@ unfolding last_line
 returns c =
     let a = c.put_numeral-a.ensures in
     let b = c.put_numeral-b.ensures in
-    let d = c.put_why.ensures in
-    let ab = then a.puts b.puts (omega arith) in
-    record { puts = then ab d.puts (omega arith); upper_bound = omega arith }
+    let w = c.words.ensures in
+    let d = rw w.value at c.put_text.ensures in
+    let ab = rw c.number.ensures at (then a.puts b.puts (omega arith)) in
+    record { puts = then ab d (omega (arith, w.upper_bound)); upper_bound = omega (arith, w.upper_bound) }

@@ -1,6 +1,5 @@
 -- `desks::open_desk` meets its contract. Assumes nothing.
 use native.Mathlib.Omega.{arith}
-use mathlib.Core.Logic.{inl}
 use mathlib.Core.Path.{◌∙◌}
 use lib.ListN.{length-set}
 use Rattle.ledger_layout.proofs.Writers.{open-on}
@@ -16,13 +15,13 @@ clear-requires c = simp length-set (omega arith)
 pub copy-requires : goal.copy-requires
 copy-requires c =
     let kept = simp length-set at c.clear.auto.s in
-    record { inside = (omega arith, omega arith); apart = inl (omega arith) }
+    (omega arith, omega arith)
 
 pub copy-requires-2 : goal.copy-requires-2
 copy-requires-2 c =
     let kept = simp length-set at c.clear.auto.s in
     let kept-2 = c.copy.auto.s in
-    record { inside = (omega arith, omega arith); apart = inl (omega arith) }
+    (omega arith, omega arith)
 
 pub shape_of-s : goal.shape_of-s
 shape_of-s c =

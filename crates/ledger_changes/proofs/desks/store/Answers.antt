@@ -1,24 +1,31 @@
 -- `desks::store` meets its contract. Assumes nothing.
 use native.Mathlib.Omega.{arith}
-use mathlib.Core.Logic.{inr}
-use mathlib.Core.Path.{◌∙◌}
+use mathlib.Core.Path.{◌≡◌, sym, ◌∙◌}
+use Rattle.ledger_model.specs.Book.{desk, place_of}
+use Rattle.ledger_layout.specs.Layout.{book_of}
 use Rattle.ledger_layout.proofs.Readers.{place-in}
+use Rattle.ledger_layout.proofs.Scans.{opened-is}
 use Rattle.ledger_layout.proofs.Writers.{store-on}
 use Rattle.ledger_changes.proofs.desks.store.Goals as goal
+use Rattle.ledger_changes.proofs.desks.store.Goals.{After-unwrap}
+
+-- The row that the desk has open.
+named : (c : After-unwrap) → let g = c.args in c.unwrap.result ≡ place_of (desk (book_of g.s.now) g.d)
+named c = opened-is _ c.requires.2 (sym c.open_row.ensures ∙ c.unwrap.ensures)
 
 pub row_at-row-requires : goal.row_at-row-requires
 row_at-row-requires c =
     let pre = c.requires in
-    omega (arith, c.desk_row.ensures, place-in _ _ pre.1 pre.0.0 pre.2)
+    omega (arith, named c, place-in _ _ pre.1 pre.0.0 pre.2)
 
 pub copy-requires : goal.copy-requires
 copy-requires c =
     let pre = c.requires in
     let row = place-in _ _ pre.1 pre.0.0 pre.2 in
-    let named = c.desk_row.ensures in
-    record { inside = (omega arith, omega arith); apart = inr (omega arith) }
+    let is = named (goal.at.copy-requires c).After-unwrap in
+    (omega arith, omega arith)
 
 pub returns : goal.returns
 returns c =
-    (rw (c.desk_at.ensures, c.row_at-row.ensures, c.desk_row.ensures) at c.copy.ensures)
+    (rw (c.desk_at.ensures, c.row_at-row.ensures, named (goal.at.returns c).After-unwrap) at c.copy.ensures)
     ∙ store-on _ c.slice_known-1.given c.requires.0.0 _ c.requires.2

@@ -6,4 +6,4 @@ use Rattle.ledger_changes.proofs.rows.write_row.Goals as goal
 pub returns : goal.returns
 returns c =
     row_written _ _ _ _ _ (omega arith) (omega arith) c.write_be.ensures c.write_be-2.ensures c.write_be-3.ensures
-    c.write_ticks.ensures
+    c.copy_in.ensures

@@ -1,19 +1,18 @@
--- `is_idle` meets its contract. The invariant: if `idle` is true, none of the first d desks has the row open. Assumes nothing.
-use mathlib.Core.Path.{◌≡◌, sym, ◌∙◌}
-use native.Mathlib.Omega.{arith}
-use Rattle.octets.proofs.Laws.{all_none, all-next}
+-- `is_idle` meets its contract. Assumes nothing.
+use Rattle.std.proofs.Common.{◌≡◌, refl, ◌∙◌, true, false, rules}
+use Rattle.std.proofs.lemmas.Iterator.{cases_from_all, YieldsList-from_range}
+use Rattle.ledger_model.specs.Book.{desk}
 use Rattle.ledger_sheet.specs.Sheet.{desk_count}
-use Rattle.ledger_layout.proofs.Readers.{none_open}
+use Rattle.ledger_layout.specs.Layout.{book_of}
+use Rattle.ledger_layout.proofs.Scans.{all-range}
+use Rattle.ledger_layout.proofs.Readers.{is_elsewhere, none_open}
 use Rattle.ledger_layout.proofs.lookup.is_idle.Goals as goal
-
-pub loop-d-init : goal.loop-d-init
-loop-d-init c = (omega arith, sym (all_none _))
-
-pub loop-d-preserved : goal.loop-d-preserved
-loop-d-preserved c =
-    (omega arith, rw (all-next, ← c.loop-d.invariant.1, ← c.is_closed.ensures, ← c.desk_row.ensures))
 
 pub returns : goal.returns
 returns c =
-    let e : c.loop-d.d ≡ desk_count = omega arith in
-    (rw e at c.loop-d.invariant.1) ∙ none_open _ _
+    let b = book_of c.args.s.now in
+    let row = c.args.row in
+    all-range desk_count (λ d. is_elsewhere row (desk b d)) _
+    (cases_from_all _ _ _ (λ d. is_elsewhere row (desk b d) ≡ true) (λ d. is_elsewhere row (desk b d) ≡ false) c.all.ensures.ran
+    (YieldsList-from_range 0 desk_count desk_count refl refl) (λ x q k. search rules) (λ x q k. search rules))
+    ∙ none_open _ _

@@ -1,14 +1,13 @@
 -- `calls::written_row` meets its contract. Assumes nothing.
 use mathlib.Core.Path.{sym}
-use borrow.Author.Tests.{eq-eqb, ne_eqb}
-use Rattle.ledger_replay.proofs.Turns.{written-other, written-refused, written_row}
+use borrow.Author.Tests.{eq-eqb}
+use Rattle.ledger_replay.specs.inner.Numbered.{numbers_of}
+use Rattle.ledger_replay.proofs.Numbered.{no-enrolment}
+use Rattle.ledger_replay.proofs.Turns.{written-other, written_row}
 use Rattle.ledger_replay.proofs.calls.written_row.Goals as goal
 
-pub returns-then-x-ne-ENROL : goal.returns-then-x-ne-ENROL
-returns-then-x-ne-ENROL c = let x = c.args.x in sym (written-other x (ne_eqb _ _ c.if-x-ne-ENROL.true))
+pub returns-in-Enrol : goal.returns-in-Enrol
+returns-in-Enrol c = λ z. sym (written_row (numbers_of c.args.x) (rw c.in-Enrol.is) (eq-eqb _ _ z))
 
-pub returns-then-x-ne0 : goal.returns-then-x-ne0
-returns-then-x-ne0 c = let x = c.args.x in sym (written-refused x (ne_eqb _ _ c.if-x-ne0.true))
-
-pub returns : goal.returns
-returns c = let x = c.args.x in sym (written_row x (eq-eqb _ _ c.if-x-ne-ENROL.false) (eq-eqb _ _ c.if-x-ne0.false))
+pub returns-in_default : goal.returns-in_default
+returns-in_default c = λ z. sym (written-other (numbers_of c.args.x) (no-enrolment _ c.in_default.not-Enrol))

@@ -8,12 +8,12 @@ use Rattle.ledger_sheet.proofs.right.are_desks.Goals as goal
 use Rattle.ledger_sheet.proofs.right.are_desks.Goals.{then-s-desk-ne-CLOSED, else-s-desk-ne-CLOSED}
 
 pub loop-d-init : goal.loop-d-init
-loop-d-init c = (omega arith, omega (arith, c.requires.zeros.within), none-judged _ _ _ c.requires.zeros)
+loop-d-init c = (omega arith, omega (arith, c.requires.within), none-judged _ _ _ c.requires)
 
 pub is_open_desk-right-requires : goal.is_open_desk-right-requires
 is_open_desk-right-requires c =
     let place = c.desk_at-desk.ensures in
-    record { whole = omega arith; is_open = (omega arith, rw (← place) c.if-s-desk-ne-CLOSED.true) }
+    (omega arith, rw (← place) c.if-s-desk-ne-CLOSED.true)
 
 pub loop-d-preserved : goal.loop-d-preserved
 loop-d-preserved c =

@@ -14,12 +14,9 @@ use Rattle.ledger_sheet.proofs.right.is_open_desk.Goals as goal
 named : (s : List ℕ) (a : ℕ) → is_row s (get_or s (a + desk_row_at) 0) ≡ true → get_or s (a + desk_row_at) 0 < row_count
 named s a e = (row-parts s (get_or s (a + desk_row_at) 0) e).0
 
-pub overflow_cast-row : goal.overflow_cast-row
-overflow_cast-row c = omega (arith, c.shared_slice_known-2-1.given (c.desk_at-a.result + desk_row_at))
-
 pub returns-then-not-is_row : goal.returns-then-not-is_row
 returns-then-not-is_row c =
-    rw (← open-desk _ _ c.requires.is_open.1, ← c.desk_at-a.ensures, failed c.is_row.ensures c.if-not-is_row.true-raw, and-false)
+    rw (← open-desk _ _ c.requires.1, ← c.desk_at-a.ensures, failed c.is_row.ensures c.if-not-is_row.true-raw, and-false)
 
 pub row_at-from-requires : goal.row_at-from-requires
 row_at-from-requires c =
@@ -36,7 +33,7 @@ is_same-worked-requires c =
 pub returns : goal.returns
 returns c =
     rw (
-      ← open-desk _ _ c.requires.is_open.1,
+      ← open-desk _ _ c.requires.1,
       ← c.desk_at-a.ensures,
       passed c.is_row.ensures c.if-not-is_row.false-raw,
       ← c.is_zero-zeros.ensures,

@@ -1,9 +1,9 @@
 -- `octets::numbers::read_u32` meets its contract. Assumes nothing.
-use mathlib.Core.Path.{◌∙◌}
-use Rattle.octets.proofs.Swapped.{swapped-little}
+use native.Mathlib.Nat.{add-zero}
+use native.Mathlib.Omega.{arith}
+use Rattle.octets.specs.Octets.{number_at}
 use Rattle.octets.proofs.numbers.read_u32.Goals as goal
 
 pub returns : goal.returns
-returns c =
-    let g = c.args in
-    c.swapped_u32.ensures ∙ rw c.read_le_u32.ensures (swapped-little g.s.now c.shared_slice_known-1.given 4 g.a)
+unfolding number_at
+returns c = simp add-zero (omega (arith, c.from_be_bytes.ensures))

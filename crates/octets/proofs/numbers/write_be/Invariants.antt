@@ -7,6 +7,3 @@ use Rattle.octets.proofs.numbers.write_be.Given as goal
 
 abbrev pub invariant-loop-i : goal.invariant-loop-i
 invariant-loop-i l = (l.i ≤ l.n) × (put l.s l.a (bytes_of l.i l.left) ≡ put l.initial.s l.a (bytes_of l.n l.v)) × (length l.s ≡ length l.initial.s)
-
-abbrev pub decreases-loop-i : goal.decreases-loop-i
-decreases-loop-i l = l.i

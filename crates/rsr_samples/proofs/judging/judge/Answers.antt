@@ -5,23 +5,23 @@ use Rattle.rsr_samples.proofs.judging.judge.Goals as goal
 
 pub stop_in-requires : goal.stop_in-requires
 stop_in-requires c =
-    let near = second-near c.args.s.now c.args.list.now c.in-Header.fault c.requires.0 (words c.in-Header.is c.unpack-answer.ensures) in
+    let near = second-near c.args.s.now c.args.list.now c.in-Err-Fault.fault c.requires.0 (words (rw c.in-Err-Fault.field-0-is at c.in-Err-Fault.is) c.unpack.ensures) in
     omega (arith, c.requires.1)
 
-pub returns-in-Count : goal.returns-in-Count
-returns-in-Count c =
+pub returns-in-Ok : goal.returns-in-Ok
+returns-in-Ok c =
     let given = c.args in
-    let is = count-judged given.place given.s.now c.in-Count.n in
-    judged-as _ _ _ _ c.unpack-answer.result _ c.unpack-answer.ensures (rw c.in-Count.is is)
+    let is = count-judged given.place given.s.now c.in-Ok.n in
+    judged-as _ _ _ _ c.unpack.result _ c.unpack.ensures (rw c.in-Ok.is is)
 
-pub returns-in-Header : goal.returns-in-Header
-returns-in-Header c =
+pub returns-in-Err-Fault : goal.returns-in-Err-Fault
+returns-in-Err-Fault c =
     let given = c.args in
-    let is = fault-judged given.place given.s.now c.in-Header.fault in
-    judged-as _ _ _ _ c.unpack-answer.result _ c.unpack-answer.ensures (rw (c.in-Header.is, c.stop_in.ensures) is)
+    let is = fault-judged given.place given.s.now c.in-Err-Fault.fault in
+    judged-as _ _ _ _ c.unpack.result _ c.unpack.ensures (rw (c.in-Err-Fault.is, c.in-Err-Fault.field-0-is, c.stop_in.ensures) is)
 
-pub returns-in-Refused : goal.returns-in-Refused
-returns-in-Refused c =
+pub returns-in-Err-Alone : goal.returns-in-Err-Alone
+returns-in-Err-Alone c =
     let given = c.args in
-    let is = refusal-judged given.place given.s.now c.in-Refused.why in
-    judged-as _ _ _ _ c.unpack-answer.result _ c.unpack-answer.ensures (rw (c.in-Refused.is, c.number.ensures) is)
+    let is = refusal-judged given.place given.s.now c.in-Err-Alone.refusal in
+    judged-as _ _ _ _ c.unpack.result _ c.unpack.ensures (rw (c.in-Err-Alone.is, c.in-Err-Alone.field-0-is) is)

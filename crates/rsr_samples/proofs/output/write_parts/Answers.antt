@@ -1,14 +1,10 @@
 -- `rsr_samples::output::write_parts` meets its contract, and ends: each part goes on past the place where it begins. Assumes nothing.
 use Rattle.std.proofs.Common.{◌≡◌, [], length, arith, rules}
-use mathlib.Core.Bool.{false≢true}
 use Rattle.rsr_samples_text.specs.Part.{begins, lays}
 use Rattle.rsr_samples.proofs.output.write_parts.Goals as goal
 
 pub loop-from-init : goal.loop-from-init
 loop-from-init c = (search rules, search rules, record { text = []; calls = begins })
-
-pub returns-then-has_failed : goal.returns-then-has_failed
-returns-then-has_failed c = λ e. absurd (false≢true e)
 
 pub loop-from-smaller : goal.loop-from-smaller
 loop-from-smaller c =

@@ -1,22 +1,34 @@
--- `entries::latest` meets its contract. The invariant: the best is the latest of the first i settings. Assumes nothing.
-use native.Mathlib.Omega.{arith}
-use mathlib.Core.Path.{◌≡◌}
-use Rattle.settings.specs.Model.{latest_from}
-use Rattle.octets.proofs.Lists.{table_none, table_more}
-use Rattle.settings.proofs.Model.{latest-more}
+-- `entries::latest` meets its contract. Assumes nothing.
+use Rattle.std.proofs.Common.{◌≡◌, ℕ, zero, suc, ◌+◌, ◌-◌, refl, ap, ◌∙◌, add-zero, zero-add, arith, rules}
+use borrow.Author.Tests.{tests}
+use Rattle.std.specs.Prelude.{Option, None}
+use Rattle.std.specs.List.{fold, range_with_len}
+use Rattle.std.proofs.lemmas.Iterator.{YieldsList-from_range}
+use Rattle.std.proofs.lemmas.Iterator.Consumers.{fold_from_yields_List}
+use Rattle.octets.specs.Lists.{table}
+use Rattle.settings.specs.declared.Setting.{Setting}
+use Rattle.settings.specs.Model.{picked, latest_from}
+use Rattle.settings.specs.Sheet.{setting_at}
 use Rattle.settings.proofs.entries.latest.Goals as goal
 
-pub loop-i-init : goal.loop-i-init
-unfolding latest_from
-loop-i-init c = (omega arith, rw table_none)
-
-pub pick-best-requires : goal.pick-best-requires
-pick-best-requires c = tt
-
-pub loop-i-preserved : goal.loop-i-preserved
-loop-i-preserved c =
-    (omega arith, rw (table_more, latest-more, ← c.loop-i.invariant.1, ← c.read_setting.ensures) c.pick-best.ensures)
+-- The latest of the best so far and the settings f a, f (a + 1), ..; g has them from 0 on.
+fold-latest : (mission day a n : ℕ) (best : Option Setting) (f g : ℕ → Setting) → ((i : ℕ) → f (a + i) ≡ g i)
+    → fold (λ b k. picked mission day b (f k)) best (range_with_len a n) ≡ latest_from mission day best (table n g)
+unfolding latest_from table
+fold-latest mission day a zero best f g same = refl
+fold-latest mission day a (suc n) best f g same =
+    let first : f a ≡ g 0 = rw add-zero at (same 0) in
+    let next : (i : ℕ) → f (a + 1 + i) ≡ g (suc i) = λ i. let e : a + 1 + i ≡ a + suc i = omega arith in ap f e ∙ same (suc i) in
+    rw (← first) (fold-latest mission day (a + 1) n (picked mission day best (f a)) f (λ i. g (suc i)) next)
 
 pub returns : goal.returns
-returns c = let e : c.count-used.result ≡ c.loop-i.i = omega arith in
-    rw (← c.count-used.ensures, e) c.loop-i.invariant.1
+returns c =
+    let s = c.args.s.now in
+    let m = c.args.mission in
+    let d = c.args.day in
+    let n = c.count.result in
+    let whole : n - 0 ≡ n = omega arith in
+    rw (← c.count.ensures)
+    (fold_from_yields_List _ (λ b k. picked m d b (setting_at s k)) None _ c.fold.ensures.ran (YieldsList-from_range 0 n n refl whole)
+    (λ b x r q k. search (rules, tests))
+    ∙ fold-latest m d 0 n None (setting_at s) (setting_at s) (λ i. ap (setting_at s) (zero-add i)))

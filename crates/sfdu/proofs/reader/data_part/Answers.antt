@@ -8,17 +8,16 @@ use Rattle.sfdu.specs.Read.{primary_words}
 use Rattle.sfdu.proofs.Accepted.{Found, record-found, refusal-found}
 use Rattle.sfdu.proofs.Parts.{room, data-start, data-part, no-parts}
 use Rattle.sfdu.proofs.reader.data_part.Goals as goal
-use Rattle.sfdu.proofs.reader.data_part.Goals.{In-Record, After-data_value_at-a}
+use Rattle.sfdu.proofs.reader.data_part.Goals.{In-Ok, After-data_value_at-a}
 
 -- Where read one answers a record: what is known of it.
-found : (c : In-Record) →
-    Found c.args.s.now c.in-Record.kind c.in-Record.size (primary_words c.in-Record.primary)
-found c = record-found _ c.in-Record.is c.read_one-found.ensures
+found : (c : In-Ok) → let r = c.in-Ok.found in Found c.args.s.now r.kind r.size (primary_words r.primary)
+found c = record-found _ c.in-Ok.is c.read_one.ensures
 
 -- The data start in the record, and the record ends in the slice.
-lies : (c : After-data_value_at-a) → let n = c.in-Record.size in
+lies : (c : After-data_value_at-a) → let n = c.in-Ok.found.size in
     (c.data_value_at-a.result ≤ n) × (n ≤ length c.args.s.now)
-lies c = rw c.data_value_at-a.ensures (room _ _ _ _ (found (goal.at.After-data_value_at-a c).In-Record))
+lies c = rw c.data_value_at-a.ensures (room _ _ _ _ (found (goal.at.After-data_value_at-a c).In-Ok))
 
 pub slice_bounds-result-count : goal.slice_bounds-result-count
 slice_bounds-result-count c = omega (arith, (lies (goal.at.slice_bounds-result-count c).After-data_value_at-a).0)
@@ -33,14 +32,14 @@ slice_bounds-result-end c = omega (
   (lies (goal.at.slice_bounds-result-end c).After-data_value_at-a).1,
 )
 
-pub returns-in-Record : goal.returns-in-Record
+pub returns-in-Ok : goal.returns-in-Ok
 unfolding part
-returns-in-Record c =
-    let f = found (goal.at.returns-in-Record c).In-Record in
+returns-in-Ok c =
+    let f = found (goal.at.returns-in-Ok c).In-Ok in
     let at = c.data_value_at-a.ensures in
     (rw (data-part _ _ _ _ f, at), refl, omega (arith, data-start _ _ _ _ f, at))
 
-pub returns-in-Refused : goal.returns-in-Refused
-returns-in-Refused c =
-    let e = no-parts _ (refusal-found _ c.in-Refused.is c.read_one-found.ensures) in
+pub returns-in-Err : goal.returns-in-Err
+returns-in-Err c =
+    let e = no-parts _ (refusal-found _ c.in-Err.is c.read_one.ensures) in
     (sym e.no-data, refl, omega (arith, e.data-at))

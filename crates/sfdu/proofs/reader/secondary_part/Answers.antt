@@ -10,17 +10,16 @@ use Rattle.sfdu.proofs.Accepted.{Found, record-found, refusal-found}
 use Rattle.sfdu.proofs.Parts.{secondary-room, secondary-start, secondary-part, no-parts}
 use Rattle.sfdu.specs.Nesting.{secondary_value_at, secondary_length}
 use Rattle.sfdu.proofs.reader.secondary_part.Goals as goal
-use Rattle.sfdu.proofs.reader.secondary_part.Goals.{In-Record, After-data_at-e}
+use Rattle.sfdu.proofs.reader.secondary_part.Goals.{In-Ok, After-data_at-e}
 
 -- Where read one answers a record: what is known of it.
-found : (c : In-Record) →
-    Found c.args.s.now c.in-Record.kind c.in-Record.size (primary_words c.in-Record.primary)
-found c = record-found _ c.in-Record.is c.read_one-found.ensures
+found : (c : In-Ok) → let r = c.in-Ok.found in Found c.args.s.now r.kind r.size (primary_words r.primary)
+found c = record-found _ c.in-Ok.is c.read_one.ensures
 
 -- The secondary header's end lies past its start, and in the slice.
 lies : (c : After-data_at-e) → let s = c.args.s.now in
     (secondary_value_at ≤ c.data_at-e.result) × (c.data_at-e.result ≤ length s)
-lies c = rw c.data_at-e.ensures (secondary-room _ _ _ _ (found (goal.at.After-data_at-e c).In-Record))
+lies c = rw c.data_at-e.ensures (secondary-room _ _ _ _ (found (goal.at.After-data_at-e c).In-Ok))
 
 pub slice_bounds-result-count : goal.slice_bounds-result-count
 slice_bounds-result-count c = omega (arith, (lies (goal.at.slice_bounds-result-count c).After-data_at-e).0)
@@ -35,16 +34,16 @@ slice_bounds-result-end c = omega (
   (lies (goal.at.slice_bounds-result-end c).After-data_at-e).1,
 )
 
-pub returns-in-Record : goal.returns-in-Record
+pub returns-in-Ok : goal.returns-in-Ok
 unfolding part
-returns-in-Record c =
-    let f = found (goal.at.returns-in-Record c).In-Record in
-    let k = c.in-Record.kind in
+returns-in-Ok c =
+    let f = found (goal.at.returns-in-Ok c).In-Ok in
+    let k = c.in-Ok.found.kind in
     let p = placed k in
     let n : c.data_at-e.result - secondary_value_at ≡ secondary_length k = omega (arith, c.data_at-e.ensures) in
     (rw (secondary-part _ _ _ _ f, n), refl, omega (arith, secondary-start _ _ _ _ f))
 
-pub returns-in-Refused : goal.returns-in-Refused
-returns-in-Refused c =
-    let e = no-parts _ (refusal-found _ c.in-Refused.is c.read_one-found.ensures) in
+pub returns-in-Err : goal.returns-in-Err
+returns-in-Err c =
+    let e = no-parts _ (refusal-found _ c.in-Err.is c.read_one.ensures) in
     (sym e.no-secondary, refl, omega (arith, e.secondary-at))

@@ -1,6 +1,7 @@
 -- `sfdu::whole::size_as` meets its contract. Assumes nothing.
 use Prim.Native.Nat.{◌+◌}
-use mathlib.Core.Path.{◌≡◌, sym, ◌∙◌}
+use mathlib.Core.Path.{◌≡◌, sym, ap, ◌∙◌}
+use Rattle.std.specs.Prelude.{Some}
 use native.Mathlib.Omega.{arith}
 use Rattle.laws.proofs.Bools.{failed, passed}
 use Rattle.refusals.specs.Judge.{judge}
@@ -39,7 +40,7 @@ pub returns-then-has_blocks : goal.returns-then-has_blocks
 unfolding judge
 returns-then-has_blocks c =
     let r = in-range (goal.at.returns-then-has_blocks c).Else-not-length_in_range in
-    rw (r.in-its-range, r.uncut c.if-s-size.false, sym c.has_blocks.ensures ∙ c.if-has_blocks.true) r.size_is
+    rw (r.in-its-range, r.uncut c.if-s-size.false, sym c.has_blocks.ensures ∙ c.if-has_blocks.true) (ap Some r.size_is)
 
 pub returns : goal.returns
 unfolding judge

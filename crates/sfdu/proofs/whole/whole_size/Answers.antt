@@ -13,35 +13,35 @@ pub returns-then-s-lt-LABEL : goal.returns-then-s-lt-LABEL
 unfolding whole_size accepts judge kind_of
 returns-then-s-lt-LABEL c = rw (lt-ltb _ _ c.if-s-lt-LABEL.true)
 
-pub returns-then-not-has_authority : goal.returns-then-not-has_authority
+pub returns-then-not-has_tag : goal.returns-then-not-has_tag
 unfolding whole_size accepts judge kind_of
-returns-then-not-has_authority c =
-    rw (le-ltb _ _ c.if-s-lt-LABEL.false, failed c.has_authority.ensures c.if-not-has_authority.true-raw)
+returns-then-not-has_tag c =
+    rw (le-ltb _ _ c.if-s-lt-LABEL.false, failed c.has_tag.ensures c.if-not-has_tag.true-raw)
 
-pub returns-then-not-has_version_class : goal.returns-then-not-has_version_class
+pub returns-then-not-has_tag-2 : goal.returns-then-not-has_tag-2
 unfolding whole_size accepts judge kind_of
-returns-then-not-has_version_class c =
+returns-then-not-has_tag-2 c =
     rw (
       le-ltb _ _ c.if-s-lt-LABEL.false,
-      passed c.has_authority.ensures c.if-not-has_authority.false-raw,
-      failed c.has_version_class.ensures c.if-not-has_version_class.true-raw,
+      passed c.has_tag.ensures c.if-not-has_tag.false-raw,
+      failed c.has_tag-2.ensures c.if-not-has_tag-2.true-raw,
     )
 
 pub returns-then-tag-eq-TELEMETRY_TAG : goal.returns-then-tag-eq-TELEMETRY_TAG
 returns-then-tag-eq-TELEMETRY_TAG c =
-    let label = labelled _ c.shared_slice_known-1.given c.if-s-lt-LABEL.false c.has_authority.ensures c.if-not-has_authority.false-raw
-    c.has_version_class.ensures c.if-not-has_version_class.false-raw in
+    let label = labelled _ c.shared_slice_known-1.given c.if-s-lt-LABEL.false c.has_tag.ensures c.if-not-has_tag.false-raw
+    c.has_tag-2.ensures c.if-not-has_tag-2.false-raw in
     c.size_as.ensures ∙ sym (whole-as _ label Telemetry (sym c.read_u32-tag.ensures ∙ c.if-tag-eq-TELEMETRY_TAG.true))
 
 pub returns-then-tag-eq-RSR_TAG : goal.returns-then-tag-eq-RSR_TAG
 returns-then-tag-eq-RSR_TAG c =
-    let label = labelled _ c.shared_slice_known-1.given c.if-s-lt-LABEL.false c.has_authority.ensures c.if-not-has_authority.false-raw
-    c.has_version_class.ensures c.if-not-has_version_class.false-raw in
+    let label = labelled _ c.shared_slice_known-1.given c.if-s-lt-LABEL.false c.has_tag.ensures c.if-not-has_tag.false-raw
+    c.has_tag-2.ensures c.if-not-has_tag-2.false-raw in
     c.size_as-then-tag-eq-RSR_TAG.ensures ∙ sym (whole-as _ label Rsr (sym c.read_u32-tag.ensures ∙ c.if-tag-eq-RSR_TAG.true))
 
 pub returns : goal.returns
 returns c =
-    let label = labelled _ c.shared_slice_known-1.given c.if-s-lt-LABEL.false c.has_authority.ensures c.if-not-has_authority.false-raw
-    c.has_version_class.ensures c.if-not-has_version_class.false-raw in
+    let label = labelled _ c.shared_slice_known-1.given c.if-s-lt-LABEL.false c.has_tag.ensures c.if-not-has_tag.false-raw
+    c.has_tag-2.ensures c.if-not-has_tag-2.false-raw in
     sym (whole-unknown _ label (no_kind _ (λ e. c.if-tag-eq-TELEMETRY_TAG.false (c.read_u32-tag.ensures ∙
     e)) (λ e. c.if-tag-eq-RSR_TAG.false (c.read_u32-tag.ensures ∙ e))))

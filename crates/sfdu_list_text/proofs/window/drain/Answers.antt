@@ -2,7 +2,8 @@
 -- the stream goes on. The measure is what is left of the window. Assumes nothing.
 use borrow.Author.Rules.{rules}
 use native.Mathlib.Omega.{arith}
-use mathlib.Core.Path.{sym, ◌∙◌}
+use mathlib.Core.Path.{sym, ap, ◌∙◌}
+use Rattle.sfdu_list_text.specs.inner.Window.{seen, number_told, beside_told}
 use Rattle.sfdu_list_text.proofs.Draining.{
   part_length,
   RecordThere,
@@ -33,7 +34,7 @@ judge-found-requires c =
 record-known : (c : In-Record) →
     RecordThere c.args.w.now c.loop-kind.at c.in-Record.kind c.in-Record.size c.in-Record.number
 record-known c =
-    record-there _ _ _ _ c.in-Record.kind c.in-Record.size c.in-Record.number (sym c.in-Record.is ∙ c.judge-found.ensures)
+    record-there _ _ _ _ c.in-Record.kind c.in-Record.size c.in-Record.number (sym (ap seen c.in-Record.is) ∙ c.judge-found.ensures)
 
 pub put_line-end-requires : goal.put_line-end-requires
 put_line-end-requires c =
@@ -58,7 +59,7 @@ shape_of-out-in-More c = c.loop-kind.invariant.same
 
 pub returns-in-More : goal.returns-in-More
 returns-in-More c =
-    round-waits _ _ _ _ _ _ _ _ c.loop-kind.invariant (sym c.in-More.is ∙ c.judge-found.ensures)
+    round-waits _ _ _ _ _ _ _ _ c.loop-kind.invariant (sym (ap seen c.in-More.is) ∙ c.judge-found.ensures)
 
 pub put_last-end-requires : goal.put_last-end-requires
 put_last-end-requires c =
@@ -66,6 +67,6 @@ put_last-end-requires c =
 
 pub returns-in-Stop : goal.returns-in-Stop
 returns-in-Stop c =
-    let f = stop-there _ c.args.w.now c.loop-kind.at _ c.in-Stop.number c.in-Stop.beside (sym c.in-Stop.is ∙ c.judge-found.ensures) in
+    let f = stop-there _ c.args.w.now c.loop-kind.at _ (number_told c.in-Stop.stop) (beside_told c.in-Stop.stop) (sym (ap seen c.in-Stop.is) ∙ c.judge-found.ensures) in
     let p = c.put_last-end.ensures in
     round-stops _ _ _ _ _ _ _ _ c.loop-kind.invariant _ _ _ _ f p.puts p.upper_bound (search rules)

@@ -12,13 +12,13 @@ use Rattle.sfdu_list_text.proofs.window.judge.Goals as goal
 
 pub stop-requires : goal.stop-requires
 stop-requires c =
-    (c.requires.0, c.requires.1, sym (ap words_of c.in-Refused.is) ∙ c.read_one-read.ensures)
+    (c.requires.0, c.requires.1, sym (ap words_of c.in-Err.is) ∙ c.read_one.ensures)
 
-pub returns-in-Record : goal.returns-in-Record
-returns-in-Record c =
+pub returns-in-Ok : goal.returns-in-Ok
+returns-in-Ok c =
     let s = c.args.s.now in
-    let f = found s c.in-Record.kind c.in-Record.size (primary_words c.in-Record.primary) (sym (ap words_of c.in-Record.is) ∙ c.read_one-read.ensures) in
+    let f = found s c.in-Ok.record.kind c.in-Ok.record.size (primary_words c.in-Ok.record.primary) (sym (ap words_of c.in-Ok.is) ∙ c.read_one.ensures) in
     let within = room s _ _ _ f in
     let fits : record_length s ≤ buffer_size = omega (arith, f.size, within, c.requires.0) in
-    records c.args.place s c.args.last c.in-Record.kind c.in-Record.size c.record_number.result (accepted-whole s f.accepted fits) f.kind f.size
-    (c.record_number.ensures ∙ number-long c.in-Record.kind s (omega (arith, within)))
+    records c.args.place s c.args.last c.in-Ok.record.kind c.in-Ok.record.size c.record_number.result (accepted-whole s f.accepted fits) f.kind f.size
+    (c.record_number.ensures ∙ number-long c.in-Ok.record.kind s (omega (arith, within)))

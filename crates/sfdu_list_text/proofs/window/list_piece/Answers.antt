@@ -1,7 +1,6 @@
 -- `sfdu_list_text::window::list_piece` meets its contract, from what `drain` and the move of the rest ensure. Assumes nothing.
 use native.Mathlib.Omega.{arith}
 use Prim.Native.Nat.{◌+◌}
-use mathlib.Core.Logic.{inr}
 use mathlib.Core.Path.{sym}
 use lib.Seq.{length-take-le}
 use Rattle.sfdu_list_text.proofs.Pieces.{used-held, listed}
@@ -22,10 +21,7 @@ overflow_sub-left c =
 pub copy-requires : goal.copy-requires
 copy-requires c =
     let u = used-held _ _ _ _ _ _ c.requires c.drain-d.ensures in
-    record {
-      inside = (omega (arith, c.requires.held), omega (arith, c.requires.held));
-      apart = inr (omega arith);
-    }
+    (omega (arith, c.requires.held), omega (arith, c.requires.held))
 
 pub overflow_add-result : goal.overflow_add-result
 overflow_add-result c =

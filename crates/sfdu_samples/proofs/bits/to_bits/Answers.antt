@@ -1,17 +1,13 @@
 -- `sfdu_samples::bits::to_bits` meets its contract. Assumes nothing.
-use Rattle.std.proofs.Common.{◌≡◌, ◌+◌, ◌%◌, ◌^◌, ℤ, pos, negsuc, ◌∙◌, arith, w32, SFits}
+use Rattle.std.proofs.Common.{◌≡◌, ℤ, pos, negsuc, refl, ◌∙◌, w32, of_z}
 use mir.ValLaws.{to_z-of_z}
 use Rattle.sfdu_samples.specs.Bits.{bits_of}
-use Rattle.sfdu_samples.specs.inner.Unpacking.{raised}
 use Rattle.sfdu_samples.proofs.bits.to_bits.Goals as goal
 
--- Raised by half the range, twice: the range, where the number is not negative, is taken off again.
-turned : (z : ℤ) → SFits w32 z → (raised z + 2147483648) % 2 ^ 32 ≡ bits_of z
-unfolding raised bits_of
-turned (pos n) f = omega (arith, f.sfits)
-turned (negsuc n) f = omega (arith, f.sfits)
+same : (z : ℤ) → of_z w32 z ≡ bits_of z
+unfolding bits_of
+same (pos n) = refl
+same (negsuc n) = refl
 
 pub returns : goal.returns
-returns c =
-    let same = to_z-of_z w32 c.args.z c.ranges.z in
-    c.wrapping_add_u32.ensures.value ∙ rw (c.raise.ensures, same) (turned c.args.z c.ranges.z)
+returns c = c.cast_unsigned.ensures ∙ rw (to_z-of_z w32 c.args.z c.ranges.z) (same c.args.z)

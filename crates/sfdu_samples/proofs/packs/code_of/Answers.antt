@@ -5,9 +5,9 @@ use Rattle.sfdu_samples.proofs.Values.{codes-some, raised-code}
 use Rattle.sfdu_samples.proofs.packs.code_of.Goals as goal
 
 pub nonzero_rem-result : goal.nonzero_rem-result
-nonzero_rem-result c = omega (arith, c.codes.ensures, codes-some c.args.size)
+nonzero_rem-result c = omega (arith, c.codes.ensures, codes-some c.args.width.bits)
 
 pub returns : goal.returns
 returns c =
     let same = to_z-of_z w32 c.args.z c.ranges.z in
-    rw (c.codes.ensures, c.raise.ensures, same) (raised-code c.args.size c.args.z c.requires.0 c.requires.1)
+    rw (c.codes.ensures, c.raise.ensures, same) (raised-code c.args.width.bits c.args.z c.args.width.fills c.requires)

@@ -4,9 +4,6 @@ use Rattle.std.proofs.Common.{◌≡◌, ◌+◌, ◌-◌, ◌*◌, ◌^◌, ◌
 use Rattle.sfdu_samples.specs.Packing.{per_half, half_of}
 use Rattle.sfdu_samples.proofs.packs.half_of.Given as goal
 
-abbrev pub invariant-loop-left : goal.invariant-loop-left
-invariant-loop-left l =
-    (l.base ≡ 2 ^ l.size) × (l.left ≤ per_half l.size) × (l.half ≡ half_of l.size (per_half l.size - l.left) (drop (l.at + 2 * l.left) l.samples))
-
-abbrev pub decreases-loop-left : goal.decreases-loop-left
-decreases-loop-left l = l.left
+abbrev pub invariant-loop-k : goal.invariant-loop-k
+invariant-loop-k l =
+    (l.base ≡ 2 ^ l.width.bits) × (l.k ≤ per_half l.width.bits) × (l.half ≡ half_of l.width.bits (per_half l.width.bits - l.k) (drop (l.at + 2 * l.k) l.samples))

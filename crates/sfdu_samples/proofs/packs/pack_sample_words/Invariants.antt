@@ -7,9 +7,9 @@ use Rattle.sfdu_samples.proofs.packs.pack_sample_words.Given as goal
 
 abbrev pub invariant-loop-i : goal.invariant-loop-i
 invariant-loop-i l =
-    (l.i ≤ l.words) × (l.at ≡ l.i * per_sample_word l.size) × (length l.out ≡ length l.initial.out)
-    × (sets l.out (l.i * 4) (packed_sample_words l.size (l.words - l.i) (drop l.at l.samples)) ≡ sets
-    l.initial.out 0 (packed_sample_words l.size l.words l.samples))
+    (l.i ≤ l.words) × (length l.out ≡ length l.initial.out)
+    × (sets l.out (l.i * 4) (packed_sample_words l.width.bits (l.words - l.i) (drop (l.i * per_sample_word l.width.bits) l.samples)) ≡ sets
+    l.initial.out 0 (packed_sample_words l.width.bits l.words l.samples))
 
 abbrev pub decreases-loop-i : goal.decreases-loop-i
 decreases-loop-i l = l.words - l.i

@@ -1,23 +1,25 @@
--- `sfdu_samples::rates::is_listed` meets its contract. The invariant: the code's table is the specification's, and what is left of it
--- decides. Assumes nothing.
-use Rattle.std.proofs.Common.{◌≡◌, sym, refl, ap, ◌∙◌, arith}
-use Rattle.sfdu_samples.specs.Rates.{table}
-use Rattle.sfdu_samples.proofs.Table.{rows, among_from, from_start, from_end, row_here, row-past}
+-- `sfdu_samples::rates::is_listed` meets its contract. Assumes nothing.
+use Rattle.std.proofs.Common.{◌≡◌, ℕ, Bool, ◌&&◌, ◌||◌, List, [], ◌∷◌, eqb, refl, ap, ◌∙◌, rules}
+use borrow.Author.Tests.{tests}
+use Rattle.std.specs.List.{list_any}
+use Rattle.std.proofs.lemmas.Iterator.{YieldsList-from_slice}
+use Rattle.std.proofs.lemmas.Iterator.Search.{any_from_yields_List}
+use Rattle.sfdu_samples.specs.declared.rates.Listed.{Listed}
+use Rattle.sfdu_samples.specs.Rates.{table, among}
 use Rattle.sfdu_samples.proofs.rates.is_listed.Goals as goal
 
-pub loop-i-init : goal.loop-i-init
-unfolding table
-loop-i-init c = (omega arith, refl, from_start _ _)
+-- Whether a row is the pair's.
+abbrev is_row : (size rate : ℕ) → Listed → Bool
+is_row size rate row = eqb row.size size && eqb row.rate rate
 
-pub returns-then-row-size : goal.returns-then-row-size
-returns-then-row-size c =
-    sym (c.loop-i.invariant.2 ∙ row_here _ c.loop-i.invariant.1 c.loop-i.i (omega arith) _ _ c.if-row-size.true)
-
-pub loop-i-preserved : goal.loop-i-preserved
-loop-i-preserved c =
-    (omega arith, c.loop-i.invariant.1, c.loop-i.invariant.2 ∙ row-past _ c.loop-i.invariant.1 c.loop-i.i (omega arith) _ _ c.if-row-size.false)
+any-among : (size rate : ℕ) (rows : List Listed) → list_any (is_row size rate) rows ≡ among size rate rows
+unfolding among
+any-among size rate [] = refl
+any-among size rate (row ∷ rows) = ap (λ (b : Bool). is_row size rate row || b) (any-among size rate rows)
 
 pub returns : goal.returns
+unfolding table
 returns c =
-    let i : c.loop-i.i ≡ rows = omega arith in
-    sym (c.loop-i.invariant.2 ∙ ap (among_from _ _) i ∙ from_end _ _)
+    any_from_yields_List (is_row c.args.size c.args.rate) _ _ _ c.any.ensures.ran (YieldsList-from_slice table c.iter.ensures.rest)
+    (λ x b q k. search (rules, tests))
+    ∙ any-among c.args.size c.args.rate table

@@ -3,7 +3,7 @@ use Rattle.std.proofs.Common.{◌≡◌, ◌*◌, ◌/◌, ◌≤◌, true, leng
 use Rattle.laws.proofs.Bools.{passed, failed}
 use Rattle.sfdu_samples.specs.Packing.{per_sample_word}
 use Rattle.sfdu_samples.specs.Rates.{is_listed}
-use Rattle.sfdu_samples.specs.inner.Unpacking.{Width}
+use Rattle.sfdu_samples.specs.inner.Widths.{IsWidth}
 use Rattle.sfdu_samples.proofs.Judged.{per-some, too_short, long-enough, data-19, data-34, data-35, data-accepts}
 use Rattle.sfdu_samples.proofs.Widths.{listed-width}
 use Rattle.sfdu_samples.proofs.unpacks.unpack_data.Goals as goal
@@ -13,7 +13,7 @@ use Rattle.sfdu_samples.proofs.unpacks.unpack_data.Goals.{Else-not-is_listed, El
 listed : (c : Else-not-is_listed) → is_listed c.args.size c.args.rate ≡ true
 listed c = passed c.is_listed.ensures c.if-not-is_listed.false-raw
 
-width : (c : Else-not-is_listed) → Width c.args.size
+width : (c : Else-not-is_listed) → IsWidth c.args.size
 width c = listed-width _ c.args.rate (listed c)
 
 -- Past the last test the list has room.
@@ -31,8 +31,8 @@ pub returns-then-d-ne0 : goal.returns-then-d-ne0
 returns-then-d-ne0 c =
     data-34 c.args.size c.args.rate c.args.d.now c.args.list.now (listed (goal.at.returns-then-d-ne0 c).Else-not-is_listed) c.if-d-ne0.true
 
-pub per_sample_word-per-requires : goal.per_sample_word-per-requires
-per_sample_word-per-requires c = width (goal.at.per_sample_word-per-requires c).Else-not-is_listed
+pub invariant_of-width : goal.invariant_of-width
+invariant_of-width c = record { fills = width (goal.at.invariant_of-width c).Else-not-is_listed }
 
 pub nonzero_div-list : goal.nonzero_div-list
 nonzero_div-list c = rw c.per_sample_word-per.ensures (per-some _ (width (goal.at.nonzero_div-list c).Else-not-is_listed))
@@ -44,7 +44,7 @@ returns-then-list-per c =
     (too_short _ _ _ (per-some _ w) (rw c.per_sample_word-per.ensures at c.if-list-per.true))
 
 pub unpack_sized-requires : goal.unpack_sized-requires
-unpack_sized-requires c = (width (goal.at.unpack_sized-requires c).Else-not-is_listed, omega arith, room (goal.at.unpack_sized-requires c).Else-list-per)
+unpack_sized-requires c = (omega arith, room (goal.at.unpack_sized-requires c).Else-list-per)
 
 pub overflow_mul-result : goal.overflow_mul-result
 overflow_mul-result c =

@@ -7,8 +7,8 @@ use Rattle.sfdu_samples.proofs.unpacks.unpack_sample_words.Given as goal
 
 abbrev pub invariant-loop-i : goal.invariant-loop-i
 invariant-loop-i l =
-    (l.i ≤ l.words) × (l.to ≡ l.i * per_sample_word l.size) × (length l.list ≡ length l.initial.list)
-    × (sets l.list l.to (unpacked_sample_words l.size (l.words - l.i) (drop (l.i * 4) l.d)) ≡ sets l.initial.list 0 (unpacked_sample_words l.size l.words l.d))
+    (l.i ≤ l.words) × (l.to ≡ l.i * per_sample_word l.width.bits) × (length l.list ≡ length l.initial.list)
+    × (sets l.list l.to (unpacked_sample_words l.width.bits (l.words - l.i) (drop (l.i * 4) l.d)) ≡ sets l.initial.list 0 (unpacked_sample_words l.width.bits l.words l.d))
 
 abbrev pub decreases-loop-i : goal.decreases-loop-i
 decreases-loop-i l = l.words - l.i

@@ -4,8 +4,8 @@ use lib.ListN.{length}
 use Rattle.sfdu_stream.proofs.Passed.{Passed}
 use Rattle.sfdu_stream.proofs.walking.walk.Given as goal
 
-abbrev pub invariant-loop-at : goal.invariant-loop-at
-invariant-loop-at l = Passed l.s l.at l.count
+abbrev pub invariant-loop-size : goal.invariant-loop-size
+invariant-loop-size l = Passed l.s l.at l.count
 
-abbrev pub decreases-loop-at : goal.decreases-loop-at
-decreases-loop-at l = length l.s - l.at
+abbrev pub decreases-loop-size : goal.decreases-loop-size
+decreases-loop-size l = length l.s - l.at

@@ -7,22 +7,18 @@ use Rattle.streaming.proofs.window.stop_in.Goals as goal
 
 pub returns-then-is_over : goal.returns-then-is_over
 returns-then-is_over c =
-    let is = rw c.number-number.ensures at c.is_over.ensures in
-    let over = sym is ∙ c.if-is_over.true in
-    rw c.number.ensures (over-stop c.args.place c.args.s.now c.args.fault over)
+    over-stop c.args.place c.args.s.now c.args.fault (sym c.is_over.ensures ∙ c.if-is_over.true)
 
 pub returns-then-is_count : goal.returns-then-is_count
 unfolding stop_of in_stream
 returns-then-is_count c =
-    let is = rw c.number-number.ensures at c.is_over.ensures in
-    let over = sym is ∙ c.if-is_over.false in
-    let counts = sym (rw c.number-number.ensures at c.is_count.ensures) ∙ c.if-is_count.true in
-    rw (c.number-number.ensures, over, counts)
+    let over = sym c.is_over.ensures ∙ c.if-is_over.false in
+    let counts = sym c.is_count.ensures ∙ c.if-is_count.true in
+    rw (over, counts)
 
 pub returns : goal.returns
 unfolding stop_of in_stream
 returns c =
-    let is = rw c.number-number.ensures at c.is_over.ensures in
-    let over = sym is ∙ c.if-is_over.false in
-    let counts = sym (rw c.number-number.ensures at c.is_count.ensures) ∙ c.if-is_count.false in
-    rw (c.number-number.ensures, over, counts)
+    let over = sym c.is_over.ensures ∙ c.if-is_over.false in
+    let counts = sym c.is_count.ensures ∙ c.if-is_count.false in
+    rw (over, counts)

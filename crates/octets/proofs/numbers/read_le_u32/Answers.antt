@@ -1,9 +1,0 @@
--- `octets::numbers::read_le_u32` meets its contract: a number is its lower and its upper half. Assumes nothing.
-use native.Mathlib.Omega.{arith}
-use Rattle.octets.proofs.Swapped.{little-join}
-use Rattle.octets.proofs.numbers.read_le_u32.Goals as goal
-
-pub returns : goal.returns
-returns c =
-    let g = c.args in
-    omega (arith, c.read_le_u16-low.ensures, c.read_le_u16-high.ensures, little-join g.s.now g.a 2 2)
