@@ -68,7 +68,7 @@ pub enum Call {
     Strike,
 }
 
-// What is no call's number is in no trace.
+// The call that a byte of a trace names. A slice with any other byte there is no trace.
 impl TryFrom<u8> for Call {
     type Error = Refusal;
 
@@ -135,8 +135,8 @@ pub fn replay_on(t: &[u8], s: &mut [u8]) -> Result<Option<Difference>, Refusal>
     Ok(play(t, s))
 }
 
-// Said in each, since a trace is a lent slice that is judged once: a type around it would be built in `replay` and taken apart at each read.
 // Makes the calls of a trace on a sheet, up to the first whose answer differs from the trace's.
+// Said in each, since a trace is a lent slice that is judged once: a type around it would be built in `replay` and taken apart at each read.
 fn play(t: &[u8], s: &mut [u8]) -> Option<Difference>
     requires whole { (header_size ≤ length t.now) × (entry_at (count t.now) ≤ length t.now) × (count t.now ≤ most_entries) }
     requires lines { lines_right t.now ≡ true }
@@ -144,7 +144,7 @@ fn play(t: &[u8], s: &mut [u8]) -> Option<Difference>
     ensures { (0 ∷ difference_words result, s.new) ≡ played t.now s.old }
 {
     let entries = trace::entry_count(t);
-    // By index, since an entry's number is part of the answer, and its offset comes from it.
+    // Goes by index: an entry's number is part of the answer. `chunks_exact` with `enumerate` has yet to be tried.
     for i in 0..entries {
         let x = trace::read_line(t, HEADER + ENTRY * i).unwrap();
         let answer = calls::make(s, x);

@@ -118,7 +118,7 @@ fn are_keys_new(s: &[u8], n: usize) -> bool
     // A fixed array, since the library allocates nothing: 16 sheets have at most 512 keys.
     let mut keys = [0u64; MOST_KEYS];
     let mut found = 0;
-    // By index, since a sheet is a part of one slice, which its number cuts out.
+    // Goes by index. An iterator over `chunks_exact(SHEET)` has yet to be tried.
     for k in 0..n {
         found = read_keys(sheet_of(s, k), &mut keys, found);
     }
@@ -126,7 +126,7 @@ fn are_keys_new(s: &[u8], n: usize) -> bool
 }
 
 // Puts the keys of a sheet's used rows behind those found before. Gives how many there are now.
-// Said in each, since a sheet is a part of the lent slice: as an array it would have to be tested again, although its length follows from the cut.
+// Each function asks for the length of its sheet. A sheet as an array, from `as_chunks`, has yet to be tried.
 fn read_keys(s: &[u8], keys: &mut [u64; MOST_KEYS], found: usize) -> usize
     requires { (length s.now ≡ sheet_size) × (length keys.old ≡ most_keys) × (found + row_count ≤ most_keys) }
     ensures { Keyed keys.old found (book_of s.now).places keys.new result }
@@ -215,7 +215,7 @@ fn count_season(s: &[u8], n: usize) -> SeasonReport
     let mut ticked: u32 = 0;
     let mut missing: u32 = 0;
     let mut gap = None;
-    // By index, since k is the sheet's number in the report, and the place of its counts.
+    // Goes by index: k is the sheet's number in the report. `chunks_exact` with `enumerate` has yet to be tried.
     for k in 0..n {
         let counted = count_sheet(sheet_of(s, k));
         sheets[k] = with_rate(counted.ticked, counted.missing);

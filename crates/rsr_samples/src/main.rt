@@ -154,7 +154,7 @@ fn file(rt: &HostRuntime, i: usize, raw: bool) -> Result<(), NobodyReads> {
     stream(rt, &mut opened.file, &path[..opened.size], raw)
 }
 
-// By index, since the system gives an argument by its index alone.
+// By index, since the system gives an argument by its index alone, and `?` leaves the loop where nobody reads.
 fn files(rt: &HostRuntime, count: usize, raw: bool) -> Result<(), NobodyReads> {
     for i in 1..count {
         if !arguments::is_at(rt, i, RAW) {

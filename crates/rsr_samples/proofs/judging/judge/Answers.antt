@@ -5,7 +5,8 @@ use Rattle.rsr_samples.proofs.judging.judge.Goals as goal
 
 pub stop_in-requires : goal.stop_in-requires
 stop_in-requires c =
-    let near = second-near c.args.s.now c.args.list.now c.in-Err-Fault.fault c.requires.0 (words (rw c.in-Err-Fault.field-0-is at c.in-Err-Fault.is) c.unpack.ensures) in
+    let told = words (rw c.in-Err-Fault.field-0-is at c.in-Err-Fault.is) c.unpack.ensures in
+    let near = second-near c.args.s.now c.args.list.now c.in-Err-Fault.fault c.requires.0 told in
     omega (arith, c.requires.1)
 
 pub returns-in-Ok : goal.returns-in-Ok
