@@ -49,30 +49,32 @@ pub fn refused(why: Refusal) -> [u64; FEW]
     numbers
 }
 
-// The answer of a call that gives no values.
+// The answer of a call that gives no values. Only the refusal's number depends on it, so LLVM keeps the zeros behind it as constants.
 pub fn done(answer: Result<(), Refusal>) -> [u64; FEW]
     ensures { Few result (plain (answer_words no_words answer)) }
 {
-    match answer {
-        Ok(()) => [0u64; FEW],
-        Err(why) => refused(why),
+    let mut numbers = [0u64; FEW];
+    if let Err(why) = answer {
+        numbers[places::REFUSAL] = refusals::number(why) as u64;
     }
+    numbers
 }
 
-// The answer of a test: 1 if it holds, 0 if it does not.
-pub fn test(holds: bool) -> [u64; FEW]
-    ensures { Few result (flagged holds) }
-{
-    count(flag(holds))
-}
-
-// 0 and one number.
-pub fn count(n: u64) -> [u64; FEW]
+// 0 and one number. The caller names its place by a constant of `places`.
+pub fn one(place: usize, n: u64) -> [u64; FEW]
+    requires { place ≡ 1 }
     ensures { Few result (counted n) }
 {
     let mut numbers = [0u64; FEW];
-    numbers[places::COUNT] = n;
+    numbers[place] = n;
     numbers
+}
+
+// 0 and a count.
+pub fn count(n: u64) -> [u64; FEW]
+    ensures { Few result (counted n) }
+{
+    one(places::COUNT, n)
 }
 
 // A refusal of a record, and its second number.
@@ -101,7 +103,7 @@ pub fn text(answer: Result<usize, Refusal>) -> [u64; FEW]
     ensures { Few result (plain (Texts.words_of answer)) }
 {
     match answer {
-        Ok(n) => count(n as u64),
+        Ok(n) => one(places::TEXT_LENGTH, n as u64),
         Err(why) => refused(why),
     }
 }
@@ -110,7 +112,7 @@ pub fn key(answer: Result<u64, Refusal>) -> [u64; FEW]
     ensures { Few result (plain (Keys.words_of answer)) }
 {
     match answer {
-        Ok(key) => count(key),
+        Ok(key) => one(places::KEY, key),
         Err(why) => refused(why),
     }
 }
@@ -125,13 +127,20 @@ pub fn flag(holds: bool) -> u64
     0
 }
 
+// Whether a key is one that a stream can have.
+pub fn key_valid(holds: bool) -> [u64; FEW]
+    ensures { Few result (flagged holds) }
+{
+    one(places::KEY_VALID, flag(holds))
+}
+
 // A day count, or a none.
 pub fn day_count(answer: Option<u32>) -> [u64; FEW]
     ensures { Few result (count_words answer) }
 {
     match answer {
-        Some(n) => count(n as u64),
-        None => count(NONE),
+        Some(n) => one(places::DAY_COUNT, n as u64),
+        None => one(places::DAY_COUNT, NONE),
     }
 }
 

@@ -12,12 +12,8 @@ pub fn gain(answer: Result<Option<u32>, RecordRefusal>) -> [u64; FEW]
     ensures { Few result (Gain.words_of answer) }
 {
     match answer {
-        Ok(Some(multiplier)) => crate::count(multiplier as u64),
-        Ok(None) => {
-            let mut numbers = [0u64; FEW];
-            numbers[places::GAIN] = NONE;
-            numbers
-        }
+        Ok(Some(multiplier)) => crate::one(places::GAIN, multiplier as u64),
+        Ok(None) => crate::one(places::GAIN, NONE),
         Err(why) => refused_record(why),
     }
 }

@@ -1,11 +1,18 @@
 // The numbers of the answers of the settings sheet's calls.
 ghost use Rattle.settings.specs.Words.{asked_words};
-ghost use Rattle.answers.specs.Numbers.{plain};
+ghost use Rattle.answers.specs.Numbers.{plain, flagged};
 ghost use Rattle.answers.specs.inner.Numbers.{Few};
 
 use crate::{FEW, places, refused};
 use refusals::Refusal;
 use settings::Agreement;
+
+// Whether a slice is a settings sheet.
+pub fn is_settings(holds: bool) -> [u64; FEW]
+    ensures { Few result (flagged holds) }
+{
+    crate::one(places::IS_SETTINGS, crate::flag(holds))
+}
 
 pub fn asked(answer: Result<Agreement, Refusal>) -> [u64; FEW]
     ensures { Few result (plain (asked_words answer)) }

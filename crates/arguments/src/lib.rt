@@ -3,7 +3,7 @@
 
 #![tactic(auto)]
 
-ghost use Rattle.std.specs.Prelude.{◌≡◌, IfSome};
+ghost use Rattle.std.specs.Prelude.{◌≡◌, IfOk, IfErr};
 ghost use Rattle.io.specs.Counts.{IsPrefixLen};
 
 use std::env::{Env, FillError};
@@ -97,29 +97,32 @@ pub fn tell_usage(rt: &HostRuntime, asked: Asked, usage: &str) {
     };
 }
 
-// Opens the file that argument i names, and copies its name to the start of `path`. If it cannot open the file, it says so on standard error.
-pub fn open_at(rt: &HostRuntime, i: usize, path: &mut [u8]) -> Option<Opened<fs::File>>
-    ensures { IfSome result (λ opened. IsPrefixLen opened.size path.new) }
+// Opens the file that argument i names, and copies its name to the start of `path`. If it cannot open the file, it says so on standard error, and gives
+// the length of the name.
+pub fn open_at(rt: &HostRuntime, i: usize, path: &mut [u8]) -> Result<Opened<fs::File>, usize>
+    ensures opened { IfOk result (λ opened. IsPrefixLen opened.size path.new) }
+    ensures not_opened { IfErr result (λ size. IsPrefixLen size path.new) }
 {
     match rt.arg(i, path) {
         Ok(size) => open_named(rt, path, size),
         Err(_) => {
             failures::tell(rt, b"argument", io::Error::from_raw_os_error(NAME_TOO_LONG));
-            None
+            Err(0)
         }
     }
 }
 
 // Opens the file whose name is the first `size` bytes of `path`, or says why it cannot.
-fn open_named(rt: &HostRuntime, path: &[u8], size: usize) -> Option<Opened<fs::File>>
+fn open_named(rt: &HostRuntime, path: &[u8], size: usize) -> Result<Opened<fs::File>, usize>
     requires { IsPrefixLen size path.now }
-    ensures { IfSome result (λ opened. opened.size ≡ size) }
+    ensures opened { IfOk result (λ opened. opened.size ≡ size) }
+    ensures not_opened { IfErr result (λ length. length ≡ size) }
 {
     match open(rt, &path[..size]) {
-        Ok(file) => Some(Opened { file, size }),
+        Ok(file) => Ok(Opened { file, size }),
         Err(why) => {
             failures::tell(rt, &path[..size], why);
-            None
+            Err(size)
         }
     }
 }

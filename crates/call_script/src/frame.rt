@@ -2,7 +2,7 @@
 use call_script_text::{Frame, Op};
 use octets::numbers;
 use std::io::Stdin;
-use streaming::Failure;
+use streaming::{FailedRead, Failure};
 
 const HEADER: usize = 40;
 
@@ -41,9 +41,9 @@ pub enum Broken {
     Bad,
 }
 
-impl From<Failure> for Broken {
-    fn from(failure: Failure) -> Broken {
-        Broken::Failed(failure)
+impl From<FailedRead> for Broken {
+    fn from(failed: FailedRead) -> Broken {
+        Broken::Failed(failed.failure)
     }
 }
 

@@ -6,7 +6,7 @@ use ledger_season::{SeasonReport, SheetCounts};
 pub(crate) fn season(a: &[u8], out: &mut [u8], at: usize) -> usize {
     match ledger_season::season(a) {
         Ok(report) => reported(report, out, at),
-        Err(why) => line::refused(out, at, why),
+        Err(why) => line::number(out, at, u64::from(refusals::number(why))),
     }
 }
 

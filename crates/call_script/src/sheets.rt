@@ -77,7 +77,7 @@ pub(crate) fn call(f: Frame, s: &mut [u8], out: &mut [u8], at: usize) -> usize {
         Op::Save => done(ledger::save(s, f.x), out, at),
         Op::Drop => done(ledger::drop(s, f.x), out, at),
         Op::Strike => done(ledger::strike(s, f.x), out, at),
-        Op::Enrol => line::told(out, at, &ledgers::number(ledger::enrol(s, f.key, f.x)), ROW),
+        Op::Enrol => line::told(out, at, &ledgers::row(ledger::enrol(s, f.key, f.x)), ROW),
         _ => ask(f, s, out, at),
     }
 }
@@ -89,7 +89,7 @@ fn done(answer: Result<(), Refusal>, out: &mut [u8], at: usize) -> usize {
 // The calls that change nothing.
 fn ask(f: Frame, s: &[u8], out: &mut [u8], at: usize) -> usize {
     match f.op {
-        Op::Find => line::told(out, at, &ledgers::number(ledger::find(s, f.key)), ROW),
+        Op::Find => line::told(out, at, &ledgers::row(ledger::find(s, f.key)), ROW),
         Op::RowReport => {
             let answer = ledgers::report(ledger::row_report(s, f.x));
             line::told_or(out, at, &answer, REPORT, places::LOWEST, b"none")

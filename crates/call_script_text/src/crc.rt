@@ -1,4 +1,6 @@
 // The CRC-32 of zlib.
+ghost use Rattle.std.specs.Prelude.{ℕ, ◌≡◌};
+ghost use Rattle.std.specs.Int.{w32, cast_unsigned, to_be_bytes};
 
 const ALL_ONES: u32 = 4294967295;
 
@@ -23,19 +25,26 @@ pub fn crc_of_numbers<T: Number>(list: &[T]) -> u32 {
 
 // A number of four bytes; a negative one in two's complement.
 pub trait Number {
+    ghost bits: { Self → ℕ };
+
     // The bytes, highest first.
-    fn bytes(&self) -> [u8; 4];
+    fn bytes(&self) -> [u8; 4]
+        ensures { result ≡ to_be_bytes w32 (bits self.now) };
 }
 
 impl Number for u32 {
+    ghost bits = { λ n. n };
+
     fn bytes(&self) -> [u8; 4] {
         self.to_be_bytes()
     }
 }
 
 impl Number for i32 {
+    ghost bits = { λ z. cast_unsigned w32 z };
+
     fn bytes(&self) -> [u8; 4] {
-        self.to_be_bytes()
+        self.cast_unsigned().to_be_bytes()
     }
 }
 

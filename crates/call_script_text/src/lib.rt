@@ -10,6 +10,8 @@ mod records;
 mod samples;
 mod tapes;
 
+ghost use Rattle.std.specs.Prelude.{◌≡◌, take};
+
 pub use ops::{Op, UnknownOp};
 use refusals::Refusal;
 
@@ -42,7 +44,9 @@ const DATE: usize = 3;
 const PARTS: usize = 6;
 
 // The first n elements of s; all of s if it has fewer.
-pub fn first<T>(s: &[T], n: usize) -> &[T] {
+pub fn first<T>(s: &[T], n: usize) -> &[T]
+    ensures { result.now ≡ take n s.now }
+{
     s.get(..n).unwrap_or(s)
 }
 

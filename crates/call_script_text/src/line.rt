@@ -69,7 +69,7 @@ pub fn numbers<T: Copy + Into<u64>>(out: &mut [u8], at: usize, list: &[T]) -> us
 }
 
 // Writes a refusal's number.
-pub fn refused(out: &mut [u8], at: usize, why: Refusal) -> usize {
+pub(crate) fn refused(out: &mut [u8], at: usize, why: Refusal) -> usize {
     number(out, at, u64::from(refusals::number(why)))
 }
 

@@ -67,5 +67,5 @@ pub extern "C" fn hernganow_is_settings(settings: &[u8], answer: &mut [u8]) -> u
         return write::unwritten();
     }
     let found = settings::is_settings(settings);
-    write::write_few(answer, answers::test(found))
+    write::write_few(answer, setting::is_settings(found))
 }

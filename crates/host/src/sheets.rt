@@ -33,7 +33,7 @@ pub extern "C" fn hernganow_enrol(sheet: &mut [u8], key: u64, first: u32, answer
         return write::unwritten();
     }
     let found = ledger::enrol(sheet, key, first);
-    write::write_few(answer, ledgers::number(found))
+    write::write_few(answer, ledgers::row(found))
 }
 
 // Finds a stream.
@@ -45,7 +45,7 @@ pub extern "C" fn hernganow_find(sheet: &[u8], key: u64, answer: &mut [u8]) -> u
         return write::unwritten();
     }
     let found = ledger::find(sheet, key);
-    write::write_few(answer, ledgers::number(found))
+    write::write_few(answer, ledgers::row(found))
 }
 
 // Opens a row at a desk.
@@ -171,7 +171,7 @@ pub extern "C" fn hernganow_is_sheet(sheet: &[u8], answer: &mut [u8]) -> u32
         return write::unwritten();
     }
     let found = ledger::is_sheet(sheet);
-    write::write_few(answer, answers::test(found))
+    write::write_few(answer, ledgers::is_sheet(found))
 }
 
 // The stream of a row: its key and first number.

@@ -63,5 +63,5 @@ pub extern "C" fn hernganow_key_valid(key: u64, answer: &mut [u8]) -> u32
         return write::unwritten();
     }
     let found = keys::valid(key);
-    write::write_few(answer, answers::test(found))
+    write::write_few(answer, answers::key_valid(found))
 }

@@ -1,14 +1,24 @@
 // The numbers of the ledger's answers.
 ghost use Rattle.std.specs.Prelude.{[], ◌∷◌};
 ghost use Rattle.ledger_sheet.specs.Words.{row_words, report_values, report_answer_words, gap_words, stream_words, desk_words, unsaved_words};
-ghost use Rattle.answers.specs.Numbers.{plain, with_none};
+ghost use Rattle.answers.specs.Numbers.{plain, with_none, flagged};
 ghost use Rattle.answers.specs.inner.Numbers.{Few};
 
 use answers::{FEW, NONE, places};
 use ledger_sheet::{Gap, Report, Stream, Unsaved, Working};
 use refusals::Refusal;
 
-// The answer of a call that gives one number: a row, or how many numbers are missing.
+// The row that was enrolled or found.
+pub fn row(answer: Result<u32, Refusal>) -> [u64; FEW]
+    ensures { Few result (plain (row_words answer)) }
+{
+    match answer {
+        Ok(row) => answers::one(places::ROW, u64::from(row)),
+        Err(why) => answers::refused(why),
+    }
+}
+
+// The answer of a call that gives one number: how many numbers are missing.
 pub fn number(answer: Result<u32, Refusal>) -> [u64; FEW]
     ensures { Few result (plain (row_words answer)) }
 {
@@ -90,4 +100,11 @@ pub fn unsaved(answer: Result<Unsaved, Refusal>) -> [u64; FEW]
         Ok(unsaved) => two(unsaved.ticks as u64, unsaved.unticks as u64),
         Err(why) => answers::refused(why),
     }
+}
+
+// Whether a slice is a sheet: 1 or 0.
+pub fn is_sheet(holds: bool) -> [u64; FEW]
+    ensures { Few result (flagged holds) }
+{
+    answers::one(places::IS_SHEET, answers::flag(holds))
 }

@@ -127,7 +127,7 @@ fn are_rows(s: &[u8]) -> bool
         let key = key_at(s, row);
         valid &= keys::valid(key);
         numbers &= keys::is_number(key, first_at(s, row));
-        different &= !keys[..i].contains(&key);
+        different &= right::is_other(&keys[..i], key);
         keys[i] = key;
     }
     valid & different & numbers

@@ -16,10 +16,9 @@ use Rattle.octets.specs.Lists.{table}
 use Rattle.ledger_sheet.specs.Sheet.{row_count, row_at, is_used, key_at, first_number_at}
 use Rattle.ledger_layout.specs.Layout.{place_in, book_of}
 use Rattle.ledger_layout.specs.Ticks.{ticked_at, ticks_in}
-use Rattle.std.specs.Prelude.{None, Some}
-use Rattle.ledger_layout.specs.inner.Scans.{lowest, lowest_below}
+use Rattle.ledger_layout.specs.inner.Scans.{lowest}
 use Rattle.ledger_counts.specs.inner.Counts.{past_highest, number_at_position, report_words}
-use Rattle.ledger_layout.proofs.Scans.{Each, lowest-holds, lowest-fails, below-is, below-not}
+use Rattle.ledger_layout.proofs.Scans.{Each, lowest-holds, lowest-fails}
 use Rattle.ledger_counts.proofs.Highest.{top_of}
 use Rattle.ledger_counts.proofs.Missing.{missing-count, missing-lowest, missing-none}
 
@@ -99,21 +98,6 @@ gap-table s (suc n) i p h =
 pub gap-on : (s : List ℕ) → gap_from s 0 row_count ≡ first_gap_from 0 (book_of s).places
 unfolding book_of
 gap-on s = gap-table s row_count 0 (place_in s) (λ k. ap (place_in s) (sym (zero-add k)))
-
--- what a search for an unticked position below n says, where it finds none, and where it finds one
-module _ (s : List ℕ) (a n : ℕ) where
-  pub none-unticked : lowest_below n (λ i. not (ticked_at s a i)) ≡ None → Each true (ticked_at s a) n
-  none-unticked e j l = not-false _ (lowest-fails n (unticked s a) j (omega (arith, below-not n (unticked s a) e)))
-
-  pub some-unticked : {i : ℕ} → lowest_below n (λ i. not (ticked_at s a i)) ≡ Some i
-      → (i < n) × Each true (ticked_at s a) i × (ticked_at s a i ≡ false)
-  some-unticked {i} e =
-      let at = below-is n (unticked s a) e in
-      let within : lowest n (unticked s a) < n = omega (arith, at.0, at.1) in (
-        at.1,
-        λ j q. not-false _ (lowest-fails n (unticked s a) j (omega (arith, at.0))),
-        rw at.0 (not-true _ (lowest-holds n (unticked s a) within)),
-      )
 
 -- the end of the ticks of row i, 0 where it is free
 abbrev pub row_end : List ℕ → ℕ → ℕ

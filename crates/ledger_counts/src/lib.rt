@@ -2,7 +2,7 @@
 
 #![tactic(auto)]
 
-ghost use Rattle.std.specs.Prelude.{◌≡◌, true, not, cond, ◌∷◌, ◌+◌, ◌≤◌, ◌<◌, length, IfSome};
+ghost use Rattle.std.specs.Prelude.{◌≡◌, true, not, cond, ◌∷◌, ◌+◌, ◌*◌, ◌≤◌, ◌<◌, length, IfSome, MatchOption};
 ghost use Rattle.ledger_model.specs.Counts.{first_gap_from};
 ghost use Rattle.ledger_layout.specs.Layout.{book_of};
 ghost use Rattle.std.specs.Int.Count.{ones};
@@ -12,7 +12,7 @@ ghost use Rattle.ledger_layout.specs.Ticks.{ticked_at, ticks_in};
 ghost use Rattle.ledger_layout.specs.inner.Scans.{lowest_below};
 ghost use Rattle.ledger_counts.specs.inner.Counts.{past_highest, number_at_position, report_words};
 ghost use Rattle.ledger_sheet.specs.Words.{report_values, gap_values};
-ghost use Rattle.ledger_counts.specs.inner.Blocks.{block_bits, block_count, last_block_at, IsBlock, TickedFrom, StartsAt};
+ghost use Rattle.ledger_counts.specs.inner.Blocks.{block_bits, block_count, last_block_at, IsBlock, TickedFrom, StartsAt, UntickedFirst};
 
 use ledger_sheet as sheet;
 use ledger_sheet::{Gap, Gaps, Report, right};
@@ -141,6 +141,18 @@ pub fn ticks_end(s: &[u8], a: usize) -> usize
     0
 }
 
+// The lowest unticked position of block k of the row at offset a.
+fn unticked_in(s: &[u8], a: usize, k: usize) -> Option<usize>
+    requires { (a + row_size ≤ length s.now) × (k < block_count) }
+    ensures { MatchOption result (TickedFrom s.now a (block_bits * k) (block_bits * (k + 1))) (UntickedFirst s.now a k) }
+{
+    let unticked = !tick_block(s, a, k);
+    if unticked == 0 {
+        return None;
+    }
+    Some(BLOCK_BITS * k + u64::trailing_zeros(unticked) as usize)
+}
+
 // The lowest unticked position below `end` of the row at offset a.
 fn lowest_unticked(s: &[u8], a: usize, end: usize) -> Option<usize>
     requires { (a + row_size ≤ length s.now) × (end ≤ row_length) }
@@ -148,9 +160,7 @@ fn lowest_unticked(s: &[u8], a: usize, end: usize) -> Option<usize>
 {
     // By index, since the block's number gives the position.
     for k in 0..BLOCKS {
-        let unticked = !tick_block(s, a, k);
-        if unticked != 0 {
-            let at = BLOCK_BITS * k + u64::trailing_zeros(unticked) as usize;
+        if let Some(at) = unticked_in(s, a, k) {
             if at < end {
                 return Some(at);
             }
@@ -223,33 +233,44 @@ pub fn row_report(s: &[u8], row: usize) -> Report
     }
 }
 
-// The lowest missing position of a row; none, too, if the place is free.
-fn row_gap(s: &[u8], row: usize) -> Option<usize>
+// The end of the ticks of a row; 0 if the place is free.
+fn row_end(s: &[u8], row: usize) -> usize
     requires { (length s.now ≡ sheet_size) × (row < row_count) }
-    ensures { result ≡ lowest_below (cond (is_used s.now row) (past_highest row_length (ticked_at s.now (row_at row))) 0)
-        (λ i. not (ticked_at s.now (row_at row) i)) }
+    ensures { result ≡ cond (is_used s.now row) (past_highest row_length (ticked_at s.now (row_at row))) 0 }
 {
     if !right::is_used(s, row) {
-        return None;
+        return 0;
     }
-    let a = sheet::row_at(row);
-    let end = ticks_end(s, a);
-    lowest_unticked(s, a, end)
+    ticks_end(s, sheet::row_at(row))
 }
 
-// The first missing number and its row. Goes through the rows in order, and through each row's positions in order.
+// The first missing number and its row. Goes through the rows in order, and through each row's blocks in order. A row whose lowest unticked position is
+// not below its end has none missing.
 pub fn first_gap(s: &[u8]) -> Option<Gap>
     requires { length s.now ≡ sheet_size }
     ensures { gap_values result ≡ first_gap_from 0 (book_of s.now).places }
 {
-    // By index, since the row's number is in the answer.
-    for row in 0..sheet::ROWS {
-        if let Some(i) = row_gap(s, row) {
-            return Some(Gap {
-                number: number_in(s, sheet::row_at(row), i),
-                row: row as u32,
-            });
+    let mut gap = None;
+    // By index, since the row's number is in the answer, and the block's number gives the position.
+    'rows: for row in 0..sheet::ROWS {
+        let a = sheet::row_at(row);
+        let end = row_end(s, row);
+        // Free places, of which a sheet may have many, are passed at once.
+        if end == 0 {
+            continue;
+        }
+        for k in 0..BLOCKS {
+            if let Some(at) = unticked_in(s, a, k) {
+                if at < end {
+                    gap = Some(Gap {
+                        number: number_in(s, a, at),
+                        row: row as u32,
+                    });
+                    break 'rows;
+                }
+                continue 'rows;
+            }
         }
     }
-    None
+    gap
 }

@@ -190,7 +190,7 @@ fn are_new_in(keys: &[u64], slots: u64) -> bool
     for (i, key) in keys.iter().enumerate() {
         let slot = (*key % slots) as usize;
         if taken[slot] {
-            if keys[..i].contains(key) {
+            if !right::is_other(&keys[..i], *key) {
                 return false;
             }
         }

@@ -9,11 +9,10 @@ use mathlib.Core.Path.{◌≡◌, refl, sym, ap, ◌∙◌}
 use lib.Dec.{eqb}
 use lib.ListN.{length, get_or, set, take, length-set}
 use Rattle.std.proofs.lemmas.List.{get_or-take, length-take-le}
-use Rattle.std.specs.List.{IsAnyAnswer}
 use lib.Seq.{get_or-set_same, get_or-set_other}
 use borrow.Author.Tests.{eq-eqb, ne_eqb, eqb-true, eqb-false}
 use Rattle.octets.specs.Octets.{all, number_at, zero_at}
-use Rattle.octets.proofs.Laws.{all_none, all-next, all_same, all_both, all-each, all-fails, zero-join}
+use Rattle.octets.proofs.Laws.{all_none, all-next, all_same, all_both, all-each, zero-join}
 use Rattle.keys.specs.Key.{valid_key}
 use Rattle.keys.specs.Numbers.{is_number}
 use Rattle.ledger_sheet.specs.Sheet.{used_flag_size, row_size, row_count, row_at, desks_start, used, is_used, key_at}
@@ -38,12 +37,6 @@ pub front-other : (keys : List ℕ) (n key : ℕ) → n ≤ length keys
     → all (length (take n keys)) (λ j. not (eqb (get_or (take n keys) j 0) key)) ≡ all n (λ j. not (eqb (get_or keys j 0) key))
 front-other keys n key l =
     rw (length-take-le n keys l) (all_same n _ _ (λ j b. ap (λ (k : ℕ). not (eqb k key)) (get_or-take n keys j 0 b)))
-
--- a key that a search does not find is other than each
-pub none-found : (keys : List ℕ) (key : ℕ) (r : Bool) → IsAnyAnswer (λ y b. eqb y key ≡ b) keys r
-    → not r ≡ all (length keys) (λ j. not (eqb (get_or keys j 0) key))
-none-found keys key true h = sym (all-fails (length keys) h.0 _ h.1 (ap not (h.2 0)))
-none-found keys key false h = sym (all-each (length keys) _ (λ j l. ap not (h j 0 (omega arith) l)))
 
 module _ (keys marks : List ℕ) (n key : ℕ) (h : Marked keys marks n) where
   -- a key whose place has no mark is new

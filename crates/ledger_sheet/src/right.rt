@@ -142,7 +142,18 @@ fn is_new(keys: &[u64], marks: &[u8; MARKS], key: u64) -> bool
     if marks[(key % MARKS as u64) as usize] != MARKED {
         return true;
     }
-    !keys.contains(&key)
+    is_other(keys, key)
+}
+
+// Whether the key is none of these. The loop has no early exit, so LLVM vectorizes it; `contains` compares keys one at a time.
+pub fn is_other(keys: &[u64], key: u64) -> bool
+    ensures { result ≡ all (length keys.now) (λ j. not (eqb (get_or keys.now j 0) key)) }
+{
+    let mut other = true;
+    for k in keys {
+        other &= *k != key;
+    }
+    other
 }
 
 // Tests each open desk, and that the bytes between open desks and up to the sheet's end are zero.

@@ -10,7 +10,7 @@ use Rattle.sfdu_headers.specs.RsrRecord.{kind_rules}
 use Rattle.sfdu_headers.proofs.Rules.{none-of-both}
 use Rattle.sfdu_samples.specs.Calls.{unpacking}
 use Rattle.sfdu_samples.proofs.Judged.{unpacks}
-use Rattle.streaming.specs.declared.Failure.{Failure}
+use Rattle.streaming.specs.declared.system.Failure.{Failure}
 use Rattle.streaming.specs.Window.{Told}
 use Rattle.streaming.specs.Failure.{says_failed, got_of}
 use Rattle.rsr_samples.specs.Step.{Step}

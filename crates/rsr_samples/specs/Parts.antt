@@ -7,7 +7,7 @@ use Rattle.sfdu.specs.Read.{record_length, data_part}
 use Rattle.sfdu_samples.specs.Calls.{size_of}
 use Rattle.sfdu_samples.specs.Packing.{unpacked}
 use Rattle.rsr_samples_text.specs.Part.{Calls}
-use Rattle.streaming.specs.declared.Failure.{Failure}
+use Rattle.streaming.specs.declared.system.Failure.{Failure}
 use Rattle.streaming.specs.Window.{Told}
 use Rattle.streaming.specs.Failure.{says_failed, got_of}
 use Rattle.rsr_samples.specs.Judging as J

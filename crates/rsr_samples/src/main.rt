@@ -148,7 +148,7 @@ fn stream<R: Read>(
 // Writes the samples of the file that argument i names. A fixed array, since a program's buffers have a fixed size, on the stack.
 fn file(rt: &HostRuntime, i: usize, raw: bool) -> Result<(), NobodyReads> {
     let mut path = [0u8; arguments::LONGEST];
-    let Some(mut opened) = arguments::open_at(rt, i, &mut path) else {
+    let Ok(mut opened) = arguments::open_at(rt, i, &mut path) else {
         return Ok(());
     };
     stream(rt, &mut opened.file, &path[..opened.size], raw)

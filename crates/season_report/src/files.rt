@@ -33,7 +33,9 @@ pub(crate) fn load(
     ensures { IfSome result (λ file. (file.size ≤ length name.old)
         × Loads room.new file.taken.got slot.old slot.new (sheet_found file.taken.converted)) }
 {
-    let mut opened = arguments::open_at(rt, i, name)?;
+    let Ok(mut opened) = arguments::open_at(rt, i, name) else {
+        return None;
+    };
     let size = opened.size;
     let taken = load_open(rt, &mut opened.file, &name[..size], room, slot)?;
     Some(File { taken, size })
@@ -51,8 +53,8 @@ fn load_open<R: Read>(
 {
     let got = match streaming::read_full(from, room) {
         Ok(got) => got,
-        Err(failure) => {
-            failure.tell(rt, name);
+        Err(failed) => {
+            failed.failure.tell(rt, name);
             return None;
         }
     };

@@ -13,7 +13,7 @@ use lib.Seq.{take-add, length-take-le}
 use Rattle.text.proofs.Laid.{grown}
 use Rattle.streaming.specs.declared.State.{State}
 use Rattle.std.specs.Prelude.{Result, Ok, Err}
-use Rattle.streaming.specs.declared.Failure.{Failure}
+use Rattle.streaming.specs.declared.system.Failure.{Failure}
 use Rattle.streaming.specs.State.{emptied}
 use Rattle.streaming.specs.Failure.{says_failed}
 use Rattle.streaming.specs.Listing.{Listing, Lists}

@@ -1,7 +1,7 @@
--- What a read or a write answered. Only `streaming` makes a `Failure`, from what a reader or the system answered: the struct's field is private.
--- Assumes nothing.
+-- What a read or a write answered. Only `read_piece` and `try_write` make a `Failure`, from what a reader or the system answered: the struct's field
+-- is private to their file. Assumes nothing.
 use Rattle.std.specs.Prelude.{ℕ, Bool, true, false, Result, Ok, Err}
-use Rattle.streaming.specs.declared.Failure.{Failure}
+use Rattle.streaming.specs.declared.system.Failure.{Failure}
 
 abbrev pub says_failed : {A : Type 0} → Result A Failure → Bool
 says_failed (Ok x) = false

@@ -2,7 +2,7 @@
 -- that each turn continues the run that it was given. Assumes nothing.
 use Rattle.std.specs.Prelude.{ℕ, ◌+◌, ◌≤◌, ◌<◌, Bool, true, false, List, ◌++◌, ◌⊎◌, ◌≡◌, length, take, Result, Err}
 use Rattle.streaming.specs.declared.State.{State}
-use Rattle.streaming.specs.declared.Failure.{Failure}
+use Rattle.streaming.specs.declared.system.Failure.{Failure}
 use Rattle.streaming.specs.Failure.{says_failed}
 use Rattle.streaming.specs.Listing.{Listing}
 use Rattle.streaming.specs.Run.{Run}

@@ -3,18 +3,19 @@
 #![tactic(auto)]
 
 pub mod listing;
+mod system;
 pub mod window;
 
 ghost use Rattle.std.specs.Prelude.{◌≡◌, ◌≤◌, length, Decides, is_err};
 ghost use Rattle.io.specs.Counts.{IsPrefixLen};
 ghost use Rattle.streaming.specs.State.{emptied};
-ghost use Rattle.streaming.specs.Failure.{got_of};
-ghost use Rattle.streaming.specs.inner.Reading.{Behind};
+ghost use Rattle.streaming.specs.inner.Reading.{Behind, got_before};
 ghost use Rattle.streaming.specs.inner.Turn.{Writes};
-ghost use Rattle.streaming.specs.inner.Writing.{LacksReader, Unread};
+ghost use Rattle.streaming.specs.inner.Writing.{Unread};
 
-use std::io;
 use std::io::Read;
+use system::try_write;
+pub use system::{Failure, read_piece};
 
 // Text is written once there is more of it than this. Then its buffer has room for more.
 pub const ENOUGH: usize = 32768;
@@ -34,29 +35,9 @@ pub struct State {
     pub done: bool,
 }
 
-// Why a read or a write failed. Its field is private, so only this crate makes one, from what a reader or the system answered.
-#[derive(Clone, Copy)]
-pub struct Failure {
-    error: io::Error,
-}
-
 // Why a program ends early: nobody reads its output any more.
 #[derive(Clone, Copy)]
 pub struct NobodyReads;
-
-impl Failure {
-    // Whether a write failed because the reader is gone, as when `head` has its lines.
-    pub fn lacks_reader(self) -> bool
-        ensures { Decides result (LacksReader self) }
-    {
-        matches!(self.error.kind(), io::ErrorKind::BrokenPipe)
-    }
-
-    // Says on standard error why a read or a write of what is named failed.
-    pub fn tell(self, rt: &HostRuntime, what: &[u8]) {
-        failures::tell(rt, what, self.error);
-    }
-}
 
 // A program goes on after what it wrote, unless nobody reads it any more.
 pub fn unless_unread(written: Result<(), Failure>) -> Result<(), NobodyReads>
@@ -68,20 +49,18 @@ pub fn unless_unread(written: Result<(), Failure>) -> Result<(), NobodyReads>
     }
 }
 
-// Reads into `w` from index `have` on, up to `want`. If there is room for a byte, 0 bytes mean the end of the input.
-pub fn read_piece<R: Read>(
-    from: &mut R,
-    w: &mut [u8],
-    have: usize,
-    want: usize,
-) -> Result<usize, Failure>
-    requires { (have ≤ want) × (want ≤ length w.old) }
-    ensures { Behind w.old have want w.new (got_of result) }
-{
-    let part = &mut w[have..want];
-    match from.read(part) {
-        Ok(got) => Ok(got),
-        Err(error) => Err(Failure { error }),
+// A read that failed, and how many bytes came before.
+#[derive(Clone, Copy)]
+pub struct FailedRead {
+    pub got: usize,
+    pub failure: Failure,
+}
+
+impl From<FailedRead> for Failure {
+    ghost from_gives = { λ failed failure. failure ≡ failed.failure };
+
+    fn from(failed: FailedRead) -> Failure {
+        failed.failure
     }
 }
 
@@ -91,14 +70,22 @@ pub fn read_up_to<R: Read>(
     w: &mut [u8],
     have: usize,
     want: usize,
-) -> Result<usize, Failure>
+) -> Result<usize, FailedRead>
     requires { (have ≤ want) × (want ≤ length w.old) }
-    ensures { Behind w.old have want w.new (got_of result) }
+    ensures { Behind w.old have want w.new (got_before result) }
 {
     let mut at = have;
     // By index, since each turn goes on by as many bytes as its read gives.
     while at < want {
-        let got = read_piece(from, w, at, want)?;
+        let got = match read_piece(from, w, at, want) {
+            Ok(got) => got,
+            Err(failure) => {
+                return Err(FailedRead {
+                    got: at - have,
+                    failure,
+                });
+            }
+        };
         if got == 0 {
             return Ok(at - have);
         }
@@ -108,19 +95,11 @@ pub fn read_up_to<R: Read>(
 }
 
 // The same for a whole slice.
-pub fn read_full<R: Read>(from: &mut R, w: &mut [u8]) -> Result<usize, Failure>
-    ensures { IsPrefixLen (got_of result) w.new }
+pub fn read_full<R: Read>(from: &mut R, w: &mut [u8]) -> Result<usize, FailedRead>
+    ensures { IsPrefixLen (got_before result) w.new }
 {
     let n = w.len();
     read_up_to(from, w, 0, n)
-}
-
-// Writes bytes on standard output.
-fn try_write(rt: &HostRuntime, bytes: &[u8]) -> Result<(), Failure> {
-    match rt.stdout().write_all(bytes) {
-        Ok(()) => Ok(()),
-        Err(error) => Err(Failure { error }),
-    }
 }
 
 // Writes a line with a file's name on standard output. Where it cannot, the text that follows says so.

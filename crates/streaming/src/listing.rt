@@ -134,7 +134,7 @@ fn list_argument<L: Lister>(
     requires { Sized L.listing × (length w.old ≡ L.listing.window_size) }
 {
     let mut path = [0u8; arguments::LONGEST];
-    let Some(mut opened) = arguments::open_at(rt, i, &mut path) else {
+    let Ok(mut opened) = arguments::open_at(rt, i, &mut path) else {
         return Ok(());
     };
     let name = &path[..opened.size];

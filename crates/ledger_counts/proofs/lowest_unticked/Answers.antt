@@ -1,55 +1,42 @@
 -- `ledger_counts::lowest_unticked` meets its contract. The invariant: the positions of the first k blocks are ticked. Assumes nothing.
-use Prim.Native.Nat.{◌-◌, ◌^◌, ◌<◌}
+use Prim.Native.Nat.{◌+◌, ◌*◌}
 use mathlib.Core.Path.{sym, ap, ◌∙◌}
 use Rattle.std.proofs.Common.{Some, not}
 use Rattle.ledger_layout.specs.Ticks.{ticked_at}
 use native.Mathlib.Omega.{arith}
-use lib.Count.{trailing_le}
-use Rattle.ledger_layout.proofs.Scans.{each_none, lowest-here, lowest-none, below_lowest, below_none}
+use Rattle.ledger_layout.proofs.Scans.{lowest-here, lowest-none, below_lowest, below_none}
 use Rattle.ledger_counts.specs.inner.Blocks.{block_bits}
-use Rattle.ledger_counts.proofs.BlockCounts.{block-below, block-full, block-lowest}
+use Rattle.ledger_counts.proofs.Starts.{ticked-join}
 use Rattle.ledger_counts.proofs.lowest_unticked.Goals as goal
 
 pub loop-k-init : goal.loop-k-init
-loop-k-init c = (omega arith, each_none _ _)
-
-pub overflow_cast-at : goal.overflow_cast-at
-overflow_cast-at c = let few = trailing_le block_bits (2 ^ block_bits - 1 - c.tick_block-unticked.result) in omega arith
-
-pub overflow_add-at : goal.overflow_add-at
-overflow_add-at c = let few = trailing_le block_bits (2 ^ block_bits - 1 - c.tick_block-unticked.result) in omega arith
+loop-k-init c = (omega arith, λ j h l. absurd (omega arith))
 
 pub returns-then-at-end : goal.returns-then-at-end
 returns-then-at-end c =
     let g = c.args in
-    let w = c.tick_block-unticked.result in
-    let fits : w < 2 ^ block_bits = omega arith in
-    let block = c.tick_block-unticked.ensures in
-    let some = c.if-unticked-ne0.true in
-    let below = block-below g.s.now g.a c.loop-k.k w block fits c.loop-k.invariant.1 in
-    let here = block-lowest g.s.now g.a c.loop-k.k w block fits (omega arith) in
-    let is = lowest-here _ _ _ (omega arith) below here in
+    let found = c.in-Some.ensures in
+    let below = ticked-join g.s.now g.a 0 (block_bits * c.loop-k.k) c.in-Some.at c.loop-k.invariant.1 found.ticked in
+    let here = ap not found.unticked in
+    let is = lowest-here g.end c.in-Some.at (λ i. not (ticked_at g.s.now g.a i)) c.if-at-end.true (λ j l. ap not (below j (omega arith) l)) here in
     sym (below_lowest _ _ (omega (arith, is)) ∙ ap Some is)
 
-pub returns-then-unticked-ne0 : goal.returns-then-unticked-ne0
-returns-then-unticked-ne0 c =
+pub returns-in-Some : goal.returns-in-Some
+returns-in-Some c =
     let g = c.args in
-    let w = c.tick_block-unticked.result in
-    let below = block-below g.s.now g.a c.loop-k.k w c.tick_block-unticked.ensures (omega arith) c.loop-k.invariant.1 in
-    let none = lowest-none c.args.end (λ i. not (ticked_at c.args.s.now c.args.a i)) (λ j l. below j (omega arith)) in
+    let found = c.in-Some.ensures in
+    let below = ticked-join g.s.now g.a 0 (block_bits * c.loop-k.k) c.in-Some.at c.loop-k.invariant.1 found.ticked in
+    let none = lowest-none g.end (λ i. not (ticked_at g.s.now g.a i)) (λ j l. ap not (below j (omega arith) (omega arith))) in
     sym (below_none _ _ (omega (arith, none)))
 
 pub loop-k-preserved : goal.loop-k-preserved
 loop-k-preserved c =
     let g = c.args in
-    let w = c.tick_block-unticked.result in
-    let fits : w < 2 ^ block_bits = omega arith in
-    let block = c.tick_block-unticked.ensures in
-    let full = block-full g.s.now g.a c.loop-k.k w block fits c.if-unticked-ne0.false in
-    let below = block-below g.s.now g.a c.loop-k.k w block fits c.loop-k.invariant.1 in
-    (omega arith, λ j l. below j (omega arith))
+    let k = c.loop-k.k in
+    (omega arith, ticked-join g.s.now g.a 0 (block_bits * k) (block_bits * (k + 1)) c.loop-k.invariant.1 c.in_default.ensures)
 
 pub returns : goal.returns
 returns c =
-    let none = lowest-none c.args.end (λ i. not (ticked_at c.args.s.now c.args.a i)) (λ j l. c.loop-k.invariant.1 j (omega arith)) in
+    let g = c.args in
+    let none = lowest-none g.end (λ i. not (ticked_at g.s.now g.a i)) (λ j l. ap not (c.loop-k.invariant.1 j (omega arith) (omega arith))) in
     sym (below_none _ _ (omega (arith, none)))

@@ -36,3 +36,10 @@ TickedFrom s a i j = (k : ℕ) → i ≤ k → k < j → ticked_at s a k ≡ tru
 pub record StartsAt (s : List ℕ) (a i : ℕ) : Type 0 where
   pub ticked : TickedFrom s a i row_length
   pub unticked : (k : ℕ) → k < i → ticked_at s a k ≡ false
+
+-- i is the lowest unticked position of block k.
+pub record UntickedFirst (s : List ℕ) (a k i : ℕ) : Type 0 where
+  pub start : block_bits * k ≤ i
+  pub within : i < block_bits * (k + 1)
+  pub ticked : TickedFrom s a (block_bits * k) i
+  pub unticked : ticked_at s a i ≡ false

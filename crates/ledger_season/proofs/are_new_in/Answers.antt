@@ -1,14 +1,15 @@
 -- `are_new_in` meets its contract. The invariant: the first keys are different, and their slots are taken. Assumes nothing.
-use mathlib.Core.Bool.{true, not}
-use mathlib.Core.Path.{◌≡◌, refl, sym, ap, ◌∙◌}
+use mathlib.Core.Bool.{true}
+use mathlib.Core.Path.{◌≡◌, refl, sym, ◌∙◌}
 use native.Mathlib.Omega.{arith}
 use lib.ListN.{length, get_or}
+use Rattle.laws.proofs.Bools.{failed}
 use Rattle.octets.proofs.Laws.{all_none, all_more, all-fails}
-use Rattle.ledger_sheet.proofs.RowsRead.{none-found, front-other}
+use Rattle.ledger_sheet.proofs.RowsRead.{front-other}
 use Rattle.ledger_season.specs.inner.Gathered.{is_new, are_new}
 use Rattle.ledger_season.proofs.Keys.{covers-none, covers_more, slot-free, slot-inside}
 use Rattle.ledger_season.proofs.are_new_in.Goals as goal
-use Rattle.ledger_season.proofs.are_new_in.Goals.{then-taken-slot+else-contains, else-taken-slot}
+use Rattle.ledger_season.proofs.are_new_in.Goals.{then-taken-slot+else-not-is_other, else-taken-slot}
 
 pub loop-i-init : goal.loop-i-init
 unfolding are_new
@@ -20,12 +21,12 @@ nonzero_rem-slot c = omega (arith, c.requires.0)
 pub bounds-taken-slot : goal.bounds-taken-slot
 bounds-taken-slot c = slot-inside c.args.slots _ c.requires.0 c.requires.1
 
-pub returns-then-contains : goal.returns-then-contains
+pub returns-then-not-is_other : goal.returns-then-not-is_other
 unfolding are_new is_new
-returns-then-contains c =
+returns-then-not-is_other c =
     let keys = c.args.keys.now in
-    let other = none-found _ _ _ c.contains.ensures.cases ∙ front-other keys c.loop-i.i (get_or keys c.loop-i.i 0) (omega arith) in
-    sym (all-fails (length keys) c.loop-i.i _ (omega arith) (sym other ∙ ap not c.if-contains.true))
+    let other = c.is_other.ensures ∙ front-other keys c.loop-i.i (get_or keys c.loop-i.i 0) (omega arith) in
+    sym (all-fails (length keys) c.loop-i.i _ (omega arith) (failed other c.if-not-is_other.true-raw))
 
 pub bounds-taken-slot-in-loop-i : goal.bounds-taken-slot-in-loop-i
 bounds-taken-slot-in-loop-i c = slot-inside c.args.slots _ c.requires.0 c.requires.1
@@ -38,8 +39,8 @@ loop-i-preserved c =
     let i = c.loop-i.i in
     let at = c.loop-i.invariant in
     let new : is_new keys i (get_or keys i 0) ≡ true = elim c.if-taken-slot.branch [
-      | then-taken-slot+else-contains w ↦
-          sym (none-found _ _ _ w.contains.ensures.cases ∙ front-other keys i (get_or keys i 0) (omega arith)) ∙ ap not w.if-contains.false
+      | then-taken-slot+else-not-is_other w ↦
+          sym (w.is_other.ensures ∙ front-other keys i (get_or keys i 0) (omega arith)) ∙ w.if-not-is_other.false
       | else-taken-slot w ↦ slot-free p c.requires.0 c.requires.1 keys c.loop-i.taken i at.1 w.if-taken-slot.false
     ] in
     (all_more i _ at.0 new, covers_more p c.requires.0 c.requires.1 keys c.loop-i.taken i at.1)

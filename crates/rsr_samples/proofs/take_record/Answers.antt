@@ -1,7 +1,7 @@
 -- `rsr_samples::take_record` meets its contract: what was read, what it is judged to be, and what was written. Assumes nothing.
 use Rattle.std.specs.Prelude.{Result}
 use Rattle.std.proofs.Common.{ℕ, refl, ap, arith}
-use Rattle.streaming.specs.declared.Failure.{Failure}
+use Rattle.streaming.specs.declared.system.Failure.{Failure}
 use Rattle.streaming.specs.Failure.{says_failed}
 use Rattle.rsr_samples.proofs.Taken.{room, unread, ended, stopped, passed}
 use Rattle.rsr_samples.proofs.take_record.Goals as goal

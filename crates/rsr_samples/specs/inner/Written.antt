@@ -1,7 +1,7 @@
 -- What the writing functions require and keep true. Assumes nothing.
 use Rattle.std.specs.Prelude.{◌≡◌, ℕ, ◌+◌, ◌^◌, ◌<◌, ◌≤◌, Bool, true, cond, List, length, take, ℤ, Result}
 use Rattle.rsr_samples_text.specs.inner.Room.{most_number}
-use Rattle.streaming.specs.declared.Failure.{Failure}
+use Rattle.streaming.specs.declared.system.Failure.{Failure}
 use Rattle.streaming.specs.Failure.{got_of}
 use Rattle.streaming.specs.Window.{window_size}
 use Rattle.rsr_samples.specs.Step.{Step}

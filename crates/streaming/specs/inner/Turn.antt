@@ -1,7 +1,7 @@
 -- What the inner functions of a turn require and keep true. Assumes nothing.
 use Rattle.std.specs.Prelude.{ℕ, ◌+◌, ◌*◌, ◌≤◌, ◌<◌, ◌^◌, false, List, ◌⊎◌, ◌≡◌, length, Result, Ok}
 use Rattle.streaming.specs.declared.State.{State}
-use Rattle.streaming.specs.declared.Failure.{Failure}
+use Rattle.streaming.specs.declared.system.Failure.{Failure}
 use Rattle.streaming.specs.State.{emptied}
 use Rattle.streaming.specs.Listing.{Listing}
 use Rattle.streaming.specs.Turn.{text_size}

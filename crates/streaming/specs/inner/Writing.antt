@@ -2,7 +2,7 @@
 use Rattle.std.specs.Prelude.{◌≡◌, Result, Ok, Err}
 use Rattle.std.specs.IoError.{error_kind}
 use Rattle.std.specs.declared.io.ErrorKind.TheVariants.{BrokenPipe}
-use Rattle.streaming.specs.declared.Failure.{Failure}
+use Rattle.streaming.specs.declared.system.Failure.{Failure}
 
 -- A write failed because the reader is gone.
 abbrev pub LacksReader : Failure → Type 0

@@ -8,4 +8,4 @@ returns-then-answer-ne-ANSWER c = unwritten-on _ _ _ _ c.if-answer-ne-ANSWER.tru
 pub returns : goal.returns
 returns c =
     let length = c.if-answer-ne-ANSWER.false in
-    written_on _ _ _ _ length c.enrol-found.ensures c.number.ensures.same c.write_few.ensures
+    written_on _ _ _ _ length c.enrol-found.ensures c.row.ensures.same c.write_few.ensures

@@ -9,4 +9,4 @@ returns-then-answer-ne-ANSWER c = unwritten _ _ c.if-answer-ne-ANSWER.true c.unw
 pub returns : goal.returns
 returns c =
     let length = c.if-answer-ne-ANSWER.false in
-    written-asked plain _ _ length c.find-found.ensures c.number.ensures.same c.write_few.ensures
+    written-asked plain _ _ length c.find-found.ensures c.row.ensures.same c.write_few.ensures

@@ -9,4 +9,4 @@ returns-then-answer-ne-ANSWER c = unwritten _ _ c.if-answer-ne-ANSWER.true c.unw
 pub returns : goal.returns
 returns c =
     let length = c.if-answer-ne-ANSWER.false in
-    written_as flagged _ _ length c.valid-found.ensures c.test.ensures.same c.write_few.ensures
+    written_as flagged _ _ length c.valid-found.ensures c.key_valid.ensures.same c.write_few.ensures

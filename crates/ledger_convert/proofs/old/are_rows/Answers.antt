@@ -1,6 +1,6 @@
 -- `old::are_rows` meets its contract. The invariant: the first i keys are in the array, and the three flags are right for them. Assumes nothing.
 use Rattle.ledger_convert.proofs.Ranges.{read_more, read-test}
-use Rattle.ledger_sheet.proofs.RowsRead.{none-found, front-other}
+use Rattle.ledger_sheet.proofs.RowsRead.{front-other}
 use Prim.Native.Nat.{ℕ}
 use mathlib.Core.Bool.{not}
 use mathlib.Core.Path.{◌≡◌, refl, sym}
@@ -36,7 +36,7 @@ loop-i-preserved c =
         ← read-test keys c.loop-i.keys c.loop-i.i _ c.loop-i.invariant.2 key
             (λ a b. not (eqb a b)),
         ← front-other c.loop-i.keys c.loop-i.i c.key_at-key.result (omega (arith, c.loop-i.invariant.1)),
-        ← none-found _ _ _ c.contains.ensures.cases,
+        ← c.is_other-different.ensures,
       ),
       rw (all-next, ← c.loop-i.invariant.5, ← key, ← first, ← c.is_number-numbers.ensures),
     )

@@ -1,17 +1,18 @@
--- `trace::are_lines` meets its contract. Assumes nothing.
+-- `trace::are_lines` meets its contract. The invariant: `right` says whether the first i entries are right. Assumes nothing.
 use native.Mathlib.Omega.{arith}
-use Rattle.std.proofs.Common.{◌≡◌, refl, true, false, rules}
-use Rattle.std.proofs.lemmas.Iterator.{cases_from_all, YieldsList-from_range}
-use Rattle.ledger_layout.proofs.Scans.{all-range}
-use Rattle.ledger_replay.specs.Trace.{entry_at, line_at, line_right, lines_right}
+use mathlib.Core.Path.{◌≡◌, sym}
+use Rattle.octets.proofs.Laws.{all_none, all-next}
+use Rattle.ledger_replay.specs.Trace.{lines_right}
 use Rattle.ledger_replay.proofs.trace.are_lines.Goals as goal
+
+pub loop-i-init : goal.loop-i-init
+loop-i-init c = (omega arith, sym (all_none _))
+
+pub loop-i-preserved : goal.loop-i-preserved
+loop-i-preserved c = (omega arith, rw (all-next, ← c.loop-i.invariant.1, ← c.is_line-right.ensures))
 
 pub returns : goal.returns
 unfolding lines_right
 returns c =
-    let t = c.args.t.now in
-    let n = c.entry_count-entries.result in
-    rw (← c.entry_count-entries.ensures)
-    (all-range n (λ k. line_right (line_at t (entry_at k))) _
-    (cases_from_all _ _ _ (λ k. line_right (line_at t (entry_at k)) ≡ true) (λ k. line_right (line_at t (entry_at k)) ≡ false) c.all.ensures.ran
-    (YieldsList-from_range 0 n n refl (omega arith)) (λ x q k. search rules) (λ x q k. search rules)))
+    let e : c.entry_count-entries.result ≡ c.loop-i.i = omega arith in
+    rw (← c.entry_count-entries.ensures, e, c.loop-i.invariant.1)

@@ -1,11 +1,7 @@
 -- `trace::is_line` meets its contract. Assumes nothing.
-use mathlib.Core.Path.{sym, ap, ◌∙◌}
-use Rattle.ledger_replay.specs.Trace.{line_right}
-use Rattle.ledger_replay.proofs.Numbered.{line-read, no-line}
+use Rattle.ledger_replay.specs.Trace.{line_at, is_call, desk_right, row_right, number_right, key_right, line_right}
 use Rattle.ledger_replay.proofs.trace.is_line.Goals as goal
 
-pub returns-in-Ok : goal.returns-in-Ok
-returns-in-Ok c = c.is_right.ensures ∙ ap line_right (line-read _ _ (sym c.in-Ok.ensures))
-
-pub returns-in-Err : goal.returns-in-Err
-returns-in-Err c = sym (no-line _ _ (sym c.in-Err.ensures))
+pub returns : goal.returns
+unfolding line_at line_right is_call desk_right row_right number_right key_right
+returns c = rw (c.read_u32-number.ensures, c.read_be-key.ensures)

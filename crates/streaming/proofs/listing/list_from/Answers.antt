@@ -20,12 +20,12 @@ returns-in_err-take_turn g c =
 
 pub returns-then-done : goal.returns-then-done
 returns-then-done g c =
-    under-ends g.L.Lister.listing _ _ _ _ _ _ _ c.loop-turn.invariant _ _ _ _ c.in_ok-take_turn.ensures (λ _. c.if-done.true)
+    under-ends g.L.Lister.listing _ _ _ _ _ _ _ c.loop-turn.invariant _ _ _ _ c.in_ok-take_turn.ensures (λ _. search rules)
 
 pub loop-turn-preserved : goal.loop-turn-preserved
 loop-turn-preserved g c =
     under_goes g.L.Lister.listing _ _ _ _ _ _ _ c.loop-turn.invariant _ _ _ _ c.in_ok-take_turn.ensures (search rules) (search rules)
-    (search rules) c.if-done.false _ (omega arith) c.requires.0.small
+    (search rules) (search rules) _ (omega arith) c.requires.0.small
 
 pub returns : goal.returns
 returns g c = under-gives-up g.L.Lister.listing _ _ _ _ _ _ _ c.loop-turn.invariant _ (omega arith)
