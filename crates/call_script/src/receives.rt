@@ -33,7 +33,7 @@ pub(crate) fn line(
     let mut numbers = [FILL; MOST_NUMBERS];
     let list = &mut numbers[..z];
     let end = call(f, a, s, list, out, at);
-    let listed = line::number(out, end, u64::from(crc::crc_of_numbers(list)));
+    let listed = line::number(out, end, u64::from(crc::crc_of_int32s(list)));
     line::number(out, listed, u64::from(crc::crc(s)))
 }
 

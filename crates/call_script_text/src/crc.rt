@@ -1,5 +1,5 @@
 // The CRC-32 of zlib.
-ghost use Rattle.std.specs.Prelude.{ℕ, ◌≡◌};
+ghost use Rattle.std.specs.Prelude.{ℕ, ◌≡◌, length};
 ghost use Rattle.std.specs.Int.{w32, cast_unsigned, to_be_bytes};
 
 const ALL_ONES: u32 = 4294967295;
@@ -14,36 +14,70 @@ pub fn crc(s: &[u8]) -> u32 {
     over(ALL_ONES, s) ^ ALL_ONES
 }
 
-// The CRC of numbers of four bytes, highest byte first.
-pub fn crc_of_numbers<T: Number>(list: &[T]) -> u32 {
+// The CRC of numbers of four bytes, highest byte first. That of no numbers is 0. It stands beside `crc_of_int32s`, since a number of another crate need
+// not have a law.
+pub fn crc_of_numbers<T: Number>(list: &[T]) -> u32
+    ensures { length list.now ≡ 0 → result ≡ 0 }
+{
     let mut register = ALL_ONES;
     for n in list {
         register = over(register, &n.bytes());
     }
-    register ^ ALL_ONES
+    ALL_ONES ^ register
 }
 
 // A number of four bytes; a negative one in two's complement.
 pub trait Number {
-    ghost bits: { Self → ℕ };
-
     // The bytes, highest first.
-    fn bytes(&self) -> [u8; 4]
-        ensures { result ≡ to_be_bytes w32 (bits self.now) };
+    fn bytes(&self) -> [u8; 4];
 }
 
 impl Number for u32 {
-    ghost bits = { λ n. n };
-
-    fn bytes(&self) -> [u8; 4] {
-        self.to_be_bytes()
+    fn bytes(&self) -> [u8; 4]
+        ensures { result ≡ to_be_bytes w32 self.now }
+    {
+        <u32 as Int32>::int32_bytes(self)
     }
 }
 
 impl Number for i32 {
+    fn bytes(&self) -> [u8; 4]
+        ensures { result ≡ to_be_bytes w32 (cast_unsigned w32 self.now) }
+    {
+        <i32 as Int32>::int32_bytes(self)
+    }
+}
+
+// The CRC of integers of 32 bits, highest byte first.
+pub fn crc_of_int32s<T: Int32>(list: &[T]) -> u32 {
+    let mut register = ALL_ONES;
+    for n in list {
+        register = over(register, &n.int32_bytes());
+    }
+    register ^ ALL_ONES
+}
+
+// An integer of 32 bits; a negative one in two's complement. Its law says which bytes it has.
+pub trait Int32 {
+    ghost bits: { Self → ℕ };
+
+    // The bytes, highest first.
+    fn int32_bytes(&self) -> [u8; 4]
+        ensures { result ≡ to_be_bytes w32 (bits self.now) };
+}
+
+impl Int32 for u32 {
+    ghost bits = { λ n. n };
+
+    fn int32_bytes(&self) -> [u8; 4] {
+        self.to_be_bytes()
+    }
+}
+
+impl Int32 for i32 {
     ghost bits = { λ z. cast_unsigned w32 z };
 
-    fn bytes(&self) -> [u8; 4] {
+    fn int32_bytes(&self) -> [u8; 4] {
         self.cast_unsigned().to_be_bytes()
     }
 }
@@ -64,4 +98,29 @@ fn byte(register: u32, value: u32) -> u32 {
 fn four_bits(register: u32) -> u32 {
     let i = (register % 16) as usize;
     (register / 16) ^ TABLE[i]
+}
+
+#[cfg(test)]
+mod tests {
+    use super::*;
+
+    // A number of another crate, which gives the bytes that it holds, and has no law.
+    #[derive(Clone, Copy)]
+    struct Held([u8; 4]);
+
+    impl Number for Held {
+        fn bytes(&self) -> [u8; 4] {
+            self.0
+        }
+    }
+
+    // The values are those of Python's zlib.crc32.
+    #[test]
+    fn crcs_are_those_of_zlib(rt: HostRuntime) {
+        assert_eq!(rt; crc_of_numbers::<u32>(&[]), 0);
+        assert_eq!(rt; crc_of_numbers(&[1u32, 4294967295]), 0x86F9D63A);
+        assert_eq!(rt; crc_of_numbers(&[-1i32, -2147483648]), 0x12A649C4);
+        let held = [Held(*b"1234"), Held(*b"5678")];
+        assert_eq!(rt; crc_of_numbers(&held), 0x9AE0DAAF);
+    }
 }

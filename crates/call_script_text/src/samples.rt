@@ -35,7 +35,7 @@ fn unpack_into(a: &[u8], z: usize, numbers: &mut [i32], out: &mut [u8], at: usiz
     let lent = &mut numbers[..z];
     let answer = receivers::samples(sfdu_samples::unpack(a, lent));
     let end = line::told(out, at, &answer, COUNTED);
-    line::number(out, end, u64::from(crc::crc_of_numbers(lent)))
+    line::number(out, end, u64::from(crc::crc_of_int32s(lent)))
 }
 
 // A fixed array, since there is no heap here: each buffer has its longest length.

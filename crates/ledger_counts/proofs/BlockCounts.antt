@@ -17,7 +17,7 @@ use Rattle.ledger_layout.specs.Ticks.{ticked_at}
 use Rattle.octets.specs.Lists.{table}
 use Rattle.ledger_layout.specs.inner.Scans.{lowest}
 use Rattle.ledger_counts.specs.inner.Counts.{past_highest}
-use Rattle.ledger_layout.proofs.Scans.{lowest-fails, lowest-holds}
+use Rattle.ledger_layout.proofs.Scans.{Fails, lowest-fails, lowest-holds}
 use Rattle.ledger_counts.proofs.Highest.{top_of, past-here, past_skip, past-none}
 use Rattle.ledger_counts.specs.inner.Blocks.{block_bits, group_blocks, bit_of, IsBlock, TickedFrom}
 use Rattle.ledger_counts.proofs.Missing.{size-cons, size_none, size-more}
@@ -210,16 +210,27 @@ module _ (s : List ℕ) (a k w : ℕ) (block : IsBlock s a k w) (fits : w < 2 ^ 
   unticked-bit : (i : ℕ) → i < block_bits → bit_of (2 ^ block_bits - 1 - w) i ≡ unticked (block_bits * k + i)
   unticked-bit i l = not-bit block_bits w i fits l ∙ ap not (block i l)
 
-  pub block-below : TickedFrom s a (block_bits * k) (block_bits * k + low)
-  block-below i h l =
+  -- the positions of the block below its lowest unticked one are ticked
+  pub block-ticked-below : TickedFrom s a (block_bits * k) (block_bits * k + low)
+  block-ticked-below i h l =
       let within = trailing_le block_bits (2 ^ block_bits - 1 - w) in
       let low-is = trailing-lowest block_bits (2 ^ block_bits - 1 - w) in
       let j = i - block_bits * k in
       let here : block_bits * k + j ≡ i = omega arith in
       rw here at (not-false _ (sym (unticked-bit j (omega arith)) ∙ lowest-fails block_bits (bit_of (2 ^ block_bits - 1 - w)) j (omega arith)))
 
-  pub block-full : 2 ^ block_bits - 1 - w ≡ 0 → TickedFrom s a (block_bits * k) (block_bits * (k + 1))
-  block-full e i h l = let all : low ≡ block_bits = rw e (trailing_of_zero block_bits) in block-below i h (omega arith)
+  pub block-below : Fails unticked (block_bits * k) → Fails unticked (block_bits * k + low)
+  block-below h i l = by (ltb i (block_bits * k)) refl
+    where
+      by : (f : Bool) → ltb i (block_bits * k) ≡ f → unticked i ≡ false
+      by true q = h i (ltb-true i (block_bits * k) q)
+      by false q = ap not (block-ticked-below i (ltb-false i (block_bits * k) q) l)
+
+  pub block-full : 2 ^ block_bits - 1 - w ≡ 0 → low ≡ block_bits
+  block-full e = rw e (trailing_of_zero block_bits)
+
+  pub block-ticked-all : 2 ^ block_bits - 1 - w ≡ 0 → TickedFrom s a (block_bits * k) (block_bits * (k + 1))
+  block-ticked-all e i h l = let all = block-full e in block-ticked-below i h (omega arith)
 
   pub block-lowest : 0 < 2 ^ block_bits - 1 - w → unticked (block_bits * k + low) ≡ true
   block-lowest l = by (ltb low block_bits) refl

@@ -3,14 +3,14 @@ use Prim.Native.Nat.{◌-◌, ◌^◌, ◌<◌}
 use native.Mathlib.Omega.{arith}
 use borrow.Author.Tests.{not-true}
 use Rattle.ledger_counts.specs.inner.Blocks.{block_bits}
-use Rattle.ledger_counts.proofs.BlockCounts.{block-below, block-full, block-lowest}
+use Rattle.ledger_counts.proofs.BlockCounts.{block-ticked-below, block-ticked-all, block-lowest}
 use Rattle.ledger_counts.proofs.Starts.{some_one}
 use Rattle.ledger_counts.proofs.unticked_in.Goals as goal
 
 pub returns-then-unticked-eq0 : goal.returns-then-unticked-eq0
 returns-then-unticked-eq0 c =
     let g = c.args in
-    block-full g.s.now g.a g.k c.tick_block-unticked.result c.tick_block-unticked.ensures (omega arith) c.if-unticked-eq0.true
+    block-ticked-all g.s.now g.a g.k c.tick_block-unticked.result c.tick_block-unticked.ensures (omega arith) c.if-unticked-eq0.true
 
 pub overflow_cast-result : goal.overflow_cast-result
 overflow_cast-result c =
@@ -31,6 +31,6 @@ returns c =
     record {
       start = omega arith;
       within = omega (arith, few);
-      ticked = block-below g.s.now g.a g.k w block fits;
+      ticked = block-ticked-below g.s.now g.a g.k w block fits;
       unticked = not-true _ (block-lowest g.s.now g.a g.k w block fits (omega arith));
     }
