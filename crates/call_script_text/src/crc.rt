@@ -14,8 +14,8 @@ pub fn crc(s: &[u8]) -> u32 {
     over(ALL_ONES, s) ^ ALL_ONES
 }
 
-// The CRC of numbers of four bytes, highest byte first. That of no numbers is 0. It stands beside `crc_of_int32s`, since a number of another crate need
-// not have a law.
+// The CRC of numbers of four bytes, highest byte first. That of no numbers is 0. It stands beside `crc_of_int32s`, since a type of another crate may
+// implement `Number` without saying which bytes it gives.
 pub fn crc_of_numbers<T: Number>(list: &[T]) -> u32
     ensures { length list.now ≡ 0 → result ≡ 0 }
 {
@@ -57,7 +57,7 @@ pub fn crc_of_int32s<T: Int32>(list: &[T]) -> u32 {
     register ^ ALL_ONES
 }
 
-// An integer of 32 bits; a negative one in two's complement. Its law says which bytes it has.
+// An integer of 32 bits; a negative one in two's complement. `bits` is the number that the same bits make without a sign.
 pub trait Int32 {
     ghost bits: { Self → ℕ };
 
@@ -104,7 +104,7 @@ fn four_bits(register: u32) -> u32 {
 mod tests {
     use super::*;
 
-    // A number of another crate, which gives the bytes that it holds, and has no law.
+    // A type as another crate may have it: it gives the four bytes that it holds.
     #[derive(Clone, Copy)]
     struct Held([u8; 4]);
 
@@ -112,6 +112,12 @@ mod tests {
         fn bytes(&self) -> [u8; 4] {
             self.0
         }
+    }
+
+    #[test]
+    fn bytes_stand_highest_first(rt: HostRuntime) {
+        assert_eq!(rt; 16909060u32.bytes(), [1, 2, 3, 4]);
+        assert_eq!(rt; (-2i32).bytes(), [255, 255, 255, 254]);
     }
 
     // The values are those of Python's zlib.crc32.
